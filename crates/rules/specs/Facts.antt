@@ -1,0 +1,92 @@
+-- Facts on tests, on statements and on lists that speak of no trie.
+use Prim.Native.Nat.{ℕ, zero, suc, _+_, _≤_, _<_}
+use native.Mathlib.Omega.{arith}
+use mathlib.Core.Path.{_≡_, refl, sym}
+use mathlib.Core.Logic.{_⊎_, inl, inr, _↔_, ⊎-map, ⊎-elim}
+use mathlib.Core.Bool.{Bool, true, false, cond, _||_, false≢true}
+use mathlib.Core.List.{List, [], _∷_, _++_}
+use lib.ListN.{length, take, getD}
+
+-- Tests.
+
+-- a test is true or false
+pub by-test : {A : Type 0} (t : Bool) → (t ≡ true → A) → (t ≡ false → A) → A
+by-test true yes-then no-then = yes-then refl
+by-test false yes-then no-then = no-then refl
+
+-- a test that is asked only where another holds is true where both are
+pub cond-true : (t u : Bool) → (cond t u false ≡ true) ↔ ((t ≡ true) × (u ≡ true))
+cond-true true u = (λ e. (refl, e), λ h. h .1)
+cond-true false u = (λ e. absurd (false≢true e), λ h. h .0)
+
+-- a test adds one or nothing
+pub cond-suc : (t : Bool) (n : ℕ) → cond t (suc n) n ≡ cond t 1 0 + n
+cond-suc true n = omega arith
+cond-suc false n = omega arith
+
+-- two tests that are true together are equal
+pub same-test : (t u : Bool) → (t ≡ true) ↔ (u ≡ true) → t ≡ u
+same-test true u h = sym (h .0 refl)
+same-test false true h = h .1 refl
+same-test false false h = refl
+
+-- Choices.
+
+module _ {A B C D : Type 0} where
+  -- two choices are equivalent where their parts are
+  pub either : A ↔ C → B ↔ D → (A ⊎ B) ↔ (C ⊎ D)
+  either h k = (⊎-map (h .0) (k .0), ⊎-map (h .1) (k .1))
+
+  -- one more way beside a choice is one more way to its first part, or to its second
+  pub more-first : A ↔ (B ⊎ C) → (D ⊎ A) ↔ ((D ⊎ B) ⊎ C)
+  more-first h = (
+    elim [ inl d ↦ inl (inl d) | inr a ↦ ⊎-elim (λ b. inl (inr b)) inr (h .0 a) ],
+    elim [ inl (inl d) ↦ inl d | inl (inr b) ↦ inr (h .1 (inl b)) | inr c ↦ inr (h .1 (inr c)) ],
+  )
+
+  pub more-second : A ↔ (B ⊎ C) → (D ⊎ A) ↔ (B ⊎ (D ⊎ C))
+  more-second h = (
+    elim [ inl d ↦ inr (inl d) | inr a ↦ ⊎-elim inl (λ c. inr (inr c)) (h .0 a) ],
+    elim [ inl b ↦ inr (h .1 (inl b)) | inr (inl d) ↦ inl d | inr (inr c) ↦ inr (h .1 (inr c)) ],
+  )
+
+-- a way that is open where one of two tests is true is two ways
+pub either-test :
+    (t u : Bool) {A B : Type 0} → ((A × (t || u ≡ true)) ⊎ B) ↔ ((A × (t ≡ true)) ⊎ ((A × (u ≡ true)) ⊎ B))
+either-test true u = (
+  elim [ inl h ↦ inl h | inr b ↦ inr (inr b) ],
+  elim [ inl h ↦ inl h | inr (inl h) ↦ inl (h .0, refl) | inr (inr b) ↦ inr b ],
+)
+either-test false u = (inr, elim [ inl h ↦ absurd (false≢true (h .1)) | inr h ↦ h ])
+
+-- Lists in order: by the first number in which two differ, and the shorter of two that do not differ.
+
+unfoldable pub Earlier : List ℕ → List ℕ → Type 0
+Earlier p [] = ⊥
+Earlier [] (n ∷ q) = Unit
+Earlier (m ∷ p) (n ∷ q) = (m < n) ⊎ ((m ≡ n) × Earlier p q)
+
+pub earlier-trans : (p q r : List ℕ) → Earlier p q → Earlier q r → Earlier p r
+unfolding Earlier
+earlier-trans p q [] h k = k
+earlier-trans [] q (n ∷ r) h k = tt
+earlier-trans (l ∷ p) [] (n ∷ r) h k = absurd h
+earlier-trans (l ∷ p) (m ∷ q) (n ∷ r) (inl h) (inl k) = inl (omega arith)
+earlier-trans (l ∷ p) (m ∷ q) (n ∷ r) (inl h) (inr k) = inl (omega arith)
+earlier-trans (l ∷ p) (m ∷ q) (n ∷ r) (inr h) (inl k) = inl (omega arith)
+earlier-trans (l ∷ p) (m ∷ q) (n ∷ r) (inr h) (inr k) = inr (omega arith, earlier-trans p q r (h .1) (k .1))
+
+pub earlier-irrefl : (p : List ℕ) → ¬ Earlier p p
+unfolding Earlier
+earlier-irrefl [] h = h
+earlier-irrefl (m ∷ p) (inl h) = omega arith
+earlier-irrefl (m ∷ p) (inr h) = earlier-irrefl p (h .1)
+
+-- a list is earlier than one that has a greater number at a place, or one more at the end, and the same before
+pub earlier-at :
+    (p : List ℕ) (d n : ℕ) → d ≤ length p → (d < length p → getD p d 0 < n) → Earlier p (take d p ++ (n ∷ []))
+unfolding Earlier
+earlier-at [] zero n near past = tt
+earlier-at [] (suc d) n near past = omega arith
+earlier-at (m ∷ p) zero n near past = inl (past (omega arith))
+earlier-at (m ∷ p) (suc d) n near past = inr (refl, earlier-at p d n (omega arith) (λ h. past (omega arith)))
