@@ -1,0 +1,121 @@
+-- Laws of `before`, of the parts of a text by it, and of a run of stores that gets one more. No contract cites this file.
+use Prim.Native.Nat.{ℕ, suc, _+_, _≤_, _<_}
+use native.Mathlib.Nat.{add-zero, add-suc, suc-add}
+use native.Mathlib.Numerals.{add-one}
+use native.Mathlib.Omega.{arith}
+use mathlib.Core.Bool.{Bool, true, false, cond}
+use mathlib.Core.List.{List, [], _∷_, _++_}
+use mathlib.Core.Logic.{_≢_, _⊎_, inl, inr, ⊎-elim}
+use mathlib.Core.Path.{_≡_, refl, sym, ap, _∙_}
+use borrow.Author.Tests.{eqb-true, eqb-false, eq-eqb, ne-eqb}
+use lib.Dec.{eqb}
+use lib.ListN.{length, getD, drop, set, drop-of-length-le, length-append, length-drop}
+use lib.Seq.{drop-cons, sets}
+use Rattle.rules.specs.Text.{parted, linesOf, fieldsOf, LF, TAB}
+use Rattle.rules.specs.TextLaws.{Free, free-empty, free-more, parted-free, parted-first, parted-some, parted-split}
+use Rattle.text.specs.Answers.{lineAt, firstLine, fieldAt, firstField}
+use Rattle.text.specs.Before.{before}
+use Rattle.text.specs.declared.Line.{Line}
+use Rattle.text.specs.declared.Line.the-variants.{End, Whole, Cut}
+use Rattle.text.specs.declared.Field.{Field}
+use Rattle.text.specs.declared.Field.the-variants.{More}
+
+-- ---- what a scan passes
+
+-- nothing is left past the end
+pub before-past : (b i : ℕ) (s : List ℕ) → length s ≤ i → before b (drop i s) ≡ []
+unfolding before
+before-past b i s h = rw (drop-of-length-le s h)
+
+-- nothing stands before a b
+pub before-found : (b i : ℕ) (s : List ℕ) → i < length s → getD s i 0 ≡ b → before b (drop i s) ≡ []
+unfolding before
+before-found b i s h e = rw (drop-cons s i 0 h, eq-eqb (getD s i 0) b e)
+
+-- another byte is passed
+pub before-passed : (b i : ℕ) (s : List ℕ) → i < length s → getD s i 0 ≢ b → before b (drop i s) ≡ getD s i 0 ∷ before b (drop (i + 1) s)
+unfolding before
+before-passed b i s h e = rw (add-one, drop-cons s i 0 h, ne-eqb (getD s i 0) b e)
+
+-- something is left from a place before the end on
+pub drop-some : (at : ℕ) (s : List ℕ) → at < length s → eqb (length (drop at s)) 0 ≡ false
+drop-some at s h = ne-eqb (length (drop at s)) 0 (omega (arith, length-drop at s))
+
+-- ---- the parts of a run
+
+-- there is no b before the first b
+before-free : (b : ℕ) (xs : List ℕ) → Free b (before b xs)
+unfolding before
+before-free b [] = free-empty
+before-free b (x ∷ xs) = go (eqb x b) refl (before-free b xs)
+  where
+    go : (same : Bool) → eqb x b ≡ same → Free b (before b xs) → Free b (cond same [] (x ∷ before b xs))
+    go true q rest = free-empty
+    go false q rest = free-more (eqb-false x b q) rest
+
+-- a run has no b, or is what stands before its first b, that b and a rest
+before-split : (b : ℕ) (xs : List ℕ) → (before b xs ≡ xs) ⊎ ((rest : List ℕ) × (xs ≡ before b xs ++ b ∷ rest))
+unfolding before
+before-split b [] = inl refl
+before-split b (x ∷ xs) = go (eqb x b) refl (before-split b xs)
+  where
+    go : (same : Bool) → eqb x b ≡ same → (before b xs ≡ xs) ⊎ ((rest : List ℕ) × (xs ≡ before b xs ++ b ∷ rest)) →
+        (cond same [] (x ∷ before b xs) ≡ x ∷ xs) ⊎ ((rest : List ℕ) × (x ∷ xs ≡ cond same [] (x ∷ before b xs) ++ b ∷ rest))
+    go true q split = inr (xs, rw (eqb-true x b q))
+    go false q split = ⊎-elim (λ e. inl (rw e)) (λ w. inr (w .0, ap (λ (l : List ℕ). x ∷ l) (w .1))) split
+
+-- what a scan from a place on finds no b in is one part
+pub parted-whole : (b at : ℕ) (s : List ℕ) → length s ≤ at + length (before b (drop at s)) → parted b (drop at s) ≡ drop at s ∷ []
+parted-whole b at s h =
+    ⊎-elim
+    (λ e. rw e at (parted-free (before-free b (drop at s))))
+    (λ w. absurd (omega (arith, length-drop at s, ap length (w .1) ∙ length-append (before b (drop at s)) (b ∷ w .0))))
+    (before-split b (drop at s))
+
+-- what a scan from a place on finds a b in has what stands before that b as its first part, and a second part
+pub parted-cut : (b at : ℕ) (s : List ℕ) → at + length (before b (drop at s)) < length s →
+    (next : List ℕ) × (more : List (List ℕ)) × (parted b (drop at s) ≡ before b (drop at s) ∷ next ∷ more)
+parted-cut b at s h =
+    ⊎-elim
+    (λ e. absurd (omega (arith, length-drop at s, ap length e)))
+    (λ w. let (next, more, p) = parted-some b (w .0) in
+    (next, more, ap (parted b) (w .1) ∙ parted-first (before-free b (drop at s)) (w .0) ∙ rw p))
+    (before-split b (drop at s))
+
+-- a part that another follows, from a place on, ends before the end
+part-within : (b at : ℕ) (s part next : List ℕ) (more : List (List ℕ)) → parted b (drop at s) ≡ part ∷ next ∷ more → at + length part < length s
+part-within b at s part next more e =
+    let split = parted-split b (drop at s) part next more e in
+    omega (arith, length-drop at s, ap length (split .1) ∙ length-append part (b ∷ split .0))
+
+-- the tab that ends a field, and the LF that ends a line, stand in the text
+pub more-within : (line : List ℕ) (at end : ℕ) (r : Field) → r ≡ fieldAt line at → r ≡ More end → (at ≤ end) × (end < length line)
+more-within line at end r ensured e = go (fieldsOf (drop at line)) refl (sym ensured ∙ e)
+  where
+    go : (fields : List (List ℕ)) → fieldsOf (drop at line) ≡ fields → firstField at fields ≡ More end → (at ≤ end) × (end < length line)
+    go [] q e = absurd (let z : _≡_ {A = ℕ} 0 1 = cc in omega arith)
+    go (field ∷ []) q e = absurd (let z : _≡_ {A = ℕ} 0 1 = cc in omega arith)
+    go (field ∷ next ∷ fields) q e =
+        let place : at + length field ≡ end = cc in
+        omega (arith, part-within TAB at line field next fields q)
+
+pub whole-within : (text : List ℕ) (at end : ℕ) (r : Line) → r ≡ lineAt text at → r ≡ Whole end → (at ≤ end) × (end < length text)
+whole-within text at end r ensured e = go (linesOf (drop at text)) refl (sym ensured ∙ e)
+  where
+    last : (empty : Bool) → cond empty End Cut ≡ Whole end → ⊥
+    last true e = let z : _≡_ {A = ℕ} 0 1 = cc in omega arith
+    last false e = let z : _≡_ {A = ℕ} 0 1 = cc in omega arith
+
+    go : (lines : List (List ℕ)) → linesOf (drop at text) ≡ lines → firstLine at lines ≡ Whole end → (at ≤ end) × (end < length text)
+    go [] q e = absurd (let z : _≡_ {A = ℕ} 0 1 = cc in omega arith)
+    go (line ∷ []) q e = absurd (last (eqb (length line) 0) e)
+    go (line ∷ next ∷ lines) q e =
+        let place : at + length line ≡ end = cc in
+        omega (arith, part-within LF at text line next lines q)
+
+-- ---- a run of stores
+
+-- one more value goes to the place after the others
+pub sets-snoc : (l : List ℕ) (i : ℕ) (xs : List ℕ) (v : ℕ) → sets l i (xs ++ (v ∷ [])) ≡ set (sets l i xs) (i + length xs) v
+sets-snoc l i [] v = rw add-zero
+sets-snoc l i (x ∷ xs) v = sets-snoc (set l i x) (suc i) xs v ∙ rw (suc-add, ← add-suc)

@@ -1,0 +1,39 @@
+-- What each answer of `text` means, by the definitions of document 01's texts (`rules`, Text).
+use Prim.Native.Nat.{ℕ, _+_}
+use mathlib.Core.Bool.{cond}
+use mathlib.Core.List.{List, [], _∷_}
+use mathlib.Core.Option.{Option, none, some}
+use lib.Dec.{eqb}
+use lib.ListN.{length, drop}
+use Rattle.rules.specs.Text.{linesOf, fieldsOf}
+use Rattle.text.specs.declared.Line.{Line}
+use Rattle.text.specs.declared.Line.the-variants.{End, Whole, Cut}
+use Rattle.text.specs.declared.Field.{Field}
+use Rattle.text.specs.declared.Field.the-variants.{More, Last}
+use Rattle.text.specs.declared.Decimal.{Decimal}
+use Rattle.text.specs.declared.Decimal.the-variants.{Value, Bad}
+
+-- of the lines of what is left from a place on, the first: none, one that an LF ends at a place, or a last one without LF
+abbrev pub firstLine : ℕ → List (List ℕ) → Line
+firstLine at [] = End
+firstLine at (line ∷ []) = cond (eqb (length line) 0) End Cut
+firstLine at (line ∷ next ∷ more) = Whole (at + length line)
+
+-- the line that begins at a place of a text
+abbrev pub lineAt : List ℕ → ℕ → Line
+lineAt text at = firstLine at (linesOf (drop at text))
+
+-- of the fields of what is left from a place on, the first: one that a tab ends at a place, or the last
+abbrev pub firstField : ℕ → List (List ℕ) → Field
+firstField at [] = Last
+firstField at (field ∷ []) = Last
+firstField at (field ∷ next ∷ more) = More (at + length field)
+
+-- the field that begins at a place of a line
+abbrev pub fieldAt : List ℕ → ℕ → Field
+fieldAt line at = firstField at (fieldsOf (drop at line))
+
+-- the number that was read, if any
+abbrev pub numberOf : Decimal → Option ℕ
+numberOf (Value n) = some n
+numberOf Bad = none

@@ -1,0 +1,123 @@
+// Bytes to lines, fields and decimals, and decimals back to bytes. Any bytes get an answer.
+ghost use mathlib.Core.Path.{_≡_};
+ghost use Prim.Native.Nat.{_+_, _≤_};
+ghost use lib.ListN.{length, drop};
+ghost use lib.Seq.{sets};
+ghost use Rattle.rules.specs.Text.{decimalOf, decimal};
+ghost use Rattle.text.specs.Answers.{lineAt, fieldAt, numberOf};
+ghost use Rattle.text.specs.Before.{before};
+
+pub const LF: u8 = 10;
+
+pub const TAB: u8 = 9;
+
+// What begins at a place of a text: no line, a line that the LF at a place ends, or a last line without LF.
+pub enum Line {
+    End,
+    Whole(usize),
+    Cut,
+}
+
+// What begins at a place of a line: a field that the tab at a place ends, or the last field.
+pub enum Field {
+    More(usize),
+    Last,
+}
+
+// What a field writes as a decimal: a number, or no decimal of at most MOST without extra zeros.
+pub enum Decimal {
+    Value(u64),
+    Bad,
+}
+
+// The place of the first byte `b` of `s` from `at` on, or the length of `s`.
+fn scan(s: &[u8], at: usize, b: u8) -> usize
+    requires { ⌜ at ≤ length (now s) ⌝ }
+    ensures { λ r. ⌜ r ≡ at + length (before b (drop at (now (s .entry)))) ⌝ }
+{
+    let mut i = at;
+    while i < s.len() {
+        if s[i] == b {
+            return i;
+        }
+        i += 1;
+    }
+    i
+}
+
+impl Line {
+    pub fn at(text: &[u8], at: usize) -> Line
+        ensures { λ r. ⌜ r ≡ lineAt (now (text .entry)) at ⌝ }
+    {
+        if text.len() <= at {
+            return Line::End;
+        }
+        let end = scan(text, at, LF);
+        if end < text.len() {
+            Line::Whole(end)
+        } else {
+            Line::Cut
+        }
+    }
+}
+
+impl Field {
+    pub fn at(line: &[u8], at: usize) -> Field
+        ensures { λ r. ⌜ r ≡ fieldAt (now (line .entry)) at ⌝ }
+    {
+        if line.len() <= at {
+            return Field::Last;
+        }
+        let end = scan(line, at, TAB);
+        if end < line.len() {
+            Field::More(end)
+        } else {
+            Field::Last
+        }
+    }
+}
+
+impl Decimal {
+    // The largest id, and the largest number that a field may hold.
+    pub const MOST: u64 = 65_535;
+
+    pub fn read(field: &[u8]) -> Decimal
+        ensures { λ r. ⌜ numberOf r ≡ decimalOf (now (field .entry)) ⌝ }
+    {
+        let n = field.len();
+        if n == 0 {
+            return Decimal::Bad;
+        }
+        if 1 < n && field[0] == 48 {
+            return Decimal::Bad;
+        }
+        let mut value: u64 = 0;
+        let mut i = 0;
+        while i < n {
+            let b = field[i];
+            if b < 48 || 57 < b {
+                return Decimal::Bad;
+            }
+            value = value * 10 + (b - 48) as u64;
+            if Decimal::MOST < value {
+                return Decimal::Bad;
+            }
+            i += 1;
+        }
+        Decimal::Value(value)
+    }
+
+    // Writes the decimal of `n` into `out` from `at` on, and answers the place after it.
+    pub fn write(out: &mut [u8], at: usize, n: u64) -> usize
+        requires { ⌜ at + length (decimal n) ≤ length (now out) ⌝ }
+        ensures { λ r. ⌜ (r ≡ at + length (decimal n)) × (now (out .exit) ≡ sets (now (out .entry)) at (decimal n)) ⌝ }
+    {
+        if n < 10 {
+            out[at] = 48 + n as u8;
+            return at + 1;
+        }
+        let next = Decimal::write(out, at, n / 10);
+        out[next] = 48 + (n % 10) as u8;
+        next + 1
+    }
+}
