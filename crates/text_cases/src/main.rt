@@ -1,0 +1,131 @@
+// Replays the vectors of data/cases: each line has a kind, an input in escapes, and the answer that is expected.
+ghost use Prim.Native.Nat.{_≤_};
+ghost use lib.ListN.{length};
+use text::Decimal;
+use text::Field;
+use text::Line;
+
+// The longest input and the longest answer of a case.
+const ROOM: usize = 256;
+
+// decimal: the number that the input writes, or `bad`.
+fn decimal_case(input: &[u8], out: &mut [u8]) -> usize
+    ensures { λ r. ⌜ r ≤ length (now (out .exit)) ⌝ }
+{
+    let Decimal::Value(n) = Decimal::read(input) else {
+        return cases::say(out, 0, b"bad");
+    };
+    cases::say_number(out, 0, n)
+}
+
+// write: the decimal of the number that the input has in hexadecimal.
+fn write_case(input: &[u8], out: &mut [u8]) -> usize
+    ensures { λ r. ⌜ r ≤ length (now (out .exit)) ⌝ }
+{
+    cases::say_number(out, 0, cases::hex_number(input))
+}
+
+// fields: the length of each field of the input.
+fn fields_case(input: &[u8], out: &mut [u8]) -> usize
+    ensures { λ r. ⌜ r ≤ length (now (out .exit)) ⌝ }
+{
+    let mut to = 0;
+    let mut at = 0;
+    while at < input.len() {
+        let Field::More(end) = Field::at(input, at) else {
+            break;
+        };
+        to = cases::say_number(out, to, (end - at) as u64);
+        to = cases::say(out, to, b" ");
+        at = end + 1;
+    }
+    cases::say_number(out, to, (input.len() - at) as u64)
+}
+
+// lines: the length of each line of the input, and then `end`, or `cut` where the last has no LF.
+fn lines_case(input: &[u8], out: &mut [u8]) -> usize
+    ensures { λ r. ⌜ r ≤ length (now (out .exit)) ⌝ }
+{
+    let mut to = 0;
+    let mut at = 0;
+    while at < input.len() {
+        let Line::Whole(end) = Line::at(input, at) else {
+            break;
+        };
+        to = cases::say_number(out, to, (end - at) as u64);
+        to = cases::say(out, to, b" ");
+        at = end + 1;
+    }
+    let Line::End = Line::at(input, at) else {
+        return cases::say(out, to, b"cut");
+    };
+    cases::say(out, to, b"end")
+}
+
+// What the crate answers to a case, by the first letter of its kind.
+fn answer(kind: &[u8], input: &[u8], out: &mut [u8]) -> usize
+    ensures { λ r. ⌜ r ≤ length (now (out .exit)) ⌝ }
+{
+    if kind.len() == 0 {
+        return 0;
+    }
+    let first = kind[0];
+    match first {
+        b'd' => decimal_case(input, out),
+        b'w' => write_case(input, out),
+        b'f' => fields_case(input, out),
+        b'l' => lines_case(input, out),
+        _ => 0,
+    }
+}
+
+// One case: its own words, its kind, its input in escapes, and the answer that is expected.
+fn replay_case(told: &[u8], kind: &[u8], escaped: &[u8], expected: &[u8]) {
+    let mut input = [0u8; ROOM];
+    let n = cases::decode(escaped, &mut input);
+    let mut out = [0u8; ROOM];
+    let said = answer(kind, &input[..n], &mut out);
+    cases::report(told, &out[..said], expected);
+}
+
+// A line of the data file. One that does not have two tabs is a comment.
+fn replay(line: &[u8]) {
+    let Field::More(kind_end) = Field::at(line, 0) else {
+        return;
+    };
+    let from = kind_end + 1;
+    let Field::More(input_end) = Field::at(line, from) else {
+        return;
+    };
+    let after = input_end + 1;
+    replay_case(
+        &line[..input_end],
+        &line[..kind_end],
+        &line[from..input_end],
+        &line[after..],
+    );
+}
+
+fn replay_all(text: &[u8]) {
+    let mut at = 0;
+    while at < text.len() {
+        let Line::Whole(end) = Line::at(text, at) else {
+            return;
+        };
+        replay(&text[at..end]);
+        at = end + 1;
+    }
+}
+
+fn main() {
+    let path = b"cases";
+    let fd = os::open_read(path);
+    if fd < 0 {
+        os::fail(path);
+        return;
+    }
+    let mut buffer = io::large_buffer();
+    let n = io::read_full(fd, &mut buffer);
+    libc::close(fd);
+    replay_all(&buffer[..n]);
+}
