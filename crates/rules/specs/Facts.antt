@@ -5,6 +5,8 @@ use mathlib.Core.Path.{_≡_, refl, sym}
 use mathlib.Core.Logic.{_⊎_, inl, inr, _↔_, ⊎-map, ⊎-elim}
 use mathlib.Core.Bool.{Bool, true, false, cond, _||_, false≢true}
 use mathlib.Core.List.{List, [], _∷_, _++_}
+use borrow.Author.Tests.{ltb-true, ltb-false}
+use lib.Dec.{ltb}
 use lib.ListN.{length, take, getD}
 
 -- Tests.
@@ -13,6 +15,10 @@ use lib.ListN.{length, take, getD}
 pub by-test : {A : Type 0} (t : Bool) → (t ≡ true → A) → (t ≡ false → A) → A
 by-test true yes-then no-then = yes-then refl
 by-test false yes-then no-then = no-then refl
+
+-- a number is below another or not
+pub compared : {A : Type 0} (m n : ℕ) → (m < n → A) → (n ≤ m → A) → A
+compared m n less not-less = by-test (ltb m n) (λ e. less (ltb-true m n e)) (λ e. not-less (ltb-false m n e))
 
 -- a test that is asked only where another holds is true where both are
 pub cond-true : (t u : Bool) → (cond t u false ≡ true) ↔ ((t ≡ true) × (u ≡ true))

@@ -5,5 +5,7 @@ pub mod TextLaws
 pub mod Tries
 pub mod Facts
 pub mod TrieLaws
+pub mod PlaceLaws
+pub mod Building
 pub mod Listing
 pub mod Examples

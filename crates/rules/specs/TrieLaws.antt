@@ -93,23 +93,27 @@ true-ordered s (row ∷ rows) h =
 -- Places.
 
 -- a row's place is one longer than the row is deep
-length-at : (s : List ℕ) (row : Row) → row .depth ≤ length s → length (at s row) ≡ row .depth + 1
+pub length-at : (s : List ℕ) (row : Row) → row .depth ≤ length s → length (at s row) ≡ row .depth + 1
 length-at s row near = simp (length-append, length-take-le)
 
 -- a row's place has the row's step at the row's depth, and above it what the place before has
-step-at : (s : List ℕ) (row : Row) → row .depth ≤ length s → getD (at s row) (row .depth) 0 ≡ row .step
+pub step-at : (s : List ℕ) (row : Row) → row .depth ≤ length s → getD (at s row) (row .depth) 0 ≡ row .step
 step-at s row near = getD-at (take (row .depth) s) (row .step) [] 0 (row .depth) (length-take-le _ _ near)
 
-above-at : (s : List ℕ) (row : Row) (d : ℕ) → row .depth ≤ length s → d < row .depth → getD (at s row) d 0 ≡ getD s d 0
+pub above-at : (s : List ℕ) (row : Row) (d : ℕ) → row .depth ≤ length s → d < row .depth → getD (at s row) d 0 ≡ getD s d 0
 above-at s row d near less =
     let inside : d < length (take (row .depth) s) = simp length-take-le less in
     List·getD-append (take (row .depth) s) (row .step ∷ []) 0 d inside ∙ getD-take (row .depth) s d 0 less
 
+pub take-above :
+    (s : List ℕ) (row : Row) (d : ℕ) → row .depth ≤ length s → d ≤ row .depth → take d (at s row) ≡ take d s
+take-above s row d near no-deeper =
+    let inside : d ≤ length (take (row .depth) s) = simp length-take-le no-deeper in
+    rw (take-append-le d (take (row .depth) s) (row .step ∷ []) inside, take-take d (row .depth) s no-deeper)
+
 -- after x, a row that is no deeper than x has the place that it has before x
 place-past : (s : List ℕ) (x y : Row) → x .depth ≤ length s → y .depth ≤ x .depth → at (at s x) y ≡ at s y
-place-past s x y near no-deeper =
-    let inside : y .depth ≤ length (take (x .depth) s) = simp length-take-le no-deeper in
-    rw (take-append-le (y .depth) (take (x .depth) s) (x .step ∷ []) inside, take-take (y .depth) (x .depth) s no-deeper)
+place-past s x y near no-deeper = rw (take-above s x (y .depth) near no-deeper)
 
 -- Which of two rows comes first.
 
@@ -242,7 +246,7 @@ entry-unmarked row h e =
     not-true (row .mark) unmarked
 
 -- rows that have one place make one row there
-isRow-joined : (x y : Row) → SamePlace x y → isRow x ≡ true → isRow y ≡ true → isRow (joined x y) ≡ true
+pub isRow-joined : (x y : Row) → SamePlace x y → isRow x ≡ true → isRow y ≡ true → isRow (joined x y) ≡ true
 isRow-joined x y h ix iy =
     by-test (isEntry x)
     (λ e. rw (entry-unmarked y iy (rw (h .depths) at e), or-false) ix)
@@ -271,7 +275,7 @@ turns-ordered (both {x = x} {y = y} h more) s oa ob = (
 -- The places of a union.
 
 -- of the rows after s, one that passes a test stands at a place
-Stands : (Row → Bool) → List ℕ → List Row → List ℕ → Type 0
+pub Stands : (Row → Bool) → List ℕ → List Row → List ℕ → Type 0
 Stands test s [] place = ⊥
 Stands test s (row ∷ rows) place = ((place ≡ at s row) × (test row ≡ true)) ⊎ Stands test (at s row) rows place
 
@@ -284,7 +288,7 @@ unfolding Has Stands
 has-stands s [] place = Iff·rfl
 has-stands s (row ∷ rows) place = either (λ e. (e, refl), λ h. h .0) (has-stands (at s row) rows place)
 
-marked-stands : (s : List ℕ) (rows : List Row) (place : List ℕ) → Marked s rows place ↔ Stands (λ row. row .mark) s rows place
+pub marked-stands : (s : List ℕ) (rows : List Row) (place : List ℕ) → Marked s rows place ↔ Stands (λ row. row .mark) s rows place
 unfolding Marked Stands
 marked-stands s [] place = Iff·rfl
 marked-stands s (row ∷ rows) place = either Iff·rfl (marked-stands (at s row) rows place)
@@ -341,7 +345,7 @@ stands-later test s (row ∷ rows) place o (inr h) =
     (stands-later test (at s row) rows place (o .3) h)
 
 -- so a first row that stands at its place passes the test, and at a later place it is one of the others that stands
-first-stands :
+pub first-stands :
     (test : Row → Bool) (s : List ℕ) (row : Row) (rows : List Row)
     → Ordered (at s row) rows
     → Stands test s (row ∷ rows) (at s row)

@@ -7,7 +7,7 @@ use mathlib.Core.List.{List, [], _∷_, _++_}
 use mathlib.Core.Option.{Option, none, some}
 use lib.Dec.{leb, ltb, eqb}
 use lib.ListN.{length, take, getD}
-use Rattle.rules.specs.Numbers.{mostSteps}
+use Rattle.rules.specs.Numbers.{Answer, accepted, refused, mostSteps}
 
 -- 'Names, entities and entity types are ids 0..65,535'
 abbrev pub ids : ℕ
@@ -133,6 +133,20 @@ lawful form rows =
     ordered [] rows
     && (cond (form .single) (eqb (entriesIn rows) 1) (leb (entriesIn rows) (form .entries)) && leb (nodesIn rows) (form .nodes))
 
+-- whether two lists are equal
+unfoldable pub sameList : List ℕ → List ℕ → Bool
+sameList [] [] = true
+sameList [] (y ∷ ys) = false
+sameList (x ∷ xs) [] = false
+sameList (x ∷ xs) (y ∷ ys) = eqb x y && sameList xs ys
+
+-- The mark of a place that rows after s have, if they have it.
+unfoldable pub found : List ℕ → List Row → List ℕ → Option Bool
+found s [] place = none
+found s (row ∷ rows) place =
+    let rest : Option Bool = found (at s row) rows place in
+    cond (sameList (at s row) place) (some (row .mark)) rest
+
 -- Of two next rows the deeper comes first; at one depth the smaller step; otherwise they are the same node.
 pub data Next : Type 0 where
   first second same : Next
@@ -157,3 +171,10 @@ unionOnto x rest a (y ∷ b) =
 unfoldable pub union : List Row → List Row → List Row
 union [] b = b
 union (x ∷ a) b = unionOnto x (union a) a b
+
+-- Union within the limits: 'a 65th request type' is 5, then 'over 1,024 nodes in a contribution or 4,096 in a manifest' is 4, both
+-- judged on the union.
+abbrev pub unionWithin : Form → List Row → List Row → Answer (List Row)
+unionWithin form a b =
+    cond (ltb (form .entries) (entriesIn (union a b))) (refused 5 0)
+    (cond (ltb (form .nodes) (nodesIn (union a b))) (refused 4 0) (accepted (union a b)))
