@@ -1,0 +1,159 @@
+-- Laws of lent states and of what the operations of `trie` answer (States). No contract cites this file.
+use Prim.Native.Nat.{ℕ, suc, _+_, _≤_, _<_}
+use mathlib.Core.Path.{_≡_, refl, sym, ap, _∙_}
+use mathlib.Core.Bool.{Bool, true, false, cond, not, _&&_}
+use mathlib.Core.List.{List, [], _∷_, map}
+use native.Mathlib.Omega.{arith}
+use borrow.Author.Tests.{le-leb, lt-leb, lt-ltb, le-ltb, ltb-true}
+use lib.Dec.{ltb}
+use lib.ListN.{length, getD, length-map}
+use lib.Seq.{sets}
+use Rattle.rules.specs.Numbers.{accepted, refused}
+use Rattle.rules.specs.Facts.{by-test, cond-true}
+use Rattle.rules.specs.Tries.{Row, Form, count, entriesIn, nodesIn, isEntry, ordered, found, union, lawful}
+use Rattle.trie.specs.Words.{rowOf, wordOf, unionWords}
+use Rattle.trie.specs.WordLaws.{union-words, words-rows}
+use Rattle.trie.specs.States.{Outcome, formOf, wordsOf, allWords, rowsOf, wordsIn, rowsIn, lawfulState, holding, refusing, storing, unionInto, unionOf, heldAs, hasOf}
+use Rattle.trie.specs.Merge.{Counted}
+use Rattle.trie.specs.declared.Kind.{Kind}
+use Rattle.trie.specs.declared.Kind.the-variants.{Contribution, Manifest}
+use Rattle.trie.specs.declared.Reply.the-variants.{Done}
+use Rattle.trie.specs.declared.place.Held.the-variants.{Unheld}
+
+-- ---- a lawful state
+
+-- two tests that both hold
+pub both-true : (t u : Bool) → (t && u) ≡ true → (t ≡ true) × (u ≡ true)
+both-true true u e = (refl, e)
+both-true false u e = absurd (let z : _≡_ {A = ℕ} 0 1 = cc in omega arith)
+
+module _ (form : Form) (state : List ℕ) (h : lawfulState form state ≡ true) where
+  judged : (ltb (getD state 0 0) (length state) ≡ true) × ((allWords (wordsIn state) && lawful form (rowsIn state)) ≡ true)
+  unfolding lawfulState
+  judged = both-true (ltb (getD state 0 0) (length state)) (allWords (wordsIn state) && lawful form (rowsIn state)) h
+
+  -- its count is below its length
+  pub count-within : getD state 0 0 < length state
+  count-within = ltb-true (getD state 0 0) (length state) (judged .0)
+
+  -- its words pack rows
+  pub words-good : allWords (wordsIn state) ≡ true
+  words-good = both-true (allWords (wordsIn state)) (lawful form (rowsIn state)) (judged .1) .0
+
+  -- its rows are in order
+  pub rows-ordered : ordered [] (rowsIn state) ≡ true
+  rows-ordered = both-true (ordered [] (rowsIn state)) _ (both-true (allWords (wordsIn state)) (lawful form (rowsIn state)) (judged .1) .1) .0
+
+-- a kind's length holds its count of rows, its entries and its nodes
+pub kind-room : (kind : Kind) → 1 + (formOf kind .entries + formOf kind .nodes) ≡ wordsOf kind
+kind-room Contribution = refl
+kind-room Manifest = refl
+
+-- no kind is longer than a manifest
+pub kind-most : (kind : Kind) → wordsOf kind ≤ 4161
+kind-most Contribution = omega arith
+kind-most Manifest = omega arith
+
+-- ---- union, by what was tested
+
+-- what an outcome says, part by part
+pub by-parts : {defined given : Outcome} → defined ≡ given → (given .reply ≡ defined .reply) × (given .buffer ≡ defined .buffer)
+by-parts e = (ap (λ (o : Outcome). o .reply) (sym e), ap (λ (o : Outcome). o .buffer) (sym e))
+
+module _ (kind : Kind) (a b out : List ℕ) where
+  pub union-short-a : length a < wordsOf kind → unionOf kind a b out ≡ refusing 31 0 out
+  unfolding unionOf
+  union-short-a h = rw (lt-leb (wordsOf kind) (length a) h)
+
+  module _ (long-a : wordsOf kind ≤ length a) where
+    pub union-short-b : length b < wordsOf kind → unionOf kind a b out ≡ refusing 31 0 out
+    unfolding unionOf
+    union-short-b h = rw (le-leb (wordsOf kind) (length a) long-a, lt-leb (wordsOf kind) (length b) h)
+
+    module _ (long-b : wordsOf kind ≤ length b) where
+      pub union-short-out : length out < wordsOf kind → unionOf kind a b out ≡ refusing 31 0 out
+      unfolding unionOf
+      union-short-out h = rw (le-leb (wordsOf kind) (length a) long-a, le-leb (wordsOf kind) (length b) long-b, lt-leb (wordsOf kind) (length out) h)
+
+      module _ (long-out : wordsOf kind ≤ length out) where
+        pub union-unlawful-a : lawfulState (formOf kind) a ≡ false → unionOf kind a b out ≡ refusing 1 0 out
+        unfolding unionOf
+        union-unlawful-a e =
+            rw (le-leb (wordsOf kind) (length a) long-a, le-leb (wordsOf kind) (length b) long-b, le-leb (wordsOf kind) (length out) long-out, e)
+
+        pub union-unlawful-b :
+            lawfulState (formOf kind) a ≡ true → lawfulState (formOf kind) b ≡ false → unionOf kind a b out ≡ refusing 1 0 out
+        unfolding unionOf
+        union-unlawful-b e f =
+            rw (le-leb (wordsOf kind) (length a) long-a, le-leb (wordsOf kind) (length b) long-b, le-leb (wordsOf kind) (length out) long-out, e, f)
+
+        pub union-lawful :
+            lawfulState (formOf kind) a ≡ true
+            → lawfulState (formOf kind) b ≡ true
+            → unionOf kind a b out ≡ unionInto kind (wordsIn a) (wordsIn b) out
+        unfolding unionOf
+        union-lawful e f =
+            rw (le-leb (wordsOf kind) (length a) long-a, le-leb (wordsOf kind) (length b) long-b, le-leb (wordsOf kind) (length out) long-out, e, f)
+
+-- ---- the union of rows, by its size
+
+-- entries and nodes are all rows
+pub all-rows : (rows : List Row) → entriesIn rows + nodesIn rows ≡ length rows
+unfolding count
+all-rows [] = refl
+all-rows (row ∷ rows) = by-test (isEntry row) (λ e. rw e (omega (arith, all-rows rows))) (λ e. rw e (omega (arith, all-rows rows)))
+
+module _ (a b : List ℕ) (good-a : allWords a ≡ true) (good-b : allWords b ≡ true) (entries nodes : ℕ) (counted : Counted (unionWords a b) [] entries nodes) where
+  -- what is counted are the entries, the nodes and the words of the union
+  pub counted-entries : entries ≡ entriesIn (union (rowsOf a) (rowsOf b))
+  unfolding count
+  counted-entries = rw (← union-words a b good-a good-b .0) (omega (arith, counted .all-entries))
+
+  pub counted-nodes : nodes ≡ nodesIn (union (rowsOf a) (rowsOf b))
+  unfolding count
+  counted-nodes = rw (← union-words a b good-a good-b .0) (omega (arith, counted .all-nodes))
+
+  pub counted-words : entries + nodes ≡ length (unionWords a b)
+  unfolding count
+  counted-words =
+      omega (arith, counted .all-entries, counted .all-nodes, all-rows (rowsOf (unionWords a b)), length-map (unionWords a b) rowOf)
+
+  module _ (kind : Kind) (out : List ℕ) where
+    pub union-many-types : formOf kind .entries < entries → unionInto kind a b out ≡ refusing 5 0 out
+    union-many-types h = rw (← counted-entries, lt-ltb (formOf kind .entries) entries h)
+
+    module _ (types : entries ≤ formOf kind .entries) where
+      pub union-many-nodes : formOf kind .nodes < nodes → unionInto kind a b out ≡ refusing 4 0 out
+      union-many-nodes h = rw (← counted-entries, ← counted-nodes, le-ltb (formOf kind .entries) entries types, lt-ltb (formOf kind .nodes) nodes h)
+
+      pub union-stored :
+          nodes ≤ formOf kind .nodes
+          → unionInto kind a b out ≡ record { reply = Done; buffer = sets out 0 ((entries + nodes) ∷ unionWords a b) }
+      union-stored h =
+          let united = union-words a b good-a good-b in
+          rw (
+            ← counted-entries,
+            ← counted-nodes,
+            le-ltb (formOf kind .entries) entries types,
+            le-ltb (formOf kind .nodes) nodes h,
+            ← united .0,
+            words-rows (unionWords a b) (united .1),
+            length-map (unionWords a b) rowOf,
+            ← counted-words,
+          )
+
+-- ---- places, by what was tested
+
+module _ (kind : Kind) (state place : List ℕ) where
+  pub has-short : length state < wordsOf kind → hasOf kind state place ≡ Unheld 31 0
+  unfolding hasOf
+  has-short h = rw (lt-leb (wordsOf kind) (length state) h)
+
+  module _ (long : wordsOf kind ≤ length state) where
+    pub has-unlawful : lawfulState (formOf kind) state ≡ false → hasOf kind state place ≡ Unheld 1 0
+    unfolding hasOf
+    has-unlawful e = rw (le-leb (wordsOf kind) (length state) long, e)
+
+    pub has-lawful : lawfulState (formOf kind) state ≡ true → hasOf kind state place ≡ heldAs (found [] (rowsIn state) place)
+    unfolding hasOf
+    has-lawful e = rw (le-leb (wordsOf kind) (length state) long, e)

@@ -1,0 +1,66 @@
+// The trie of the Rust (`AccessTrie`, `RootAccessTrie`) as rows in lent buffers: the check that a state is lawful, the union, and
+// whether a place is there.
+mod lawful;
+mod merge;
+mod place;
+mod row;
+
+pub use lawful::is_lawful;
+pub use merge::union;
+pub use merge::union_rows;
+pub use place::Held;
+pub use place::has;
+pub use row::Row;
+ghost use mathlib.Core.Path.{_≡_};
+ghost use Rattle.trie.specs.States.{wordsOf, formOf};
+
+// The kinds of state: rows with their count in front.
+pub enum Kind {
+    Contribution,
+    Manifest,
+}
+
+// What an operation answers: it is done, or refused with a number and a place.
+pub enum Reply {
+    Done,
+    Refused(u64, u64),
+}
+
+// What a state may hold.
+pub struct Limits {
+    pub single: bool,
+    pub entries: u64,
+    pub nodes: u64,
+}
+
+impl Kind {
+    // The steps that a position may have.
+    pub const STEPS: u64 = 24;
+
+    // The one length of a state.
+    pub fn words(self) -> usize
+        ensures { λ r. ⌜ r ≡ wordsOf self ⌝ }
+    {
+        match self {
+            Kind::Contribution => 1_026,
+            Kind::Manifest => 4_161,
+        }
+    }
+
+    pub fn limits(self) -> Limits
+        ensures { λ r. ⌜ (r .single ≡ formOf self .single) × (r .entries ≡ formOf self .entries) × (r .nodes ≡ formOf self .nodes) ⌝ }
+    {
+        match self {
+            Kind::Contribution => Limits {
+                single: true,
+                entries: 1,
+                nodes: 1_024,
+            },
+            Kind::Manifest => Limits {
+                single: false,
+                entries: 64,
+                nodes: 4_096,
+            },
+        }
+    }
+}
