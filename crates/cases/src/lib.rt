@@ -3,6 +3,7 @@ ghost use Prim.Native.Nat.{_+_, _≤_, _<_};
 ghost use lib.ListN.{length};
 use libc::STDOUT_FILENO;
 use text::Decimal;
+use text::Field;
 
 // A byte that was read from an escaped text, and the place after it.
 pub struct Unescaped {
@@ -93,6 +94,58 @@ pub fn hex_number(digits: &[u8]) -> u64 {
         i += 1;
     }
     value
+}
+
+// A part of a line.
+pub struct Part {
+    pub start: usize,
+    pub end: usize,
+}
+
+// The field of a line with a number, from 0; an empty part where there is none.
+pub fn nth(line: &[u8], n: usize) -> Part
+    ensures { λ r. ⌜ (r .start ≤ r .end) × (r .end ≤ length (now (line .entry))) ⌝ }
+{
+    let mut start = 0;
+    let mut i = 0;
+    while i < n {
+        let Field::More(end) = Field::at(line, start) else {
+            return Part {
+                start: line.len(),
+                end: line.len(),
+            };
+        };
+        start = end + 1;
+        i += 1;
+    }
+    let Field::More(end) = Field::at(line, start) else {
+        return Part {
+            start,
+            end: line.len(),
+        };
+    };
+    Part { start, end }
+}
+
+// The number that a field of a line writes; 0 where it writes none.
+pub fn number(line: &[u8], n: usize) -> u64
+    ensures { λ r. ⌜ r ≤ 65535 ⌝ }
+{
+    let part = nth(line, n);
+    let start = part.start;
+    let end = part.end;
+    let Decimal::Value(value) = Decimal::read(&line[start..end]) else {
+        return 0;
+    };
+    value
+}
+
+// Whether a field of a line is a word.
+pub fn is_word(line: &[u8], n: usize, word: &[u8]) -> bool {
+    let part = nth(line, n);
+    let start = part.start;
+    let end = part.end;
+    check::same(&line[start..end], word)
 }
 
 // Writes a word into `out` from `at` on, as much as there is room, and answers the place after it.

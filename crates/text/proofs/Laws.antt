@@ -11,12 +11,14 @@ use borrow.Author.Tests.{eqb-true, eqb-false, eq-eqb, ne-eqb}
 use lib.Dec.{eqb}
 use lib.ListN.{length, getD, drop, set, drop-of-length-le, length-append, length-drop}
 use lib.Seq.{drop-cons, sets}
-use Rattle.rules.specs.Text.{parted, linesOf, fieldsOf, LF, TAB}
-use Rattle.rules.specs.TextLaws.{Free, free-empty, free-more, parted-free, parted-first, parted-some, parted-split}
-use Rattle.text.specs.Answers.{lineAt, firstLine, fieldAt, firstField}
+use Rattle.rules.specs.Text.{parted, linesOf, fieldsOf, decimalOf, LF, TAB}
+use Rattle.rules.specs.TextLaws.{Free, free-empty, free-more, parted-free, parted-first, parted-some, parted-split, decimal-written}
+use Rattle.text.specs.Answers.{lineAt, firstLine, fieldAt, firstField, numberOf}
 use Rattle.text.specs.Before.{before}
 use Rattle.text.specs.declared.Line.{Line}
 use Rattle.text.specs.declared.Line.the-variants.{End, Whole, Cut}
+use Rattle.text.specs.declared.Decimal.{Decimal}
+use Rattle.text.specs.declared.Decimal.the-variants.{Value}
 use Rattle.text.specs.declared.Field.{Field}
 use Rattle.text.specs.declared.Field.the-variants.{More}
 
@@ -112,6 +114,10 @@ whole-within text at end r ensured e = go (linesOf (drop at text)) refl (sym ens
     go (line ∷ next ∷ lines) q e =
         let place : at + length line ≡ end = cc in
         omega (arith, part-within LF at text line next lines q)
+
+-- a number that was read is an id
+pub value-most : (field : List ℕ) (r : Decimal) (n : ℕ) → numberOf r ≡ decimalOf field → r ≡ Value n → n ≤ 65535
+value-most field r n ensured e = decimal-written field n (sym ensured ∙ ap numberOf e) .1
 
 -- ---- a run of stores
 

@@ -1,0 +1,75 @@
+-- `trie_cases::same_rows` is safe: the place stays within the first state, and is held against the length of the second.
+use Prim.Native.Nat.{_≤_, _-_}
+use borrow.Author.Needs.{needs}
+use lib.ListN.{length}
+use Rattle.trie_cases.proofs.same_rows.Statement.{statement}
+use Rattle.trie_cases.proofs.same_rows.Tie as tie
+
+abbrev Inv-loop : tie.InvT-loop
+Inv-loop a b count i₀ i = i ≤ length a
+
+abbrev μ-loop : tie.MeasureT-loop
+μ-loop a b count i₀ i = length a - i
+
+returns : tie.Need-returns Inv-loop μ-loop
+returns c = search needs
+
+shared-slice-read-count : tie.Need-shared-slice-read-count Inv-loop μ-loop
+shared-slice-read-count c = search needs
+
+loop-holds : tie.Need-loop-holds Inv-loop μ-loop
+loop-holds c = search needs
+
+returns-2 : tie.Need-returns-2 Inv-loop μ-loop
+returns-2 c = search needs
+
+returns-3 : tie.Need-returns-3 Inv-loop μ-loop
+returns-3 c = search needs
+
+mul-if4 : tie.Need-mul-if4 Inv-loop μ-loop
+mul-if4 c = search needs
+
+shared-slice-read-if4 : tie.Need-shared-slice-read-if4 Inv-loop μ-loop
+shared-slice-read-if4 c = search needs
+
+mul-if4-2 : tie.Need-mul-if4-2 Inv-loop μ-loop
+mul-if4-2 c = search needs
+
+shared-slice-read-if4-2 : tie.Need-shared-slice-read-if4-2 Inv-loop μ-loop
+shared-slice-read-if4-2 c = search needs
+
+returns-4 : tie.Need-returns-4 Inv-loop μ-loop
+returns-4 c = search needs
+
+add-i : tie.Need-add-i Inv-loop μ-loop
+add-i c = search needs
+
+loop-less : tie.Need-loop-less Inv-loop μ-loop
+loop-less c = search needs
+
+loop-again : tie.Need-loop-again Inv-loop μ-loop
+loop-again c = search needs
+
+returns-5 : tie.Need-returns-5 Inv-loop μ-loop
+returns-5 c = search needs
+
+pub same-rows-spec : {M : Type 1} → statement M
+same-rows-spec =
+    tie.close
+    (tie.spec
+    Inv-loop
+    μ-loop
+    returns
+    shared-slice-read-count
+    loop-holds
+    returns-2
+    returns-3
+    mul-if4
+    shared-slice-read-if4
+    mul-if4-2
+    shared-slice-read-if4-2
+    returns-4
+    add-i
+    loop-less
+    loop-again
+    returns-5)
