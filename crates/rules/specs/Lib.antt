@@ -8,4 +8,6 @@ pub mod TrieLaws
 pub mod PlaceLaws
 pub mod Building
 pub mod Listing
+pub mod BuildingLaws
+pub mod Demand3
 pub mod Examples
