@@ -3,8 +3,9 @@ use Prim.Native.Nat.{ℕ, zero, suc, _+_, _≤_, _<_}
 use native.Mathlib.Omega.{arith}
 use mathlib.Core.Path.{_≡_, refl, sym}
 use mathlib.Core.Logic.{_⊎_, inl, inr, _↔_, ⊎-map, ⊎-elim}
-use mathlib.Core.Bool.{Bool, true, false, cond, _||_, false≢true}
+use mathlib.Core.Bool.{Bool, true, false, cond, _&&_, _||_, false≢true, true≢false}
 use mathlib.Core.List.{List, [], _∷_, _++_}
+use mathlib.Core.Option.{Option, none, some, Option·none-ne-some, Option·some-ne-none}
 use borrow.Author.Tests.{ltb-true, ltb-false}
 use lib.Dec.{ltb}
 use lib.ListN.{length, take, getD}
@@ -24,6 +25,30 @@ compared m n less not-less = by-test (ltb m n) (λ e. less (ltb-true m n e)) (λ
 pub cond-true : (t u : Bool) → (cond t u false ≡ true) ↔ ((t ≡ true) × (u ≡ true))
 cond-true true u = (λ e. (refl, e), λ h. h .1)
 cond-true false u = (λ e. absurd (false≢true e), λ h. h .0)
+
+-- of two tests not both are true: where the first is, the second is false
+pub and-false : (t u : Bool) → (t && u ≡ false) ↔ (t ≡ true → u ≡ false)
+and-false true u = (λ e _. e, λ h. h refl)
+and-false false u = (λ _ e. absurd (false≢true e), λ _. refl)
+
+-- a value that is given where a test holds, and otherwise another or none
+pub cond-some : {A : Type 0} (t : Bool) (o : Option A) (a : A) → cond t o none ≡ some a → (t ≡ true) × (o ≡ some a)
+cond-some true o a e = (refl, e)
+cond-some false o a e = absurd (Option·none-ne-some a e)
+
+pub cond-other : {A : Type 0} (t : Bool) (o : Option A) (a : A) → cond t none o ≡ some a → (t ≡ false) × (o ≡ some a)
+cond-other true o a e = absurd (Option·none-ne-some a e)
+cond-other false o a e = (refl, e)
+
+-- no value is given exactly where the test fails and no other is given
+pub cond-none : {A : Type 0} (t : Bool) (a : A) (o : Option A) → (cond t (some a) o ≡ none) ↔ ((t ≡ false) × (o ≡ none))
+cond-none true a o = (λ e. absurd (Option·some-ne-none a e), λ h. absurd (true≢false (h .0)))
+cond-none false a o = (λ e. (refl, e), λ h. h .1)
+
+-- there is no value or there is one
+pub by-option : {A P : Type 0} (o : Option A) → (o ≡ none → P) → ((a : A) → o ≡ some a → P) → P
+by-option none no-then some-then = no-then refl
+by-option (some a) no-then some-then = some-then a refl
 
 -- a test adds one or nothing
 pub cond-suc : (t : Bool) (n : ℕ) → cond t (suc n) n ≡ cond t 1 0 + n

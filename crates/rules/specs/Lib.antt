@@ -9,5 +9,6 @@ pub mod PlaceLaws
 pub mod Building
 pub mod Listing
 pub mod BuildingLaws
+pub mod ListingLaws
 pub mod Demand3
 pub mod Examples

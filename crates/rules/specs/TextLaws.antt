@@ -50,6 +50,46 @@ parted-some b (x ∷ xs) = go (eqb x b) (parted-some b xs)
     go true rest = ([], parted b xs, refl)
     go false rest = (x ∷ rest .0, rest .1, rw (rest .2))
 
+-- parts with a b between each two
+unfoldable pub joinedBy : ℕ → List (List ℕ) → List ℕ
+joinedBy b [] = []
+joinedBy b (part ∷ []) = part
+joinedBy b (part ∷ next ∷ parts) = part ++ b ∷ joinedBy b (next ∷ parts)
+
+-- a byte in front of the first part is one in front of the whole
+joinedBy-onto : (b x : ℕ) (part : List ℕ) (parts : List (List ℕ)) → joinedBy b ((x ∷ part) ∷ parts) ≡ x ∷ joinedBy b (part ∷ parts)
+unfolding joinedBy
+joinedBy-onto b x part [] = refl
+joinedBy-onto b x part (next ∷ parts) = refl
+
+-- the parts of a run make the run
+pub joined-parted : (b : ℕ) (xs : List ℕ) → joinedBy b (parted b xs) ≡ xs
+unfolding parted joinedBy
+joined-parted b [] = refl
+joined-parted b (x ∷ xs) = go (eqb x b) refl (parted-some b xs) (joined-parted b xs)
+  where
+    go : (same : Bool) → eqb x b ≡ same → (part : List ℕ) × (parts : List (List ℕ)) × (parted b xs ≡ part ∷ parts) →
+        joinedBy b (parted b xs) ≡ xs → joinedBy b (cond same ([] ∷ parted b xs) (onto x (parted b xs))) ≡ x ∷ xs
+    go true q (part, parts, e) rest = rw (e, eqb-true x b q) (ap (λ (l : List ℕ). b ∷ l) (rw e at rest))
+    go false q (part, parts, e) rest = rw e (joinedBy-onto b x part parts ∙ ap (λ (l : List ℕ). x ∷ l) (rw e at rest))
+
+-- one run or more with no byte b
+pub data AllFree (b : ℕ) : List (List ℕ) → Type 0 where
+  one-free : {part : List ℕ} → Free b part → AllFree b (part ∷ [])
+  more-free : {part next : List ℕ} {parts : List (List ℕ)} → Free b part → AllFree b (next ∷ parts) → AllFree b (part ∷ next ∷ parts)
+
+-- they are the parts of the run that they make
+pub parted-joined : {b : ℕ} {parts : List (List ℕ)} → AllFree b parts → parted b (joinedBy b parts) ≡ parts
+unfolding joinedBy
+parted-joined (one-free part) = parted-free part
+parted-joined (more-free part rest) = rw (parted-first part _, parted-joined rest)
+
+-- with another byte between each two they make a run with no b
+pub free-joined : {b : ℕ} {parts : List (List ℕ)} (between : ℕ) → between ≢ b → AllFree b parts → Free b (joinedBy between parts)
+unfolding joinedBy
+free-joined between other (one-free part) = part
+free-joined between other (more-free part rest) = free-append part (free-more other (free-joined between other rest))
+
 -- the parts that stand behind a first one: it is ended by a b, and they are the parts of what comes after that
 abbrev pub Split : ℕ → List ℕ → List ℕ → List (List ℕ) → Type 0
 Split b xs part others = (rest : List ℕ) × (xs ≡ part ++ b ∷ rest) × (parted b rest ≡ others)

@@ -239,7 +239,7 @@ ordered-past s x y rows fx before o =
     (o .0, follows-past s fx before (o .1), o .2, rw (place-past s x y (fx .near) (no-deeper before)) (o .3))
 
 -- an entry has no mark
-entry-unmarked : (row : Row) → isRow row ≡ true → isEntry row ≡ true → row .mark ≡ false
+pub entry-unmarked : (row : Row) → isRow row ≡ true → isEntry row ≡ true → row .mark ≡ false
 entry-unmarked row h e =
     let (_, plain) = and-eq-true-iff (ltb (row .step) (ids ^ 3)) _ .0 (rw e at h) in
     let (unmarked, _) = and-eq-true-iff (not (row .mark)) _ .0 plain in
