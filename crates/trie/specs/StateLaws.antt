@@ -1,19 +1,18 @@
 -- Laws of lent states and of what the operations of `trie` answer (States). No contract cites this file.
-use Prim.Native.Nat.{ℕ, suc, _+_, _≤_, _<_}
-use mathlib.Core.Path.{_≡_, refl, sym, ap, _∙_}
-use mathlib.Core.Bool.{Bool, true, false, cond, not, _&&_}
-use mathlib.Core.List.{List, [], _∷_, map}
+use Prim.Native.Nat.{ℕ, _+_, _≤_, _<_}
+use mathlib.Core.Path.{_≡_, refl, sym, ap}
+use mathlib.Core.Bool.{Bool, true, false, cond, _&&_}
+use mathlib.Core.List.{List, [], _∷_}
 use native.Mathlib.Omega.{arith}
-use borrow.Author.Tests.{le-leb, lt-leb, lt-ltb, le-ltb, ltb-true}
-use lib.Dec.{ltb}
+use borrow.Author.Tests.{le-leb, lt-leb, lt-ltb, le-ltb, ltb-true, leb-true, eqb-true}
+use lib.Dec.{ltb, leb, eqb}
 use lib.ListN.{length, getD, length-map}
 use lib.Seq.{sets}
-use Rattle.rules.specs.Numbers.{accepted, refused}
-use Rattle.rules.specs.Facts.{by-test, cond-true}
+use Rattle.rules.specs.Facts.{by-test}
 use Rattle.rules.specs.Tries.{Row, Form, count, entriesIn, nodesIn, isEntry, ordered, found, union, lawful}
-use Rattle.trie.specs.Words.{rowOf, wordOf, unionWords}
+use Rattle.trie.specs.Words.{rowOf, unionWords}
 use Rattle.trie.specs.WordLaws.{union-words, words-rows}
-use Rattle.trie.specs.States.{Outcome, formOf, wordsOf, allWords, rowsOf, wordsIn, rowsIn, lawfulState, holding, refusing, storing, unionInto, unionOf, heldAs, hasOf}
+use Rattle.trie.specs.States.{Outcome, formOf, wordsOf, allWords, rowsOf, wordsIn, rowsIn, lawfulState, refusing, unionInto, unionOf, heldAs, hasOf}
 use Rattle.trie.specs.Merge.{Counted}
 use Rattle.trie.specs.declared.Kind.{Kind}
 use Rattle.trie.specs.declared.Kind.the-variants.{Contribution, Manifest}
@@ -26,6 +25,10 @@ use Rattle.trie.specs.declared.place.Held.the-variants.{Unheld}
 pub both-true : (t u : Bool) → (t && u) ≡ true → (t ≡ true) × (u ≡ true)
 both-true true u e = (refl, e)
 both-true false u e = absurd (let z : _≡_ {A = ℕ} 0 1 = cc in omega arith)
+
+-- the test of `lawful` that rows are few enough for a form
+abbrev limited : Form → List Row → Bool
+limited form rows = cond (form .single) (eqb (entriesIn rows) 1) (leb (entriesIn rows) (form .entries)) && leb (nodesIn rows) (form .nodes)
 
 module _ (form : Form) (state : List ℕ) (h : lawfulState form state ≡ true) where
   judged : (ltb (getD state 0 0) (length state) ≡ true) × ((allWords (wordsIn state) && lawful form (rowsIn state)) ≡ true)
@@ -40,9 +43,33 @@ module _ (form : Form) (state : List ℕ) (h : lawfulState form state ≡ true) 
   pub words-good : allWords (wordsIn state) ≡ true
   words-good = both-true (allWords (wordsIn state)) (lawful form (rowsIn state)) (judged .1) .0
 
+  -- its rows are lawful
+  rows-lawful : lawful form (rowsIn state) ≡ true
+  rows-lawful = both-true (allWords (wordsIn state)) (lawful form (rowsIn state)) (judged .1) .1
+
   -- its rows are in order
   pub rows-ordered : ordered [] (rowsIn state) ≡ true
-  rows-ordered = both-true (ordered [] (rowsIn state)) _ (both-true (allWords (wordsIn state)) (lawful form (rowsIn state)) (judged .1) .1) .0
+  rows-ordered = both-true (ordered [] (rowsIn state)) _ rows-lawful .0
+
+  -- and are few enough
+  rows-limited : limited form (rowsIn state) ≡ true
+  rows-limited = both-true (ordered [] (rowsIn state)) _ rows-lawful .1
+
+-- rows with at most as many entries and nodes as a form has
+abbrev pub Within : Form → List Row → Type 0
+Within form rows = (entriesIn rows ≤ form .entries) × (nodesIn rows ≤ form .nodes)
+
+-- a lawful state of a kind is within the kind's limits
+pub limits-kept : (kind : Kind) (state : List ℕ) → lawfulState (formOf kind) state ≡ true → Within (formOf kind) (rowsIn state)
+limits-kept kind state h = go kind (rowsIn state) (rows-limited (formOf kind) state h)
+  where
+    go : (kind : Kind) (rows : List Row) → limited (formOf kind) rows ≡ true → Within (formOf kind) rows
+    go Contribution rows h =
+        let (one, few) = both-true (eqb (entriesIn rows) 1) (leb (nodesIn rows) 1024) h in
+        omega (arith, eqb-true, leb-true)
+    go Manifest rows h =
+        let (types, few) = both-true (leb (entriesIn rows) 64) (leb (nodesIn rows) 4096) h in
+        omega (arith, leb-true)
 
 -- a kind's length holds its count of rows, its entries and its nodes
 pub kind-room : (kind : Kind) → 1 + (formOf kind .entries + formOf kind .nodes) ≡ wordsOf kind

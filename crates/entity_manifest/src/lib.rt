@@ -1,0 +1,52 @@
+// The front: every operation that is public to users. None has a `requires`; each checks its own input, and its `ensures` fixes the reply
+// and the final content of every lent buffer.
+ghost use mathlib.Core.Path.{_≡_};
+ghost use Rattle.trie.specs.States.{unionOf, hasOf};
+ghost use Rattle.manifest.specs.Outcomes.{emptyIn, addIn, readIn, writeIn};
+use manifest::EntityManifest;
+pub use manifest::Written;
+pub use trie::Held;
+pub use trie::Kind;
+pub use trie::Reply;
+
+// Makes a lent state the empty manifest.
+pub fn empty_manifest(out: &mut [u64]) -> Reply
+    ensures { λ r. ⌜ (r ≡ emptyIn (now (out .entry)) .reply) × (now (out .exit) ≡ emptyIn (now (out .entry)) .buffer) ⌝ }
+{
+    EntityManifest::new(out)
+}
+
+// Adds a contribution to a manifest; a refusal leaves the manifest as it was.
+pub fn add(manifest: &mut [u64], contribution: &[u64]) -> Reply
+    ensures { λ r. ⌜ (r ≡ addIn (now (manifest .entry)) (now (contribution .entry)) .reply) × (now (manifest .exit) ≡ addIn (now (manifest .entry)) (now (contribution .entry)) .buffer) ⌝ }
+{
+    EntityManifest::add(manifest, contribution)
+}
+
+// The union of two contributions, or of two manifests, in a third.
+pub fn union(kind: Kind, a: &[u64], b: &[u64], out: &mut [u64]) -> Reply
+    ensures { λ r. ⌜ (r ≡ unionOf kind (now (a .entry)) (now (b .entry)) (now (out .entry)) .reply) × (now (out .exit) ≡ unionOf kind (now (a .entry)) (now (b .entry)) (now (out .entry)) .buffer) ⌝ }
+{
+    trie::union(kind, a, b, out)
+}
+
+// Whether a state has a place, its request type and then the steps of a position, and whether it marks it.
+pub fn has(kind: Kind, state: &[u64], place: &[u64]) -> Held
+    ensures { λ r. ⌜ r ≡ hasOf kind (now (state .entry)) (now (place .entry)) ⌝ }
+{
+    trie::has(kind, state, place)
+}
+
+// Reads a text, the listing of a manifest or of a contribution, into a state.
+pub fn read_listing(kind: Kind, text: &[u8], out: &mut [u64]) -> Reply
+    ensures { λ r. ⌜ (r ≡ readIn kind (now (text .entry)) (now (out .entry)) .reply) × (now (out .exit) ≡ readIn kind (now (text .entry)) (now (out .entry)) .buffer) ⌝ }
+{
+    manifest::read_listing(kind, text, out)
+}
+
+// Writes the listing of a manifest or of a contribution.
+pub fn write_listing(kind: Kind, state: &[u64], out: &mut [u8]) -> Written
+    ensures { λ r. ⌜ (r ≡ writeIn kind (now (state .entry)) (now (out .entry)) .reply) × (now (out .exit) ≡ writeIn kind (now (state .entry)) (now (out .entry)) .buffer) ⌝ }
+{
+    manifest::write_listing(kind, state, out)
+}

@@ -1,0 +1,107 @@
+-- `manifest::writing::write_node` meets its contract: each step writes a field of the line, and leaves room for the others.
+use Prim.Native.Nat.{ℕ}
+use native.Mathlib.Omega.{arith}
+use mathlib.Core.List.{List, [], _∷_, _++_}
+use mathlib.Core.Path.{ap}
+use lib.ListN.{length, drop, getD}
+use Rattle.rules.specs.Text.{LF, TAB}
+use Rattle.rules.specs.Tries.{kindOf}
+use Rattle.rules.specs.Listing.{letters}
+use Rattle.manifest.specs.Writes.{Wrote}
+use Rattle.manifest.specs.WriteLaws.{Room, nodeFields, node-fields, field-room, room-left, wrote-same, wrote-field, wrote-last}
+use borrow.Author.Needs.{needs}
+use Rattle.manifest.proofs.writing.write_node.Statement.{statement}
+use Rattle.manifest.proofs.writing.write_node.Tie as tie
+
+abbrev start : tie.After-put-byte → tie.Start
+start c = c .before .before .before
+
+abbrev first : tie.After-put-number → tie.After-put-byte
+first c = c .before .before .before .before
+
+abbrev second : tie.After-put-byte2 → tie.After-put-number
+second c = c .before .before .before .before .before
+
+abbrev third : tie.After-put-number2 → tie.After-put-byte2
+third c = c .before .before .before .before
+
+abbrev fourth : tie.After-put-byte3 → tie.After-put-number2
+fourth c = c .before .before .before .before .before
+
+-- the fields that are left after the first
+abbrev fields : tie.Start → List (List ℕ)
+fields s = nodeFields (s .args .depth) (s .args .step) (s .args .marked)
+
+-- the letter that is written is the step's
+wrote-letter :
+    (c : tie.After-put-byte2) →
+    let out = second c .put-number in
+    Wrote (out .last .0) (out .result) ((getD letters (kindOf (start (first (second c)) .args .step)) 0 ∷ []) ++ (TAB ∷ [])) (c .put-byte2 .last .0) (c .put-byte2 .result)
+wrote-letter c = wrote-same (ap (λ letter. letter ∷ TAB ∷ []) (c .before .letter .ensures)) (c .put-byte2 .ensures)
+
+room : (s : tie.Start) → Room (s .args .out .now) (s .args .at) ((78 ∷ []) ∷ fields s)
+room s = record { fits = rw (node-fields (s .args .depth) (s .args .step) (s .args .marked) (s .pre .0)) at (s .pre .2) }
+
+room-1 : (c : tie.After-put-byte) → Room (c .put-byte .last .0) (c .put-byte .result) (fields (start c))
+room-1 c = room-left (room (start c)) (c .put-byte .ensures)
+
+room-2 : (c : tie.After-put-number) → Room (c .put-number .last .0) (c .put-number .result) (drop 1 (fields (start (first c))))
+room-2 c = room-left (room-1 (first c)) (c .put-number .ensures)
+
+room-3 : (c : tie.After-put-byte2) → Room (c .put-byte2 .last .0) (c .put-byte2 .result) (drop 2 (fields (start (first (second c)))))
+room-3 c = room-left (room-2 (second c)) (wrote-letter c)
+
+room-4 : (c : tie.After-put-number2) → Room (c .put-number2 .last .0) (c .put-number2 .result) (drop 3 (fields (start (first (second (third c))))))
+room-4 c = room-left (room-3 (third c)) (c .put-number2 .ensures)
+
+put-byte-requires : tie.Need-put-byte-requires
+put-byte-requires c κs = field-room (room (c .before .before))
+
+put-number-requires : tie.Need-put-number-requires
+put-number-requires c κs = field-room (room-1 (c .before .before .before))
+
+letter-requires : tie.Need-letter-requires
+letter-requires c κs = search needs
+
+put-byte-requires-2 : tie.Need-put-byte-requires-2
+put-byte-requires-2 c κs = field-room (room-2 (c .before .before .before .before))
+
+put-number-requires-2 : tie.Need-put-number-requires-2
+put-number-requires-2 c κs = field-room (room-3 (c .before .before .before))
+
+digit-requires : tie.Need-digit-requires
+digit-requires c κs = search needs
+
+put-byte-requires-3 : tie.Need-put-byte-requires-3
+put-byte-requires-3 c κs = omega (arith, field-room (room-4 (c .before .before .before .before)), ap length (c .digit .ensures))
+
+same-length : tie.Need-same-length
+same-length c = search needs
+
+returns : tie.Need-returns
+returns c =
+    let mark = c .before .before in
+    let id = fourth mark in
+    let letter = third id in
+    let depth = second letter in
+    let s = start (first depth) in
+    rw (node-fields (s .args .depth) (s .args .step) (s .args .marked) (s .pre .0))
+    (wrote-field _ _ _ (first depth .put-byte .ensures)
+    (wrote-field _ _ _ (depth .put-number .ensures)
+    (wrote-field _ _ _ (wrote-letter letter)
+    (wrote-field _ _ _ (id .put-number2 .ensures)
+    (wrote-last _ (wrote-same (ap (λ field. field ++ (LF ∷ [])) (mark .before .digit .ensures)) (mark .put-byte3 .ensures)))))))
+
+pub write-node-spec : {M : Type 1} → statement M
+write-node-spec =
+    tie.close
+    (tie.spec
+    put-byte-requires
+    put-number-requires
+    letter-requires
+    put-byte-requires-2
+    put-number-requires-2
+    digit-requires
+    put-byte-requires-3
+    same-length
+    returns)

@@ -1,0 +1,118 @@
+-- Laws of adding to a lent manifest and of copying rows. No contract cites this file.
+use Prim.Native.Nat.{ℕ, suc, _+_, _≤_, _<_}
+use mathlib.Core.Path.{_≡_, refl, sym, ap, _∙_}
+use mathlib.Core.Bool.{true, false}
+use mathlib.Core.List.{List, [], _∷_, _++_, map}
+use native.Mathlib.Nat.{zero-add}
+use native.Mathlib.Numerals.{add-one}
+use native.Mathlib.Omega.{arith}
+use borrow.Author.Tests.{le-leb, lt-leb}
+use lib.ListN.{length, take, drop, getD, set, length-map}
+use lib.Seq.{sets, sets-eq, take-append-seam, take-suc, getD-take, length-take-le}
+use Rattle.rules.specs.Numbers.{Answer, accepted, refused}
+use Rattle.rules.specs.Tries.{Row, manifest, contribution, entriesIn, nodesIn, union}
+use Rattle.rules.specs.Facts.{compared}
+use Rattle.rules.specs.Building.{add}
+use Rattle.rules.specs.Demand3.{refused-exactly}
+use Rattle.text.proofs.Laws.{sets-snoc}
+use Rattle.trie.specs.Words.{wordOf}
+use Rattle.trie.specs.States.{rowsIn, lawfulState, holding, refusing, storing}
+use Rattle.trie.specs.StateLaws.{all-rows}
+use Rattle.trie.specs.declared.Reply.the-variants.{Done, Refused}
+use Rattle.manifest.specs.Outcomes.{emptyIn, addIn}
+
+-- ---- copying
+
+-- what was stored from the start on is what stands there
+pub taken-back : (l xs : List ℕ) → length xs ≤ length l → take (length xs) (sets l 0 xs) ≡ xs
+taken-back l xs h = rw (sets-eq xs l 0 (omega arith)) (take-append-seam xs (drop (0 + length xs) l))
+
+-- one more element is copied
+pub copied-more : (from to : List ℕ) (i : ℕ) → i < length from → set (sets to 0 (take i from)) i (getD from i 0) ≡ sets to 0 (take (i + 1) from)
+copied-more from to i h =
+    let place : 0 + length (take i from) ≡ i = zero-add (length (take i from)) ∙ length-take-le i from (omega arith) in
+    rw (add-one, take-suc from i 0 h, sets-snoc to 0 (take i from) (getD from i 0), place)
+
+-- ---- an empty manifest
+
+pub empty-short : (out : List ℕ) → length out < 4161 → emptyIn out ≡ refusing 31 0 out
+unfolding emptyIn
+empty-short out h = rw (lt-leb 4161 (length out) h)
+
+pub empty-long : (out : List ℕ) → 4161 ≤ length out → emptyIn out ≡ record { reply = Done; buffer = set out 0 0 }
+unfolding emptyIn
+empty-long out h = rw (le-leb 4161 (length out) h)
+
+-- ---- adding, by what was tested
+
+module _ (m c : List ℕ) where
+  pub add-short-m : length m < 4161 → addIn m c ≡ refusing 31 0 m
+  unfolding addIn
+  add-short-m h = rw (lt-leb 4161 (length m) h)
+
+  module _ (long-m : 4161 ≤ length m) where
+    pub add-short-c : length c < 1026 → addIn m c ≡ refusing 31 0 m
+    unfolding addIn
+    add-short-c h = rw (le-leb 4161 (length m) long-m, lt-leb 1026 (length c) h)
+
+    module _ (long-c : 1026 ≤ length c) where
+      pub add-unlawful-m : lawfulState manifest m ≡ false → addIn m c ≡ refusing 1 0 m
+      unfolding addIn
+      add-unlawful-m e = rw (le-leb 4161 (length m) long-m, le-leb 1026 (length c) long-c, e)
+
+      pub add-unlawful-c : lawfulState manifest m ≡ true → lawfulState contribution c ≡ false → addIn m c ≡ refusing 1 0 m
+      unfolding addIn
+      add-unlawful-c e f = rw (le-leb 4161 (length m) long-m, le-leb 1026 (length c) long-c, e, f)
+
+      pub add-lawful : lawfulState manifest m ≡ true → lawfulState contribution c ≡ true → addIn m c ≡ storing m (add (rowsIn m) (rowsIn c))
+      unfolding addIn
+      add-lawful e f = rw (le-leb 4161 (length m) long-m, le-leb 1026 (length c) long-c, e, f)
+
+-- ---- what was united, copied
+
+-- a reply does not depend on the buffer
+pub same-reply : (out out′ : List ℕ) (answer : Answer (List Row)) → storing out answer .reply ≡ storing out′ answer .reply
+same-reply out out′ (accepted rows) = refl
+same-reply out out′ (refused number place) = refl
+
+-- where a reply is a refusal, the buffer is as it was
+pub refused-kept : (out out′ : List ℕ) (answer : Answer (List Row)) (number place : ℕ) → storing out answer .reply ≡ Refused number place → storing out′ answer .buffer ≡ out′
+refused-kept out out′ (accepted rows) number place e = absurd (let z : _≡_ {A = ℕ} 0 1 = cc in omega arith)
+refused-kept out out′ (refused n p) number place e = refl
+
+-- where a reply is done, there are rows
+pub done-rows : (out : List ℕ) (answer : Answer (List Row)) → storing out answer .reply ≡ Done → (rows : List Row) × (answer ≡ accepted rows)
+done-rows out (accepted rows) e = (rows, refl)
+done-rows out (refused number place) e = absurd (let z : _≡_ {A = ℕ} 0 1 = cc in omega arith)
+
+-- rows that were accepted fit a manifest
+pub added-most : (m c rows : List Row) → add m c ≡ accepted rows → length rows ≤ 4160
+added-most m c rows e =
+    compared 64 (entriesIn (union m c))
+    (λ many. absurd (never 5 (refused-exactly m c .0 .1 many)))
+    (λ few.
+    compared 4096 (nodesIn (union m c))
+    (λ many. absurd (never 4 (refused-exactly m c .1 .1 (few, many))))
+    (λ enough. sized (refused-exactly m c .2 .1 (few, enough)) few enough))
+  where
+    never : (number : ℕ) → add m c ≡ refused number 0 → ⊥
+    never number f = let z : _≡_ {A = ℕ} 0 1 = cc in omega arith
+
+    sized : add m c ≡ accepted (union m c) → entriesIn (union m c) ≤ 64 → nodesIn (union m c) ≤ 4096 → length rows ≤ 4160
+    sized f few enough =
+        let same : rows ≡ union m c = cc in
+        omega (arith, ap length same, all-rows (union m c))
+
+module _ (out : List ℕ) (rows : List Row) (h : length rows < length out) where
+  -- a buffer that holds rows holds their count, and they stand behind it
+  held-words : take (length rows + 1) (holding out rows) ≡ length rows ∷ map wordOf rows
+  held-words =
+      let count : length (length rows ∷ map wordOf rows) ≡ length rows + 1 = omega (arith, length-map rows wordOf) in
+      rw count at (taken-back out (length rows ∷ map wordOf rows) (omega (arith, length-map rows wordOf)))
+
+  pub held-count : getD (holding out rows) 0 0 ≡ length rows
+  held-count = sym (getD-take (length rows + 1) (holding out rows) 0 0 (omega arith)) ∙ ap (λ (l : List ℕ). getD l 0 0) held-words
+
+  -- and copied they are what another buffer holds
+  pub held-copied : (to : List ℕ) → sets to 0 (take (getD (holding out rows) 0 0 + 1) (holding out rows)) ≡ holding to rows
+  held-copied to = rw (held-count, held-words)

@@ -1,0 +1,571 @@
+-- Laws of the fields of a line and of the rows that a listing is read as. No contract cites this file.
+use Prim.Native.Nat.{ℕ, zero, suc, _+_, _-_, _*_, _/_, _%_, _^_, _≤_, _<_}
+use native.Mathlib.Nat.{add-assoc, add-comm, add-sub-cancel-left}
+use native.Mathlib.Numerals.{add-one}
+use native.Mathlib.Omega.{arith}
+use mathlib.Core.Bool.{Bool, true, false, cond, not, _&&_, _||_, and-false, or-true}
+use mathlib.Core.List.{List, [], _∷_, _++_, map, append-nil, nil≢cons, tail-eq-of-cons-eq}
+use mathlib.Core.Logic.{_≢_, _⊎_, inl, inr}
+use mathlib.Core.Option.{Option, none, some, Option·none-ne-some, Option·some-injective}
+use mathlib.Core.Path.{_≡_, refl, sym, ap, _∙_}
+use borrow.Author.Tests.{eqb-true, eqb-false, eq-eqb, ne-eqb, le-leb, lt-leb, lt-ltb, le-ltb, ltb-false, leb-false, not-false}
+use lib.Dec.{eqb, ltb, leb}
+use lib.ListN.{length, getD, take, drop, set, length-drop, length-set, length-map, drop-of-length-le}
+use lib.Seq.{take-all, length-take-le, getD-take, getD-set-same, take-take, take-suc-set, drop-set-add, drop-drop, take-append-seam, drop-append-add, append-snoc, sets}
+use Rattle.rules.specs.Text.{parted, onto, linesOf, fieldsOf, decimalOf, LF, TAB}
+use Rattle.rules.specs.TextLaws.{parted-split, parted-some, decimal-written}
+use Rattle.rules.specs.Numbers.{Answer, accepted, refused, mostSteps}
+use Rattle.rules.specs.Facts.{by-test, compared}
+use Rattle.rules.specs.Tries.{Row, Form, stepOf, requestOf, isEntry, isRow, at, follows}
+use Rattle.rules.specs.TrieLaws.{Follows, follows-true, true-follows}
+use Rattle.rules.specs.Listing.{Sofar, isLetter, placeIn, letters, markOf, read, ofForm, entryOf, nodeOf, rowOf, past, refusal, before, rowsFrom, enteredBy, _>>=_}
+use Rattle.text.specs.Answers.{lineAt, firstLine, fieldAt, firstField}
+use Rattle.text.proofs.Laws.{more-within, whole-within}
+use Rattle.text.specs.declared.Line.{Line}
+use Rattle.text.specs.declared.Line.the-variants.{End, Whole, Cut}
+use Rattle.text.specs.declared.Field.{Field}
+use Rattle.text.specs.declared.Field.the-variants.{More, Last}
+use Rattle.trie.specs.Words.{wordOf}
+use Rattle.trie.specs.States.{formOf, wordsOf, storing, refusing}
+use Rattle.trie.specs.declared.Kind.{Kind}
+use Rattle.trie.specs.declared.Limits.{Limits}
+use Rattle.trie.specs.declared.Reply.the-variants.{Done}
+use Rattle.manifest.specs.declared.reading.Sofar.{Sofar as Kept}
+use Rattle.manifest.specs.Reads.{nodeRow, formFor, sofarIn, refusalFor, stored, Room, Passed, rowsBy, wordsFor}
+use Rattle.manifest.specs.Outcomes.{readIn}
+
+-- ---- the parts of a text
+
+-- a part that another follows ends at a b, and behind that stand the parts of what is left
+parted-next : (b at : ℕ) (s part next : List ℕ) (more : List (List ℕ)) → parted b (drop at s) ≡ part ∷ next ∷ more →
+    parted b (drop at s) ≡ take (length part) (drop at s) ∷ parted b (drop (at + length part + 1) s)
+parted-next b at s part next more e =
+    let split = parted-split b (drop at s) part next more e in
+    let first : take (length part) (drop at s) ≡ part = ap (take (length part)) (split .1) ∙ take-append-seam part (b ∷ split .0) in
+    let behind : drop (at + length part + 1) s ≡ split .0 =
+    ap (λ (n : ℕ). drop n s) (add-assoc at (length part) 1)
+    ∙ sym (drop-drop (length part + 1) at s)
+    ∙ ap (drop (length part + 1)) (split .1)
+    ∙ drop-append-add part (b ∷ split .0) 1 in
+    e ∙ sym (rw (first, behind, split .2))
+
+-- a part that stands alone is the whole
+parted-one : (b : ℕ) (xs part : List ℕ) → parted b xs ≡ part ∷ [] → parted b xs ≡ xs ∷ []
+unfolding parted
+parted-one b [] part e = refl
+parted-one b (x ∷ xs) part e = go (eqb x b) (λ first h. parted-one b xs first h) (parted-some b xs) e
+  where
+    go : (same : Bool) → ((first : List ℕ) → parted b xs ≡ first ∷ [] → parted b xs ≡ xs ∷ []) →
+        (first : List ℕ) × (others : List (List ℕ)) × (parted b xs ≡ first ∷ others) →
+        cond same ([] ∷ parted b xs) (onto x (parted b xs)) ≡ part ∷ [] →
+        cond same ([] ∷ parted b xs) (onto x (parted b xs)) ≡ (x ∷ xs) ∷ []
+    go true whole some-part e = absurd (nil≢cons (sym (tail-eq-of-cons-eq e) ∙ some-part .2))
+    go false whole some-part e =
+        let alone : some-part .1 ≡ [] = tail-eq-of-cons-eq (rw (some-part .2) at e) in
+        rw (whole (some-part .0) (some-part .2 ∙ rw alone))
+
+-- a field that a tab ends stands in front of the fields behind the tab
+fields-more : (line : List ℕ) (at end : ℕ) (r : Field) → r ≡ fieldAt line at → r ≡ More end →
+    fieldsOf (drop at line) ≡ take (end - at) (drop at line) ∷ fieldsOf (drop (end + 1) line)
+fields-more line at end r ensured e = go (fieldsOf (drop at line)) refl (sym ensured ∙ e)
+  where
+    go : (fields : List (List ℕ)) → fieldsOf (drop at line) ≡ fields → firstField at fields ≡ More end →
+        fieldsOf (drop at line) ≡ take (end - at) (drop at line) ∷ fieldsOf (drop (end + 1) line)
+    go [] q e = absurd (let z : _≡_ {A = ℕ} 0 1 = cc in omega arith)
+    go (field ∷ []) q e = absurd (let z : _≡_ {A = ℕ} 0 1 = cc in omega arith)
+    go (field ∷ next ∷ fields) q e =
+        let place : at + length field ≡ end = cc in
+        parted-next TAB at line field next fields q ∙ rw (← place, add-sub-cancel-left)
+
+-- what is known of a field that a tab ends: where it ends, and the fields from it on
+abbrev pub Ends : List ℕ → ℕ → ℕ → Type 0
+Ends line at end =
+    (at ≤ end) × (end < length line) × (fieldsOf (drop at line) ≡ take (end - at) (drop at line) ∷ fieldsOf (drop (end + 1) line))
+
+pub field-ends : (line : List ℕ) (at end : ℕ) (r : Field) → r ≡ fieldAt line at → r ≡ More end → Ends line at end
+field-ends line at end r ensured e =
+    let (behind, within) = more-within line at end r ensured e in
+    (behind, within, fields-more line at end r ensured e)
+
+-- a last field is all that is left
+pub fields-last : (line : List ℕ) (at : ℕ) (r : Field) → r ≡ fieldAt line at → r ≡ Last →
+    fieldsOf (drop at line) ≡ take (length line - at) (drop at line) ∷ []
+fields-last line at r ensured e = go (fieldsOf (drop at line)) refl (sym ensured ∙ e)
+  where
+    go : (fields : List (List ℕ)) → fieldsOf (drop at line) ≡ fields → firstField at fields ≡ Last →
+        fieldsOf (drop at line) ≡ take (length line - at) (drop at line) ∷ []
+    go [] q e = absurd (nil≢cons (sym q ∙ parted-some TAB (drop at line) .2))
+    go (field ∷ []) q e =
+        parted-one TAB (drop at line) field q
+        ∙ rw (take-all (length line - at) (drop at line) (omega (arith, length-drop at line)))
+    go (field ∷ next ∷ fields) q e = absurd (let z : _≡_ {A = ℕ} 0 1 = cc in omega arith)
+
+-- ---- the numbers of a row
+
+-- a field of one byte is that letter or not
+pub letter-one : (letter : ℕ) (field : List ℕ) → length field ≡ 1 → isLetter letter field ≡ eqb (getD field 0 0) letter
+letter-one letter [] h = absurd (omega arith)
+letter-one letter (byte ∷ []) h = refl
+letter-one letter (byte ∷ more ∷ field) h = absurd (omega arith)
+
+-- a field of no byte, or of more, is no letter
+pub letter-none : (letter : ℕ) (field : List ℕ) → (length field ≡ 1 → ⊥) → isLetter letter field ≡ false
+letter-none letter [] h = refl
+letter-none letter (byte ∷ []) h = absurd (h refl)
+letter-none letter (byte ∷ more ∷ field) h = refl
+
+-- and it is at no place among letters
+pub place-none : (xs field : List ℕ) → (length field ≡ 1 → ⊥) → placeIn xs field ≡ none
+unfolding placeIn
+place-none [] field h = refl
+place-none (x ∷ xs) field h = rw (letter-none x field h, place-none xs field h)
+
+-- a field of one byte is that byte
+one-byte : (field : List ℕ) → length field ≡ 1 → field ≡ getD field 0 0 ∷ []
+one-byte [] h = absurd (omega arith)
+one-byte (byte ∷ []) h = refl
+one-byte (byte ∷ more ∷ field) h = absurd (omega arith)
+
+-- so its place among letters is that byte's
+pub place-one : (xs field : List ℕ) {byte : ℕ} → length field ≡ 1 → getD field 0 0 ≡ byte → placeIn xs field ≡ placeIn xs (byte ∷ [])
+place-one xs field h e = ap (placeIn xs) (one-byte field h) ∙ rw e
+
+-- a place among letters is one of theirs
+pub place-within : (xs field : List ℕ) (n : ℕ) → placeIn xs field ≡ some n → n < length xs
+unfolding placeIn
+place-within [] field n e = absurd (Option·none-ne-some n e)
+place-within (x ∷ xs) field n e = go (isLetter x field) (placeIn xs field) (place-within xs field) e
+  where
+    go : (here : Bool) (rest : Option ℕ) → ((m : ℕ) → rest ≡ some m → m < length xs) →
+        cond here (some 0) (rest >>= (λ m. some (m + 1))) ≡ some n → n < suc (length xs)
+    go true rest within e = let first : 0 ≡ n = Option·some-injective 0 n e in omega arith
+    go false none within e = absurd (Option·none-ne-some n e)
+    go false (some m) within e = let next : m + 1 ≡ n = Option·some-injective (m + 1) n e in omega (arith, within m refl)
+
+-- ---- a node's row, by what was tested
+
+-- whether a kind and an id make a step
+abbrev stepped : ℕ → ℕ → Bool
+stepped kind id = eqb id 0 || (eqb kind 0 || eqb kind 5)
+
+stepped-true : (kind id : ℕ) → (id ≡ 0) ⊎ ((kind ≡ 0) ⊎ (kind ≡ 5)) → stepped kind id ≡ true
+stepped-true kind id (inl e) = rw (eq-eqb id 0 e)
+stepped-true kind id (inr (inl e)) = rw (eq-eqb kind 0 e, or-true)
+stepped-true kind id (inr (inr e)) = rw (eq-eqb kind 5 e, or-true, or-true)
+
+module _ (depth kind id mark : ℕ) where
+  -- a mark over 1 is none
+  pub node-overmarked : 1 < mark → nodeRow depth kind id mark ≡ none
+  node-overmarked h = rw (ne-eqb mark 0 (omega arith), ne-eqb mark 1 (omega arith))
+
+  node-marked : mark ≤ 1 → nodeRow depth kind id mark ≡ cond (eqb depth 0) none (ofForm (read depth (stepOf kind id) (eqb mark 1)))
+  node-marked h =
+      by-test (eqb mark 0)
+      (λ e. rw (eqb-true mark 0 e))
+      (λ e. let one : mark ≡ 1 = omega (arith, eqb-false mark 0 e) in rw one)
+
+  -- depth 0 is no node's
+  pub node-flat : depth ≡ 0 → nodeRow depth kind id mark ≡ none
+  node-flat e = compared 1 mark node-overmarked (λ h. node-marked h ∙ rw e)
+
+  module _ (few : kind ≤ 5) (small : id ≤ 65535) (deep : depth ≢ 0) (marked : mark ≤ 1) where
+    node-formed : nodeRow depth kind id mark ≡ cond (cond (eqb depth 1) (stepped kind id && not (eqb kind 0)) (stepped kind id) && true) (some (read depth (stepOf kind id) (eqb mark 1))) none
+    node-formed =
+        let k : (kind * 65536 + id) / 65536 ≡ kind = omega arith in
+        let i : (kind * 65536 + id) % 65536 ≡ id = omega arith in
+        node-marked marked ∙ rw (ne-eqb depth 0 deep, k, i, le-leb kind 5 few)
+
+    -- a field is no root
+    pub node-rootless : depth ≡ 1 → kind ≡ 0 → nodeRow depth kind id mark ≡ none
+    node-rootless one field = node-formed ∙ rw (eq-eqb depth 1 one, eq-eqb kind 0 field, and-false)
+
+    -- p, a, r and c have id 0
+    pub node-id : id ≢ 0 → kind ≢ 0 → kind ≢ 5 → nodeRow depth kind id mark ≡ none
+    node-id i k l =
+        node-formed
+        ∙ rw (ne-eqb id 0 i, ne-eqb kind 0 k, ne-eqb kind 5 l) (by-test (eqb depth 1) (λ e. rw e) (λ e. rw e))
+
+    -- all else is of its form
+    pub node-good : (depth ≡ 1 → kind ≢ 0) → (id ≡ 0) ⊎ ((kind ≡ 0) ⊎ (kind ≡ 5)) →
+        nodeRow depth kind id mark ≡ some (read depth (stepOf kind id) (eqb mark 1))
+    node-good rooted formed =
+        node-formed
+        ∙ rw (stepped-true kind id formed)
+        (by-test (eqb depth 1)
+        (λ e. rw (e, ne-eqb kind 0 (rooted (eqb-true depth 1 e))))
+        (λ e. rw e))
+
+-- ---- a row after others, by what was tested
+
+-- a row that may not come after a place
+no-follows : (s : List ℕ) (row : Row) → (Follows s row → ⊥) → follows s row ≡ false
+no-follows s row h = by-test (follows s row) (λ e. absurd (h (follows-true s row e))) (λ e. e)
+
+module _ (path : List ℕ) (len : ℕ) (row : Row) (fits : len ≤ length path) where
+  -- a row more than one deeper than the front of a path
+  pub follows-deeper : len < row .depth → follows (take len path) row ≡ false
+  follows-deeper deeper = no-follows (take len path) row (λ f. omega (arith, f .near, length-take-le len path fits))
+
+  -- a row that is not past its last earlier sibling
+  pub follows-earlier : row .depth < len → row .step ≤ getD path (row .depth) 0 → follows (take len path) row ≡ false
+  follows-earlier above early =
+      no-follows (take len path) row
+      (λ f. omega (arith, f .past (omega (arith, length-take-le len path fits)), getD-take len path (row .depth) 0 above))
+
+  -- any other row may come
+  pub follows-later : row .depth ≤ len → (row .depth < len → getD path (row .depth) 0 < row .step) → follows (take len path) row ≡ true
+  follows-later near later =
+      true-follows (take len path) row
+      (record {
+        near = omega (arith, length-take-le len path fits);
+        past = λ h. let above : row .depth < len = omega (arith, length-take-le len path fits) in rw (getD-take len path (row .depth) 0 above) (later above);
+      })
+
+-- the tests that a row passes one after the other
+pub second-none : (single entry : Bool) (entries : ℕ) → (entry ≡ true → single ≡ true → entries ≤ 0) → (single && entry) && ltb 0 entries ≡ false
+second-none true true entries h = le-ltb 0 entries (h refl refl)
+second-none true false entries h = refl
+second-none false entry entries h = refl
+
+module _ (form : Form) (sofar : Sofar) (row : Row) where
+  pub refusal-second : row .depth ≡ 0 → form .single ≡ true → 0 < sofar .entries → refusal form sofar row ≡ some 1
+  refusal-second e single some-entry = rw (eq-eqb (row .depth) 0 e, single, lt-ltb 0 (sofar .entries) some-entry)
+
+  module _ (first : (form .single && isEntry row) && ltb 0 (sofar .entries) ≡ false) where
+    pub refusal-order : follows (sofar .place) row ≡ false → refusal form sofar row ≡ some 2
+    refusal-order after = rw (first, after)
+
+    module _ (after : follows (sofar .place) row ≡ true) where
+      pub refusal-deep : mostSteps < row .depth → refusal form sofar row ≡ some 3
+      refusal-deep deep = rw (first, after, lt-ltb mostSteps (row .depth) deep)
+
+      module _ (near : row .depth ≤ mostSteps) where
+        pub refusal-entries : row .depth ≡ 0 → form .entries ≤ sofar .entries → refusal form sofar row ≡ some 5
+        refusal-entries e many = rw (first, after, le-ltb mostSteps (row .depth) near, eq-eqb (row .depth) 0 e, le-leb (form .entries) (sofar .entries) many)
+
+        pub refusal-entry : row .depth ≡ 0 → sofar .entries < form .entries → refusal form sofar row ≡ none
+        refusal-entry e few = rw (first, after, le-ltb mostSteps (row .depth) near, eq-eqb (row .depth) 0 e, lt-leb (form .entries) (sofar .entries) few)
+
+        pub refusal-nodes : row .depth ≢ 0 → form .nodes ≤ sofar .nodes → refusal form sofar row ≡ some 4
+        refusal-nodes e many = rw (first, after, le-ltb mostSteps (row .depth) near, ne-eqb (row .depth) 0 e, le-leb (form .nodes) (sofar .nodes) many)
+
+        pub refusal-node : row .depth ≢ 0 → sofar .nodes < form .nodes → refusal form sofar row ≡ none
+        refusal-node e few = rw (first, after, le-ltb mostSteps (row .depth) near, ne-eqb (row .depth) 0 e, lt-leb (form .nodes) (sofar .nodes) few)
+
+-- ---- a row that is taken
+
+-- where tests give no number, the first fails and the others give none
+untaken : (test : Bool) (number : ℕ) (rest : Option ℕ) → cond test (some number) rest ≡ none → (test ≡ false) × (rest ≡ none)
+untaken true number rest e = absurd (Option·none-ne-some number (sym e))
+untaken false number rest e = (refl, e)
+
+-- what is known of a row that is not refused
+pub record Allowed (form : Form) (sofar : Sofar) (row : Row) : Type 0 where
+  pub near : row .depth ≤ length (sofar .place)
+  pub shallow : row .depth ≤ mostSteps
+  pub entry-fits : row .depth ≡ 0 → sofar .entries < form .entries
+  pub node-fits : row .depth ≢ 0 → sofar .nodes < form .nodes
+
+pub refusal-none : (form : Form) (sofar : Sofar) (row : Row) → refusal form sofar row ≡ none → Allowed form sofar row
+refusal-none form sofar row e =
+    let (_, unsecond) = untaken ((form .single && isEntry row) && ltb 0 (sofar .entries)) 1 _ e in
+    let (after, in-order) = untaken (not (follows (sofar .place) row)) 2 _ unsecond in
+    let (shallow, not-deep) = untaken (ltb mostSteps (row .depth)) 3 _ in-order in
+    let (entries, one-more) = untaken (isEntry row && leb (form .entries) (sofar .entries)) 5 _ not-deep in
+    let (nodes, _) = untaken (not (isEntry row) && leb (form .nodes) (sofar .nodes)) 4 _ one-more in
+    record {
+      near = follows-true (sofar .place) row (not-false (follows (sofar .place) row) after) .near;
+      shallow = ltb-false mostSteps (row .depth) shallow;
+      entry-fits = λ z. leb-false (form .entries) (sofar .entries) (rw (eq-eqb (row .depth) 0 z) at entries);
+      node-fits = λ z. leb-false (form .nodes) (sofar .nodes) (rw (ne-eqb (row .depth) 0 z) at nodes);
+    }
+
+-- a step that has a value has both
+bind-some : {A B : Type 0} (o : Option A) (then : A → Option B) (b : B) → (o >>= then) ≡ some b → (a : A) × (o ≡ some a) × (then a ≡ some b)
+bind-some none then b e = absurd (Option·none-ne-some b e)
+bind-some (some a) then b e = (a, refl, e)
+
+-- a line's row fits its word: an entry's request type has 48 bits and no mark, a node's step 19
+abbrev pub RowFits : Row → Type 0
+RowFits row = (row .step < cond (isEntry row) (2 ^ 48) (2 ^ 19)) × (row .depth ≡ 0 → row .mark ≡ false)
+
+entry-fits : (b c d : List ℕ) (row : Row) → entryOf b c d ≡ some row → RowFits row
+entry-fits b c d row e =
+    let (p, p-read, e₁) = bind-some (decimalOf b) _ row e in
+    let (a, a-read, e₂) = bind-some (decimalOf c) _ row e₁ in
+    let (r, r-read, e₃) = bind-some (decimalOf d) _ row e₂ in
+    let small : requestOf p a r < 2 ^ 48 = omega (arith, decimal-written b p p-read .1, decimal-written c a a-read .1, decimal-written d r r-read .1) in
+    rw (← Option·some-injective (read 0 (requestOf p a r) false) row e₃) (small, λ z. refl)
+
+node-fits : (b c d f : List ℕ) (row : Row) → nodeOf b c d f ≡ some row → RowFits row
+node-fits b c d f row e =
+    let (n, n-read, e₁) = bind-some (decimalOf b) _ row e in
+    let (kind, kind-read, e₂) = bind-some (placeIn letters c) _ row e₁ in
+    let (id, id-read, e₃) = bind-some (decimalOf d) _ row e₂ in
+    let (m, m-read, e₄) = bind-some (markOf f) _ row e₃ in
+    let small : stepOf kind id < 2 ^ 19 = omega (arith, place-within letters c kind kind-read, decimal-written d id id-read .1) in
+    go n kind id m small (eqb n 0) refl (isRow (read n (stepOf kind id) m)) e₄
+  where
+    go : (n kind id : ℕ) (m : Bool) → stepOf kind id < 2 ^ 19 → (flat : Bool) → eqb n 0 ≡ flat → (whole : Bool) →
+        cond flat none (cond whole (some (read n (stepOf kind id) m)) none) ≡ some row → RowFits row
+    go n kind id m small true q whole e = absurd (Option·none-ne-some row e)
+    go n kind id m small false q false e = absurd (Option·none-ne-some row e)
+    go n kind id m small false q true e = rw (← Option·some-injective (read n (stepOf kind id) m) row e, q) (small, λ z. absurd (eqb-false n 0 q z))
+
+-- a test that gives a value holds, and what it guards gives that value
+cond-some : {A B : Type 0} (test : Bool) (o : Option A) (a : A) → cond test o none ≡ some a → (o ≡ some a → B) → B
+cond-some true o a e then = then e
+cond-some false o a e then = absurd (Option·none-ne-some a e)
+
+pub row-fits : (fields : List (List ℕ)) (row : Row) → rowOf fields ≡ some row → RowFits row
+unfolding rowOf
+row-fits [] row e = absurd (Option·none-ne-some row e)
+row-fits (a ∷ []) row e = absurd (Option·none-ne-some row e)
+row-fits (a ∷ b ∷ []) row e = absurd (Option·none-ne-some row e)
+row-fits (a ∷ b ∷ c ∷ []) row e = absurd (Option·none-ne-some row e)
+row-fits (a ∷ b ∷ c ∷ d ∷ []) row e = cond-some (isLetter 65 a) (entryOf b c d) row e (entry-fits b c d row)
+row-fits (a ∷ b ∷ c ∷ d ∷ f ∷ []) row e = cond-some (isLetter 78 a) (nodeOf b c d f) row e (node-fits b c d f row)
+row-fits (a ∷ b ∷ c ∷ d ∷ f ∷ g ∷ more) row e = absurd (Option·none-ne-some row e)
+
+-- the step of a row that may come, stored at its depth, makes the row's place the front
+place-next : (path : List ℕ) (len : ℕ) (row : Row) → len ≤ length path → row .depth ≤ len → row .depth < length path →
+    take (row .depth + 1) (set path (row .depth) (row .step)) ≡ at (take len path) row
+place-next path len row fits near inside =
+    rw (add-one, take-suc-set path (row .depth) (row .step) inside, take-take (row .depth) len path near)
+
+-- a word behind the others is stored after them
+stored-next : (rows : List ℕ) (count word : ℕ) → count + 1 < length rows → stored (count + 1) (set rows (count + 1) word) ≡ stored count rows ++ (word ∷ [])
+stored-next rows count word inside =
+    let behind : drop 1 (set rows (count + 1) word) ≡ set (drop 1 rows) count word = rw (add-comm count 1) (drop-set-add 1 rows count word) in
+    rw behind (rw add-one (take-suc-set (drop 1 rows) count word (omega (arith, length-drop 1 rows))))
+
+-- a row that is not refused is passed with its step in the path and its word behind the others
+pub row-passed :
+    (limits : Limits) (kept : Kept) (line path rows : List ℕ) (row : Row) {word : ℕ} {next : Kept} →
+    Room limits kept path rows →
+    rowOf (fieldsOf line) ≡ some row →
+    refusal (formFor limits) (sofarIn kept path) row ≡ none →
+    word ≡ wordOf row →
+    next .len ≡ row .depth + 1 →
+    next .entries ≡ cond (isEntry row) (kept .entries + 1) (kept .entries) →
+    next .nodes ≡ cond (isEntry row) (kept .nodes) (kept .nodes + 1) →
+    Passed limits kept line path rows (set path (row .depth) (row .step)) (set rows (kept .entries + kept .nodes + 1) word) next
+row-passed limits kept line path rows row {word} {next} room e unrefused packed len entries nodes =
+    let allowed : Allowed (formFor limits) (sofarIn kept path) row = refusal-none (formFor limits) (sofarIn kept path) row unrefused in
+    let fits : kept .len ≤ length path = omega (arith, room .path-length, room .in-path) in
+    let near : row .depth ≤ kept .len = omega (arith, allowed .near, length-take-le (kept .len) path fits) in
+    let place : take (next .len) (set path (row .depth) (row .step)) ≡ at (take (kept .len) path) row =
+    rw len (place-next path (kept .len) row fits near (omega (arith, room .path-length, allowed .shallow))) in
+    let (few-entries, few-nodes, one-more) = counts allowed (isEntry row) refl entries nodes in
+    record {
+      row = row;
+      read-row = e;
+      unrefused = unrefused;
+      comes-past = λ i. record { place = place i; entries = entries i; nodes = nodes i };
+      stored-row = rw (one-more, packed) (stored-next rows (kept .entries + kept .nodes) (wordOf row) (omega (arith, room .in-rows)));
+      room = record {
+        path-length = simp length-set (room .path-length);
+        in-path = omega (arith, allowed .shallow);
+        few-entries = few-entries;
+        few-nodes = few-nodes;
+        in-rows = simp length-set (room .in-rows);
+      };
+    }
+  where
+    counts : Allowed (formFor limits) (sofarIn kept path) row → (entry : Bool) → isEntry row ≡ entry →
+        next .entries ≡ cond entry (kept .entries + 1) (kept .entries) →
+        next .nodes ≡ cond entry (kept .nodes) (kept .nodes + 1) →
+        (next .entries ≤ limits .entries) × (next .nodes ≤ limits .nodes) × (next .entries + next .nodes ≡ kept .entries + kept .nodes + 1)
+    counts allowed true q entries nodes =
+        let fits = allowed .entry-fits (eqb-true (row .depth) 0 q) in
+        (omega arith, omega (arith, room .few-nodes), omega arith)
+    counts allowed false q entries nodes =
+        let fits = allowed .node-fits (eqb-false (row .depth) 0 q) in
+        (omega (arith, room .few-entries), omega arith, omega arith)
+
+-- ---- the lines of a text
+
+-- a line that an LF ends stands in front of the lines behind the LF
+lines-whole : (text : List ℕ) (at end : ℕ) (r : Line) → r ≡ lineAt text at → r ≡ Whole end →
+    linesOf (drop at text) ≡ take (end - at) (drop at text) ∷ linesOf (drop (end + 1) text)
+lines-whole text at end r ensured e = go (linesOf (drop at text)) refl (sym ensured ∙ e)
+  where
+    last : (empty : Bool) → cond empty End Cut ≡ Whole end → ⊥
+    last true e = let z : _≡_ {A = ℕ} 0 1 = cc in omega arith
+    last false e = let z : _≡_ {A = ℕ} 0 1 = cc in omega arith
+
+    go : (lines : List (List ℕ)) → linesOf (drop at text) ≡ lines → firstLine at lines ≡ Whole end →
+        linesOf (drop at text) ≡ take (end - at) (drop at text) ∷ linesOf (drop (end + 1) text)
+    go [] q e = absurd (let z : _≡_ {A = ℕ} 0 1 = cc in omega arith)
+    go (line ∷ []) q e = absurd (last (eqb (length line) 0) e)
+    go (line ∷ next ∷ lines) q e =
+        let place : at + length line ≡ end = cc in
+        parted-next LF at text line next lines q ∙ rw (← place, add-sub-cancel-left)
+
+module _ (form : Form) (sofar : Sofar) (place : ℕ) where
+  -- what is left without an LF is a line of no form
+  rows-cut : (text : List ℕ) (at : ℕ) (r : Line) → r ≡ lineAt text at → ((end : ℕ) → r ≡ Whole end → ⊥) → at < length text →
+      rowsFrom form sofar place (linesOf (drop at text)) ≡ refused 1 place
+  unfolding rowsFrom
+  rows-cut text at r ensured unended inside = go (linesOf (drop at text)) refl ensured
+    where
+      go : (lines : List (List ℕ)) → linesOf (drop at text) ≡ lines → r ≡ firstLine at lines → rowsFrom form sofar place (linesOf (drop at text)) ≡ refused 1 place
+      go [] q e = absurd (nil≢cons (sym q ∙ parted-some LF (drop at text) .2))
+      go (line ∷ []) q e =
+          rw (parted-one LF (drop at text) line q, ne-eqb (length (drop at text)) 0 (omega (arith, length-drop at text)))
+      go (line ∷ next ∷ lines) q e = absurd (unended (at + length line) e)
+
+  module _ (line rest : List ℕ) where
+    -- a row that is not refused comes before those of the lines behind it
+    rows-next : (row : Row) → rowOf (fieldsOf line) ≡ some row → refusal form sofar row ≡ none →
+        rowsFrom form sofar place (line ∷ linesOf rest) ≡ before row (rowsFrom form (past sofar row) (place + 1) (linesOf rest))
+    unfolding rowsFrom
+    rows-next row e unrefused = rw (parted-some LF rest .2, rowsFrom, e, unrefused)
+
+    -- a line that gives a number is where reading ends
+    rows-stopped : (number : ℕ) → refusalFor form sofar (rowOf (fieldsOf line)) ≡ some number → rowsFrom form sofar place (line ∷ linesOf rest) ≡ refused number place
+    unfolding rowsFrom
+    rows-stopped number stopped = go (rowOf (fieldsOf line)) refl stopped
+      where
+        go : (row : Option Row) → rowOf (fieldsOf line) ≡ row → refusalFor form sofar row ≡ some number → rowsFrom form sofar place (line ∷ linesOf rest) ≡ refused number place
+        go none q e = rw (parted-some LF rest .2, rowsFrom, q, Option·some-injective 1 number e)
+        go (some row) q e = rw (parted-some LF rest .2, rowsFrom, q, e)
+
+-- ---- reading from line to line
+
+-- words in front of those that are still to come
+abbrev behind : List ℕ → Answer (List ℕ) → Answer (List ℕ)
+behind words (accepted more) = accepted (words ++ more)
+behind words (refused number place) = refused number place
+
+behind-none : (answer : Answer (List ℕ)) → behind [] answer ≡ answer
+behind-none (accepted more) = refl
+behind-none (refused number place) = refl
+
+behind-row : (words : List ℕ) (row : Row) (answer : Answer (List Row)) →
+    behind words (wordsFor (before row answer)) ≡ behind (words ++ (wordOf row ∷ [])) (wordsFor answer)
+behind-row words row (accepted rows) = rw (append-snoc words (wordOf row) (map wordOf rows))
+behind-row words row (refused number place) = refl
+
+-- the words of what a text gives are those that are stored, and then those of the lines that are left
+pub record Reading (limits : Limits) (text : List ℕ) (kept : Kept) (path rows : List ℕ) (at line : ℕ) : Type 0 where
+  pub room : Room limits kept path rows
+  pub inside : at ≤ length text
+  pub lines-passed : line ≤ at
+  pub left :
+      wordsFor (rowsBy limits text)
+      ≡ behind (stored (kept .entries + kept .nodes) rows) (wordsFor (rowsFrom (formFor limits) (sofarIn kept path) line (linesOf (drop at text))))
+
+pub reading-none : (limits : Limits) (text path rows : List ℕ) → length path ≡ 25 → limits .entries + limits .nodes < length rows →
+    Reading limits text (record { len = 0; entries = 0; nodes = 0 }) path rows 0 0
+reading-none limits text path rows steps fits = record {
+  room = record { path-length = steps; in-path = omega arith; few-entries = omega arith; few-nodes = omega arith; in-rows = fits };
+  inside = omega arith;
+  lines-passed = omega arith;
+  left = sym (behind-none _);
+}
+
+module _ {limits : Limits} {text : List ℕ} {kept : Kept} {path rows : List ℕ} {at line : ℕ} (reading : Reading limits text kept path rows at line) where
+  -- no line is left
+  pub reading-all : length text ≤ at → accepted (stored (kept .entries + kept .nodes) rows) ≡ wordsFor (rowsBy limits text)
+  unfolding rowsFrom parted
+  reading-all h = sym (reading .left ∙ rw (drop-of-length-le text h, append-nil))
+
+  -- the next line has no LF
+  pub reading-cut : {r : Line} → r ≡ lineAt text at → ((end : ℕ) → r ≡ Whole end → ⊥) → at < length text →
+      refused 1 line ≡ wordsFor (rowsBy limits text)
+  reading-cut {r} ensured unended more =
+      sym (reading .left ∙ rw (rows-cut (formFor limits) (sofarIn kept path) line text at r ensured unended more))
+
+  module _ {end : ℕ} {r : Line} (ensured : r ≡ lineAt text at) (e : r ≡ Whole end) where
+    -- the next line is refused
+    pub reading-stopped : {number : ℕ} → refusalFor (formFor limits) (sofarIn kept path) (rowOf (fieldsOf (take (end - at) (drop at text)))) ≡ some number →
+        refused number line ≡ wordsFor (rowsBy limits text)
+    reading-stopped {number} stopped =
+        sym (reading .left ∙ rw (lines-whole text at end r ensured e, rows-stopped (formFor limits) (sofarIn kept path) line _ _ number stopped))
+
+    -- the next line is taken
+    pub reading-next : {path′ rows′ : List ℕ} {next : Kept} → Passed limits kept (take (end - at) (drop at text)) path rows path′ rows′ next →
+        Reading limits text next path′ rows′ (end + 1) (line + 1)
+    reading-next passed =
+        let (behind-at, within) = whole-within text at end r ensured e in
+        record {
+          room = passed .room;
+          inside = omega arith;
+          lines-passed = omega (arith, reading .lines-passed);
+          left =
+              reading .left
+              ∙ rw (
+                lines-whole text at end r ensured e,
+                rows-next (formFor limits) (sofarIn kept path) line _ _ (passed .row) (passed .read-row) (passed .unrefused),
+                behind-row (stored (kept .entries + kept .nodes) rows) (passed .row) _,
+                ← passed .stored-row,
+                ← passed .comes-past,
+              );
+        }
+
+-- ---- what reading answers, by what was tested
+
+-- the words that were read are stored with their count, unless they have to be some and are none
+stored-words : (form : Form) (out : List ℕ) (answer : Answer (List Row)) (words : List ℕ) → accepted words ≡ wordsFor answer →
+    (words ≡ [] → form .single ≡ false) → storing out (enteredBy form answer) ≡ record { reply = Done; buffer = sets out 0 (length words ∷ words) }
+stored-words form out (accepted []) words e some-words =
+    let none-read : words ≡ [] = cc in
+    rw (some-words none-read, none-read)
+stored-words form out (accepted (row ∷ rows)) words e some-words =
+    let all-read : words ≡ wordOf row ∷ map wordOf rows = cc in
+    rw (all-read, length-map rows wordOf)
+stored-words form out (refused number place) words e some-words = absurd (let z : _≡_ {A = ℕ} 0 1 = cc in omega arith)
+
+no-words : (form : Form) (out : List ℕ) (answer : Answer (List Row)) → accepted [] ≡ wordsFor answer → form .single ≡ true →
+    storing out (enteredBy form answer) ≡ refusing 1 0 out
+no-words form out (accepted []) e single = rw single
+no-words form out (accepted (row ∷ rows)) e single = absurd (let z : [] ≡ wordOf row ∷ map wordOf rows = cc in nil≢cons z)
+no-words form out (refused number place) e single = absurd (let z : _≡_ {A = ℕ} 0 1 = cc in omega arith)
+
+no-rows : (form : Form) (out : List ℕ) (answer : Answer (List Row)) (number place : ℕ) → refused number place ≡ wordsFor answer →
+    storing out (enteredBy form answer) ≡ refusing number place out
+no-rows form out (accepted rows) number place e = absurd (let z : _≡_ {A = ℕ} 0 1 = cc in omega arith)
+no-rows form out (refused n p) number place e =
+    let same-number : number ≡ n = cc in
+    let same-place : place ≡ p = cc in
+    rw (same-number, same-place)
+
+module _ (kind : Kind) (text out : List ℕ) where
+  pub read-short : length out < wordsOf kind → readIn kind text out ≡ refusing 31 0 out
+  unfolding readIn
+  read-short h = rw (lt-leb (wordsOf kind) (length out) h)
+
+  module _ (long : wordsOf kind ≤ length out) {limits : Limits} (given : formFor limits ≡ formOf kind) where
+    read-long : readIn kind text out ≡ storing out (enteredBy (formOf kind) (rowsBy limits text))
+    unfolding readIn
+    read-long = rw (le-leb (wordsOf kind) (length out) long, given)
+
+    pub read-refused : {number place : ℕ} → refused number place ≡ wordsFor (rowsBy limits text) →
+        readIn kind text out ≡ refusing number place out
+    read-refused {number} {place} e = read-long ∙ no-rows (formOf kind) out (rowsBy limits text) number place e
+
+    pub read-empty : accepted [] ≡ wordsFor (rowsBy limits text) → formOf kind .single ≡ true →
+        readIn kind text out ≡ refusing 1 0 out
+    read-empty e single = read-long ∙ no-words (formOf kind) out (rowsBy limits text) e single
+
+    pub read-stored : {words : List ℕ} → accepted words ≡ wordsFor (rowsBy limits text) →
+        (words ≡ [] → formOf kind .single ≡ false) → readIn kind text out ≡ record { reply = Done; buffer = sets out 0 (length words ∷ words) }
+    read-stored {words} e some-words = read-long ∙ stored-words (formOf kind) out (rowsBy limits text) words e some-words
+
+-- rows with their count in front are as many as they are to be, and more than they count
+pub counted-room : (rows : List ℕ) (words count : ℕ) → count < words → words ≤ length rows →
+    (getD (take words (set rows 0 count)) 0 0 < length (take words (set rows 0 count))) × (length (take words (set rows 0 count)) ≡ words)
+counted-room rows words count h fits =
+    let all : length (take words (set rows 0 count)) ≡ words = length-take-le words (set rows 0 count) (simp length-set fits) in
+    let first : getD (take words (set rows 0 count)) 0 0 ≡ count =
+    getD-take words (set rows 0 count) 0 0 (omega arith) ∙ getD-set-same rows 0 count 0 (omega arith) in
+    (omega arith, all)
+
+-- and as they are copied
+pub copied : (rows : List ℕ) (words count : ℕ) → count < words → words ≤ length rows →
+    take (getD (take words (set rows 0 count)) 0 0 + 1) (take words (set rows 0 count)) ≡ length (stored count rows) ∷ stored count rows
+copied [] words count h fits = absurd (omega arith)
+copied (x ∷ rest) zero count h fits = absurd (omega arith)
+copied (x ∷ rest) (suc w) count h fits =
+    rw (add-one, take-take count w rest (omega arith), length-take-le count rest (omega arith))

@@ -1,0 +1,87 @@
+-- What reading a listing keeps from line to line, for the contracts of `line` and `reading`.
+use Prim.Native.Nat.{ℕ, _+_, _≤_, _<_}
+use mathlib.Core.Bool.{true, false, cond}
+use mathlib.Core.List.{List, [], _∷_, _++_, map}
+use mathlib.Core.Option.{Option, none, some}
+use mathlib.Core.Path.{_≡_}
+use lib.Dec.{eqb}
+use lib.ListN.{length, take, drop}
+use Rattle.rules.specs.Numbers.{Answer, accepted, refused}
+use Rattle.rules.specs.Text.{linesOf, fieldsOf}
+use Rattle.rules.specs.Tries.{Row, Form, stepOf}
+use Rattle.rules.specs.Listing.{Sofar, read, ofForm, rowOf, refusal, start, past, rowsFrom, _>>=_}
+use Rattle.trie.specs.Words.{wordOf}
+use Rattle.trie.specs.declared.Limits.{Limits}
+use Rattle.manifest.specs.declared.reading.Sofar.{Sofar as Kept}
+use Rattle.manifest.specs.declared.reading.Took.{Took}
+use Rattle.manifest.specs.declared.reading.Took.the-variants.{Next, Refused as Stopped}
+use Rattle.manifest.specs.declared.reading.Got.{Got}
+use Rattle.manifest.specs.declared.reading.Got.the-variants.{Rows, Refused}
+
+-- the row of a node's four numbers, if it is of its form
+abbrev pub nodeRow : ℕ → ℕ → ℕ → ℕ → Option Row
+nodeRow depth kind id mark =
+    cond (eqb mark 0) (some false) (cond (eqb mark 1) (some true) none)
+    >>= (λ m. cond (eqb depth 0) none (ofForm (read depth (stepOf kind id) m)))
+
+-- the form of a state with these limits
+abbrev pub formFor : Limits → Form
+formFor limits = record { single = limits .single; entries = limits .entries; nodes = limits .nodes }
+
+-- where reading has come to: the place of the last row is the front of the path
+abbrev pub sofarIn : Kept → List ℕ → Sofar
+sofarIn kept path = record { place = take (kept .len) path; entries = kept .entries; nodes = kept .nodes }
+
+-- a refusal's number, if it is not 0
+abbrev pub numbered : ℕ → Option ℕ
+numbered number = cond (eqb number 0) none (some number)
+
+-- the number that a line gives after others, if any: 1 where it has no row
+abbrev pub refusalFor : Form → Sofar → Option Row → Option ℕ
+refusalFor form sofar none = some 1
+refusalFor form sofar (some row) = refusal form sofar row
+
+-- so many words are stored, from place 1 on
+abbrev pub stored : ℕ → List ℕ → List ℕ
+stored count rows = take count (drop 1 rows)
+
+-- what is kept has room in the path and among the rows
+pub record Room (limits : Limits) (kept : Kept) (path rows : List ℕ) : Type 0 where
+  pub path-length : length path ≡ 25
+  pub in-path : kept .len ≤ 25
+  pub few-entries : kept .entries ≤ limits .entries
+  pub few-nodes : kept .nodes ≤ limits .nodes
+  pub in-rows : limits .entries + limits .nodes < length rows
+
+-- a row was taken: its word is stored behind the others, and reading has come past it
+pub record Passed (limits : Limits) (kept : Kept) (line path rows path′ rows′ : List ℕ) (next : Kept) : Type 0 where
+  pub row : Row
+  pub read-row : rowOf (fieldsOf line) ≡ some row
+  pub unrefused : refusal (formFor limits) (sofarIn kept path) row ≡ none
+  pub comes-past : sofarIn next path′ ≡ past (sofarIn kept path) row
+  pub stored-row : stored (next .entries + next .nodes) rows′ ≡ stored (kept .entries + kept .nodes) rows ++ (wordOf row ∷ [])
+  pub room : Room limits next path′ rows′
+
+-- what taking a line answers
+abbrev pub Taken : Limits → Kept → List ℕ → List ℕ → List ℕ → List ℕ → List ℕ → Took → Type 0
+Taken limits kept line path rows path′ rows′ (Next next) = Passed limits kept line path rows path′ rows′ next
+Taken limits kept line path rows path′ rows′ (Stopped number) =
+    refusalFor (formFor limits) (sofarIn kept path) (rowOf (fieldsOf line)) ≡ some number
+
+-- what a text gives, line after line
+abbrev pub rowsBy : Limits → List ℕ → Answer (List Row)
+rowsBy limits text = rowsFrom (formFor limits) start 0 (linesOf text)
+
+-- the words of the rows that a text gives
+abbrev pub wordsFor : Answer (List Row) → Answer (List ℕ)
+wordsFor (accepted rows) = accepted (map wordOf rows)
+wordsFor (refused number place) = refused number place
+
+-- what was read into rows: the words that are stored, or a refusal
+abbrev pub gotIn : Got → List ℕ → Answer (List ℕ)
+gotIn (Rows count) rows = accepted (stored count rows)
+gotIn (Refused number place) rows = refused number place
+
+abbrev pub countOf : Got → ℕ
+countOf (Rows count) = count
+countOf (Refused number place) = 0

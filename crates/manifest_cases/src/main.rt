@@ -1,0 +1,226 @@
+// Replays the vectors of data/cases: texts that are read and written again, contributions that are added in many orders.
+ghost use Prim.Native.Nat.{_≤_};
+ghost use lib.ListN.{length};
+use libc::STDOUT_FILENO;
+use manifest::EntityManifest;
+use manifest::Written;
+use text::Line;
+use trie::Kind;
+use trie::Reply;
+
+// The longest text of a case, and the words of a contribution. Eight contributions are kept.
+const TEXT: usize = 65_536;
+
+const WORDS: usize = 1_026;
+
+fn say(word: &[u8]) {
+    io::write_all(STDOUT_FILENO, word);
+}
+
+fn say_refused(number: u64, place: u64) {
+    say(b"refused ");
+    io::print_decimal(STDOUT_FILENO, number);
+    say(b" at ");
+    io::print_decimal(STDOUT_FILENO, place);
+}
+
+// The kind of state that a line asks for.
+fn kind_of(line: &[u8]) -> Kind {
+    if cases::is_word(line, 1, b"contribution") {
+        Kind::Contribution
+    } else {
+        Kind::Manifest
+    }
+}
+
+// Writes the line of an entry, or of a field, with a number of its own.
+fn say_line(out: &mut [u8], at: usize, head: &[u8], number: u64, tail: &[u8]) -> usize
+    requires { ⌜ at ≤ length (now out) ⌝ }
+    ensures { λ r. ⌜ r ≤ length (now (out .exit)) ⌝ }
+{
+    let headed = cases::say(out, at, head);
+    let numbered = cases::say_number(out, headed, number);
+    cases::say(out, numbered, tail)
+}
+
+// Writes such a line for each number below n.
+fn say_lines(out: &mut [u8], at: usize, head: &[u8], n: u64, tail: &[u8]) -> usize
+    requires { ⌜ at ≤ length (now out) ⌝ }
+    ensures { λ r. ⌜ r ≤ length (now (out .exit)) ⌝ }
+{
+    let mut to = at;
+    let mut i = 0;
+    while i < n {
+        to = say_line(out, to, head, i, tail);
+        i += 1;
+    }
+    to
+}
+
+// A text of entries of their own type, and then fields of the principal below the last.
+fn say_many(out: &mut [u8], entries: u64, fields: u64) -> usize
+    ensures { λ r. ⌜ r ≤ length (now (out .exit)) ⌝ }
+{
+    let to = say_lines(out, 0, b"A\t1\t1\t", entries, b"\n");
+    if fields == 0 {
+        return to;
+    }
+    let root = cases::say(out, to, b"N\t1\tp\t0\t0\n");
+    say_lines(out, root, b"N\t2\tf\t", fields, b"\t0\n")
+}
+
+// The text of a case: its own, in escapes, or as many entries and fields as it says.
+fn text_of(line: &[u8], out: &mut [u8]) -> usize
+    ensures { λ r. ⌜ r ≤ length (now (out .exit)) ⌝ }
+{
+    if cases::is_word(line, 0, b"many") {
+        return say_many(out, cases::number(line, 2), cases::number(line, 3));
+    }
+    let part = cases::nth(line, 2);
+    let start = part.start;
+    let end = part.end;
+    cases::decode(&line[start..end], out)
+}
+
+// Reads a text and writes it again.
+fn ask_text(line: &[u8]) {
+    let mut text = [0u8; TEXT];
+    let n = text_of(line, &mut text);
+    let mut state = [0u64; 4_161];
+    let reply = manifest::read_listing(kind_of(line), &text[..n], &mut state);
+    match reply {
+        Reply::Refused(number, place) => say_refused(number, place),
+        Reply::Done => ask_written(line, &state, &text[..n]),
+    }
+}
+
+fn ask_written(line: &[u8], state: &[u64], text: &[u8]) {
+    let mut out = [0u8; TEXT];
+    let written = manifest::write_listing(kind_of(line), state, &mut out);
+    match written {
+        Written::Refused(number, place) => say_refused(number, place),
+        Written::Bytes(n) => {
+            if n <= TEXT {
+                if check::same(&out[..n], text) {
+                    say(b"the same again");
+                } else {
+                    say(b"ANOTHER TEXT");
+                }
+            }
+        }
+    }
+}
+
+// Keeps a contribution under a number.
+fn keep(line: &[u8], kept: &mut [u64]) {
+    let number = cases::number(line, 1);
+    if 7 < number {
+        return;
+    }
+    let mut text = [0u8; TEXT];
+    let n = text_of(line, &mut text);
+    let from = number as usize * WORDS;
+    let end = from + WORDS;
+    if end <= kept.len() {
+        let reply = manifest::read_listing(Kind::Contribution, &text[..n], &mut kept[from..end]);
+        match reply {
+            Reply::Done => say(b"kept"),
+            Reply::Refused(number, place) => say_refused(number, place),
+        }
+    }
+}
+
+// Adds a kept contribution to a manifest.
+fn add_kept(state: &mut [u64], kept: &[u64], number: u64) {
+    if 7 < number {
+        return;
+    }
+    let from = number as usize * WORDS;
+    let end = from + WORDS;
+    if kept.len() < end {
+        return;
+    }
+    let reply = EntityManifest::add(state, &kept[from..end]);
+    if let Reply::Refused(number, place) = reply {
+        say_refused(number, place);
+        say(b", ");
+    }
+}
+
+fn print_listing(state: &[u64]) {
+    let mut out = [0u8; TEXT];
+    let written = manifest::write_listing(Kind::Manifest, state, &mut out);
+    match written {
+        Written::Refused(number, place) => say_refused(number, place),
+        Written::Bytes(n) => {
+            if n <= TEXT {
+                say(b"\n");
+                say(&out[..n]);
+            }
+        }
+    }
+}
+
+// Adds the kept contributions that a line names, in its order, and writes the listing.
+fn ask_order(line: &[u8], kept: &[u64]) {
+    let mut state = [0u64; 4_161];
+    let mut n = 1;
+    while n < 32 {
+        let part = cases::nth(line, n);
+        if part.start == part.end {
+            break;
+        }
+        add_kept(&mut state, kept, cases::number(line, n));
+        n += 1;
+    }
+    print_listing(&state);
+}
+
+// One line of the data file: a comment, or a case and what comes of it.
+fn replay(line: &[u8], kept: &mut [u64]) {
+    if line.len() == 0 {
+        return;
+    }
+    if line[0] == b'#' {
+        return;
+    }
+    say(line);
+    say(b" -> ");
+    if cases::is_word(line, 0, b"keep") {
+        keep(line, kept);
+        say(b"\n");
+        return;
+    }
+    if cases::is_word(line, 0, b"order") {
+        ask_order(line, kept);
+        say(b"\n");
+        return;
+    }
+    ask_text(line);
+    say(b"\n");
+}
+
+fn replay_all(text: &[u8]) {
+    let mut kept = [0u64; 8_208];
+    let mut at = 0;
+    while at < text.len() {
+        let Line::Whole(end) = Line::at(text, at) else {
+            return;
+        };
+        replay(&text[at..end], &mut kept);
+        at = end + 1;
+    }
+}
+
+fn main() {
+    let path = b"cases";
+    let fd = os::open_read(path);
+    if fd < 0 {
+        os::fail(path);
+        return;
+    }
+    let mut buffer = io::large_buffer();
+    let n = io::read_full(fd, &mut buffer);
+    libc::close(fd);
+    replay_all(&buffer[..n]);
+}
