@@ -1,11 +1,10 @@
 -- Worked examples of document 01, which the checker computes.
 use Prim.Native.Nat.{ℕ, zero, suc, _+_}
 use mathlib.Core.Path.{_≡_, refl}
-use mathlib.Core.Bool.{Bool, true, false}
+use mathlib.Core.Bool.{true, false}
 use mathlib.Core.List.{List, [], _∷_, map}
-use mathlib.Core.Option.{Option, none, some}
-use Rattle.rules.specs.Numbers.{Answer, accepted, refused}
-use Rattle.rules.specs.Text.{bytes, parted, numberFrom, decimalUpTo, decimalIn, decimalOf, decimal, linesOf, fieldsOf}
+use Rattle.rules.specs.Numbers.{accepted, refused}
+use Rattle.rules.specs.Text.{bytes, parted, numberFrom, decimalUpTo, decimalIn}
 use Rattle.rules.specs.Tries.{Row, Form, requestOf, stepOf, union, unionOnto, next, ordered, count, lawful, manifest, contribution}
 use Rattle.rules.specs.Listing.{listing, lineOf, placeIn, rowOf, rowsFrom, readListing, read}
 

@@ -1,5 +1,5 @@
 -- What a lent state holds (docs/FORMS.md, 'Lent buffers'), and what each operation of `trie` answers and leaves.
-use Prim.Native.Nat.{ℕ, suc, _+_}
+use Prim.Native.Nat.{ℕ}
 use mathlib.Core.Bool.{Bool, true, false, cond, _&&_}
 use mathlib.Core.List.{List, [], _∷_, map}
 use mathlib.Core.Option.{Option, none, some}

@@ -34,8 +34,11 @@ pub struct Limits {
 }
 
 impl Kind {
-    // The steps that a position may have.
+    // The steps of a position, the nodes of a contribution, and the request types and nodes of a manifest: at most so many.
     pub const STEPS: u64 = 24;
+    pub const CONTRIBUTION_NODES: u64 = 1_024;
+    pub const ENTRIES: u64 = 64;
+    pub const NODES: u64 = 4_096;
 
     // The one length of a state.
     pub fn words(self) -> usize
@@ -54,12 +57,12 @@ impl Kind {
             Kind::Contribution => Limits {
                 single: true,
                 entries: 1,
-                nodes: 1_024,
+                nodes: Kind::CONTRIBUTION_NODES,
             },
             Kind::Manifest => Limits {
                 single: false,
-                entries: 64,
-                nodes: 4_096,
+                entries: Kind::ENTRIES,
+                nodes: Kind::NODES,
             },
         }
     }

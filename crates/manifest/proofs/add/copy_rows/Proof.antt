@@ -8,8 +8,6 @@ use lib.Seq.{sets, length-sets}
 use Rattle.manifest.specs.AddLaws.{copied-more}
 use Rattle.manifest.proofs.add.copy_rows.Statement.{statement}
 use Rattle.manifest.proofs.add.copy_rows.Tie as tie
-use Rattle.manifest.proofs.add.copy_rows.Reads as reads
-use Rattle.manifest.proofs.add.copy_rows.Lts as lts
 
 abbrev Inv-loop : tie.InvT-loop
 Inv-loop from to₀ end i₀ to i = (i ≤ getD from 0 0 + 1) × (to ≡ sets to₀ 0 (take i from))
@@ -21,54 +19,42 @@ abbrev μ-loop : tie.MeasureT-loop
 kept : (c : tie.At-loop Inv-loop μ-loop) → length (c .loop .to) ≡ length (c .before .before .args .to .now)
 kept c = ap length (c .loop .inv .1) ∙ length-sets (c .before .before .args .to .now) 0 (take (c .loop .i) (c .before .before .args .from .now))
 
--- src/add.rt:77:15
 shared-slice-read-end : tie.Need-shared-slice-read-end Inv-loop μ-loop
 shared-slice-read-end c = search needs
 
--- src/add.rt:77:15
 add-end : tie.Need-add-end Inv-loop μ-loop
 add-end c = search needs
 
--- src/add.rt:79:5
 loop-holds : tie.Need-loop-holds Inv-loop μ-loop
 loop-holds c = (omega arith, refl)
 
--- src/add.rt:80:17
 mul-to : tie.Need-mul-to Inv-loop μ-loop
 mul-to c = search needs
 
--- src/add.rt:80:17
 shared-slice-read-to : tie.Need-shared-slice-read-to Inv-loop μ-loop
 shared-slice-read-to c = search needs
 
--- src/add.rt:80:9
 mul-to-2 : tie.Need-mul-to-2 Inv-loop μ-loop
 mul-to-2 c = omega (arith, kept (c .before .before))
 
--- src/add.rt:80:9
 slice-write-to : tie.Need-slice-write-to Inv-loop μ-loop
 slice-write-to c = omega (arith, kept (c .before .before))
 
--- src/add.rt:81:9
 add-i : tie.Need-add-i Inv-loop μ-loop
 add-i c = search needs
 
--- src/add.rt:79:5
 loop-less : tie.Need-loop-less Inv-loop μ-loop
 loop-less c = search needs
 
--- src/add.rt:79:5
 loop-again : tie.Need-loop-again Inv-loop μ-loop
 loop-again c =
     let inv = c .before .before .loop .inv in
     let start = c .before .before .before .before in
     (omega (arith, c .before .loop-test .taken), rw (inv .1) (copied-more (start .args .from .now) (start .args .to .now) (c .before .before .loop .i) (omega (arith, c .before .loop-test .taken, start .pre))))
 
--- src/add.rt:73:1
 same-length : tie.Need-same-length Inv-loop μ-loop
 same-length c = kept (c .before)
 
--- src/add.rt:73:1
 returns : tie.Need-returns Inv-loop μ-loop
 returns c =
     let all : c .before .loop .i ≡ getD (c .before .before .before .args .from .now) 0 0 + 1 = omega (arith, c .before .loop .inv .0, c .loop-test .left) in

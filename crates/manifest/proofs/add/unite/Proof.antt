@@ -7,9 +7,6 @@ use lib.ListN.{length, getD}
 use Rattle.trie.specs.StateLaws.{count-within, words-good}
 use Rattle.manifest.proofs.add.unite.Statement.{statement}
 use Rattle.manifest.proofs.add.unite.Tie as tie
-use Rattle.manifest.proofs.add.unite.Reads as reads
-use Rattle.manifest.proofs.add.unite.Lts as lts
-use Rattle.trie.proofs.union_rows.Reads as union-rows-reads
 
 -- the counts lie within the states
 manifest-count : (c : tie.Start) → getD (c .args .manifest .now) 0 0 < length (c .args .manifest .now)
@@ -18,55 +15,42 @@ manifest-count c = count-within _ _ (c .pre .0)
 contribution-count : (c : tie.Start) → getD (c .args .contribution .now) 0 0 < length (c .args .contribution .now)
 contribution-count c = count-within _ _ (c .pre .1)
 
--- src/add.rt:62:24
 shared-slice-read-manifest-end : tie.Need-shared-slice-read-manifest-end
 shared-slice-read-manifest-end c = omega (arith, manifest-count (c .before .before .before .before))
 
--- src/add.rt:62:24
 add-manifest-end : tie.Need-add-manifest-end
 add-manifest-end c = omega (arith, manifest-count (c .before .before .before .before), c .before .before .before .before)
 
--- src/add.rt:63:28
 shared-slice-read-contribution-end : tie.Need-shared-slice-read-contribution-end
 shared-slice-read-contribution-end c = omega (arith, contribution-count (c .before .before .before .before .before))
 
--- src/add.rt:63:28
 add-contribution-end : tie.Need-add-contribution-end
 add-contribution-end c = omega (arith, contribution-count (c .before .before .before .before .before), c .before .before .before .before .before)
 
--- src/add.rt:66:9
 sub-union-rows : tie.Need-sub-union-rows
 sub-union-rows c = search needs
 
--- src/add.rt:66:9
 part-union-rows-start : tie.Need-part-union-rows-start
 part-union-rows-start c = search needs
 
--- src/add.rt:66:9
 part-union-rows-end : tie.Need-part-union-rows-end
 part-union-rows-end c = omega (arith, manifest-count (c .before .before .before .before .before))
 
--- src/add.rt:67:9
 sub-union-rows-2 : tie.Need-sub-union-rows-2
 sub-union-rows-2 c = search needs
 
--- src/add.rt:67:9
 part-union-rows-start-2 : tie.Need-part-union-rows-start-2
 part-union-rows-start-2 c = search needs
 
--- src/add.rt:67:9
 part-union-rows-end-2 : tie.Need-part-union-rows-end-2
 part-union-rows-end-2 c = omega (arith, contribution-count (c .before .before .before .before .before .before))
 
--- src/add.rt:64:5
 union-rows-requires : tie.Need-union-rows-requires
 union-rows-requires c κs = let pre = c .before .before .before .before .before .before .before .before .pre in (rw add-sub-cancel (words-good _ _ (pre .0)), rw add-sub-cancel (words-good _ _ (pre .1)), pre .2)
 
--- src/add.rt:58:1
 same-length : tie.Need-same-length
 same-length c = search needs
 
--- src/add.rt:58:1
 returns : tie.Need-returns
 returns c = simp add-sub-cancel at (c .before .before .union-rows .ensures)
 

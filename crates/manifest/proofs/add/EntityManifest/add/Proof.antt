@@ -17,12 +17,6 @@ use Rattle.trie.specs.StateLaws.{by-parts}
 use Rattle.manifest.specs.AddLaws.{add-short-m, add-short-c, add-unlawful-m, add-unlawful-c, add-lawful, same-reply, refused-kept, done-rows, added-most, held-count, held-copied}
 use Rattle.manifest.proofs.add.EntityManifest.add.Statement.{statement}
 use Rattle.manifest.proofs.add.EntityManifest.add.Tie as tie
-use Rattle.manifest.proofs.add.EntityManifest.add.Reads as reads
-use Rattle.manifest.proofs.add.EntityManifest.add.Lts as lts
-use Rattle.manifest.proofs.add.copy_rows.Reads as copy-rows-reads
-use Rattle.manifest.proofs.add.unite.Reads as unite-reads
-use Rattle.trie.proofs.Kind.words.Reads as words-reads
-use Rattle.trie.proofs.is_lawful.Reads as is-lawful-reads
 
 abbrev start : tie.Else1 → tie.Start
 start c = c .before .before .before
@@ -37,62 +31,48 @@ lawful-m c = sym (c .before .is-lawful .ensures) ∙ not-false _ (c .if3 .left)
 lawful-c : (c : tie.Else4) → lawfulState contribution (start (c .before .before .before .before .before .before .before) .args .contribution .now) ≡ true
 lawful-c c = sym (c .before .is-lawful2 .ensures) ∙ not-false _ (c .if4 .left)
 
--- src/add.rt:36:13
 returns : tie.Need-returns
 returns c = let a = c .before .before .before .args in by-parts (add-short-m (a .manifest .now) (a .contribution .now) (c .if1 .taken))
 
--- src/add.rt:38:33
 words-requires : tie.Need-words-requires
 words-requires c κs = search needs
 
--- src/add.rt:39:13
 returns-2 : tie.Need-returns-2
 returns-2 c = let a = start (c .before .before) .args in by-parts (add-short-c (a .manifest .now) (a .contribution .now) (c .before .before .if1 .left) (omega (arith, c .before .words .ensures, c .if2 .taken)))
 
--- src/add.rt:41:13
 is-lawful-requires : tie.Need-is-lawful-requires
 is-lawful-requires c κs = search needs
 
--- src/add.rt:42:13
 same-length : tie.Need-same-length
 same-length c = search needs
 
--- src/add.rt:42:13
 returns-3 : tie.Need-returns-3
 returns-3 c = let a = start (c .before .before .before .before .before) .args in by-parts (add-unlawful-m (a .manifest .now) (a .contribution .now) (c .before .before .before .before .before .if1 .left) (long-c (c .before .before .before)) (sym (c .before .is-lawful .ensures) ∙ not-true _ (c .if3 .taken)))
 
--- src/add.rt:44:13
 is-lawful-requires-2 : tie.Need-is-lawful-requires-2
 is-lawful-requires-2 c κs = search needs
 
--- src/add.rt:45:13
 same-length-2 : tie.Need-same-length-2
 same-length-2 c = search needs
 
--- src/add.rt:45:13
 returns-4 : tie.Need-returns-4
 returns-4 c = let a = start (c .before .before .before .before .before .before .before) .args in by-parts (add-unlawful-c (a .manifest .now) (a .contribution .now) (c .before .before .before .before .before .before .before .if1 .left) (long-c (c .before .before .before .before .before)) (lawful-m (c .before .before)) (sym (c .before .is-lawful2 .ensures) ∙ not-true _ (c .if4 .taken)))
 
--- src/add.rt:48:51
 slice-aggregate-unite : tie.Need-slice-aggregate-unite
 slice-aggregate-unite c = search needs
 
--- src/add.rt:48:13
 unite-requires : tie.Need-unite-requires
 unite-requires c κs = (lawful-m (c .before .before .before .before), lawful-c (c .before .before), omega arith)
 
 enum-told : tie.Need-enum-told
 enum-told c = search needs
 
--- src/add.rt:50:13
 enum-told-2 : tie.Need-enum-told-2
 enum-told-2 c = search needs
 
--- src/add.rt:50:13
 same-length-3 : tie.Need-same-length-3
 same-length-3 c = search needs
 
--- src/add.rt:50:13
 -- what was united are rows that fit a manifest
 united-rows : (c : tie.After-enum-told) → let a = start (c .before .before .before .before .before .before .before .before .before .before .before .before .before) .args in (rows : List Row) × (add (rowsIn (a .manifest .now)) (rowsIn (a .contribution .now)) ≡ accepted rows) × (length rows ≤ 4160) × (c .before .before .before .unite .last .1 .1 .0 ≡ holding (replicate 4161 0) rows)
 united-rows c =
@@ -113,11 +93,9 @@ returns-5 c =
       sym (refused-kept (replicate 4161 0) (a .manifest .now) answer (told .0 .0) (told .0 .1 .0) (sym (united .0) ∙ told .1)) ∙ e .1,
     )
 
--- src/add.rt:52:19
 slice-aggregate-copy-rows : tie.Need-slice-aggregate-copy-rows
 slice-aggregate-copy-rows c = search needs
 
--- src/add.rt:52:9
 copy-rows-requires : tie.Need-copy-rows-requires
 copy-rows-requires c κs =
     let u = united-rows (c .before .before) in
@@ -126,11 +104,9 @@ copy-rows-requires c κs =
       rw (u .3) (omega (arith, c .before .before .before .before .before .before .before .before .before .before .before .before .before .before .before .if1 .left, length-sets (replicate 4161 0) 0 (length (u .0) ∷ map wordOf (u .0)))),
     )
 
--- src/add.rt:32:5
 same-length-4 : tie.Need-same-length-4
 same-length-4 c = search needs
 
--- src/add.rt:32:5
 returns-6 : tie.Need-returns-6
 returns-6 c =
     let a = start (c .before .before .before .before .before .before .before .before .before .before .before .before .before .before .before .before .before .before) .args in
