@@ -34,10 +34,16 @@ pub struct Limits {
 }
 
 impl Kind {
-    // The steps of a position, the nodes of a contribution, and the request types and nodes of a manifest: at most so many.
+    // A position has at most so many steps.
     pub const STEPS: u64 = 24;
+
+    // A contribution has at most so many nodes.
     pub const CONTRIBUTION_NODES: u64 = 1_024;
+
+    // A manifest has at most so many request types.
     pub const ENTRIES: u64 = 64;
+
+    // A manifest has at most so many nodes.
     pub const NODES: u64 = 4_096;
 
     // The one length of a state.
