@@ -20,7 +20,7 @@ use Rattle.rules.specs.Tries.{Row, Form, stepOf, requestOf, isEntry, isRow, at,
 use Rattle.rules.specs.TrieLaws.{Follows, follows-true, true-follows}
 use Rattle.rules.specs.Listing.{Sofar, isLetter, placeIn, letters, markOf, read, ofForm, entryOf, nodeOf, rowOf, past, refusal, before, rowsFrom, enteredBy, _>>=_}
 use Rattle.text.specs.Answers.{lineAt, firstLine, fieldAt, firstField}
-use Rattle.text.proofs.Laws.{more-within, whole-within}
+use Rattle.text.proofs.Laws.{more-within, whole-within, letter-none}
 use Rattle.text.specs.declared.Line.{Line}
 use Rattle.text.specs.declared.Line.the-variants.{End, Whole, Cut}
 use Rattle.text.specs.declared.Field.{Field}
@@ -50,7 +50,7 @@ parted-next b at s part next more e =
     e ∙ sym (rw (first, behind, split .2))
 
 -- a part that stands alone is the whole
-parted-one : (b : ℕ) (xs part : List ℕ) → parted b xs ≡ part ∷ [] → parted b xs ≡ xs ∷ []
+pub parted-one : (b : ℕ) (xs part : List ℕ) → parted b xs ≡ part ∷ [] → parted b xs ≡ xs ∷ []
 unfolding parted
 parted-one b [] part e = refl
 parted-one b (x ∷ xs) part e = go (eqb x b) (λ first h. parted-one b xs first h) (parted-some b xs) e
@@ -102,19 +102,7 @@ fields-last line at r ensured e = go (fieldsOf (drop at line)) refl (sym ensured
 
 -- ---- the numbers of a row
 
--- a field of one byte is that letter or not
-pub letter-one : (letter : ℕ) (field : List ℕ) → length field ≡ 1 → isLetter letter field ≡ eqb (getD field 0 0) letter
-letter-one letter [] h = absurd (omega arith)
-letter-one letter (byte ∷ []) h = refl
-letter-one letter (byte ∷ more ∷ field) h = absurd (omega arith)
-
--- a field of no byte, or of more, is no letter
-pub letter-none : (letter : ℕ) (field : List ℕ) → (length field ≡ 1 → ⊥) → isLetter letter field ≡ false
-letter-none letter [] h = refl
-letter-none letter (byte ∷ []) h = absurd (h refl)
-letter-none letter (byte ∷ more ∷ field) h = refl
-
--- and it is at no place among letters
+-- a field of no byte, or of more, is at no place among letters
 pub place-none : (xs field : List ℕ) → (length field ≡ 1 → ⊥) → placeIn xs field ≡ none
 unfolding placeIn
 place-none [] field h = refl
@@ -281,7 +269,7 @@ refusal-none form sofar row e =
     }
 
 -- a step that has a value has both
-bind-some : {A B : Type 0} (o : Option A) (then : A → Option B) (b : B) → (o >>= then) ≡ some b → (a : A) × (o ≡ some a) × (then a ≡ some b)
+pub bind-some : {A B : Type 0} (o : Option A) (then : A → Option B) (b : B) → (o >>= then) ≡ some b → (a : A) × (o ≡ some a) × (then a ≡ some b)
 bind-some none then b e = absurd (Option·none-ne-some b e)
 bind-some (some a) then b e = (a, refl, e)
 
@@ -334,7 +322,7 @@ place-next path len row fits near inside =
     rw (add-one, take-suc-set path (row .depth) (row .step) inside, take-take (row .depth) len path near)
 
 -- a word behind the others is stored after them
-stored-next : (rows : List ℕ) (count word : ℕ) → count + 1 < length rows → stored (count + 1) (set rows (count + 1) word) ≡ stored count rows ++ (word ∷ [])
+pub stored-next : (rows : List ℕ) (count word : ℕ) → count + 1 < length rows → stored (count + 1) (set rows (count + 1) word) ≡ stored count rows ++ (word ∷ [])
 stored-next rows count word inside =
     let behind : drop 1 (set rows (count + 1) word) ≡ set (drop 1 rows) count word = rw (add-comm count 1) (drop-set-add 1 rows count word) in
     rw behind (rw add-one (take-suc-set (drop 1 rows) count word (omega (arith, length-drop 1 rows))))
@@ -386,7 +374,7 @@ row-passed limits kept line path rows row {word} {next} room e unrefused packed 
 -- ---- the lines of a text
 
 -- a line that an LF ends stands in front of the lines behind the LF
-lines-whole : (text : List ℕ) (at end : ℕ) (r : Line) → r ≡ lineAt text at → r ≡ Whole end →
+pub lines-whole : (text : List ℕ) (at end : ℕ) (r : Line) → r ≡ lineAt text at → r ≡ Whole end →
     linesOf (drop at text) ≡ take (end - at) (drop at text) ∷ linesOf (drop (end + 1) text)
 lines-whole text at end r ensured e = go (linesOf (drop at text)) refl (sym ensured ∙ e)
   where
@@ -434,11 +422,11 @@ module _ (form : Form) (sofar : Sofar) (place : ℕ) where
 -- ---- reading from line to line
 
 -- words in front of those that are still to come
-abbrev behind : List ℕ → Answer (List ℕ) → Answer (List ℕ)
+abbrev pub behind : List ℕ → Answer (List ℕ) → Answer (List ℕ)
 behind words (accepted more) = accepted (words ++ more)
 behind words (refused number place) = refused number place
 
-behind-none : (answer : Answer (List ℕ)) → behind [] answer ≡ answer
+pub behind-none : (answer : Answer (List ℕ)) → behind [] answer ≡ answer
 behind-none (accepted more) = refl
 behind-none (refused number place) = refl
 

@@ -2,7 +2,7 @@
 ghost use mathlib.Core.Path.{_≡_};
 ghost use Prim.Native.Nat.{_≤_};
 ghost use Rattle.rules.specs.Text.{fieldsOf};
-ghost use Rattle.rules.specs.Listing.{rowOf, entryOf, nodeOf, letters, placeIn, isLetter};
+ghost use Rattle.rules.specs.Listing.{rowOf, entryOf, nodeOf, letters, placeIn};
 ghost use Rattle.manifest.specs.Lines.{rowRead, kindRead};
 ghost use Rattle.manifest.specs.Reads.{nodeRow};
 use text::Decimal;
@@ -36,17 +36,6 @@ fn step_kind(field: &[u8]) -> StepKind
         b'c' => StepKind::Of(4),
         b'e' => StepKind::Of(5),
         _ => StepKind::Other,
-    }
-}
-
-// Whether a field is one letter.
-fn is_letter(field: &[u8], letter: u8) -> bool
-    ensures { λ r. ⌜ r ≡ isLetter letter (now (field .entry)) ⌝ }
-{
-    if field.len() == 1 {
-        field[0] == letter
-    } else {
-        false
     }
 }
 
@@ -128,7 +117,7 @@ pub fn parse(line: &[u8]) -> Parsed
     };
     let fourth = third_end + 1;
     let Field::More(fourth_end) = Field::at(line, fourth) else {
-        if is_letter(&line[..word_end], b'A') {
+        if text::is_letter(&line[..word_end], b'A') {
             return entry(
                 &line[second..second_end],
                 &line[third..third_end],
@@ -141,7 +130,7 @@ pub fn parse(line: &[u8]) -> Parsed
     let Field::Last = Field::at(line, fifth) else {
         return Parsed::Bad;
     };
-    if is_letter(&line[..word_end], b'N') {
+    if text::is_letter(&line[..word_end], b'N') {
         return node(
             &line[second..second_end],
             &line[third..third_end],

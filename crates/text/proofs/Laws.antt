@@ -1,4 +1,4 @@
--- Laws of `before`, of the parts of a text by it, and of a run of stores that gets one more. No contract cites this file.
+-- Laws of `before`, of the parts of a text by it, of a run of stores that gets one more, and of letters. No contract cites this file.
 use Prim.Native.Nat.{ℕ, suc, _+_, _≤_, _<_}
 use native.Mathlib.Nat.{add-zero, add-suc, suc-add}
 use native.Mathlib.Numerals.{add-one}
@@ -13,6 +13,7 @@ use lib.ListN.{length, getD, drop, set, drop-of-length-le, length-append, length
 use lib.Seq.{drop-cons, sets}
 use Rattle.rules.specs.Text.{parted, linesOf, fieldsOf, decimalOf, LF, TAB}
 use Rattle.rules.specs.TextLaws.{Free, free-empty, free-more, parted-free, parted-first, parted-some, parted-split, decimal-written}
+use Rattle.rules.specs.Listing.{isLetter}
 use Rattle.text.specs.Answers.{lineAt, firstLine, fieldAt, firstField, numberOf}
 use Rattle.text.specs.Before.{before}
 use Rattle.text.specs.declared.Line.{Line}
@@ -125,3 +126,17 @@ value-most field r n ensured e = decimal-written field n (sym ensured ∙ ap num
 pub sets-snoc : (l : List ℕ) (i : ℕ) (xs : List ℕ) (v : ℕ) → sets l i (xs ++ (v ∷ [])) ≡ set (sets l i xs) (i + length xs) v
 sets-snoc l i [] v = rw add-zero
 sets-snoc l i (x ∷ xs) v = sets-snoc (set l i x) (suc i) xs v ∙ rw (suc-add, ← add-suc)
+
+-- ---- a field that is one letter
+
+-- a field of one byte is that letter or not
+pub letter-one : (letter : ℕ) (field : List ℕ) → length field ≡ 1 → isLetter letter field ≡ eqb (getD field 0 0) letter
+letter-one letter [] h = absurd (omega arith)
+letter-one letter (byte ∷ []) h = refl
+letter-one letter (byte ∷ more ∷ field) h = absurd (omega arith)
+
+-- a field of no byte, or of more, is no letter
+pub letter-none : (letter : ℕ) (field : List ℕ) → (length field ≡ 1 → ⊥) → isLetter letter field ≡ false
+letter-none letter [] h = refl
+letter-none letter (byte ∷ []) h = absurd (h refl)
+letter-none letter (byte ∷ more ∷ field) h = refl

@@ -4,6 +4,7 @@ ghost use Prim.Native.Nat.{_+_, _≤_};
 ghost use lib.ListN.{length, drop};
 ghost use lib.Seq.{sets};
 ghost use Rattle.rules.specs.Text.{decimalOf, decimal};
+ghost use Rattle.rules.specs.Listing.{isLetter};
 ghost use Rattle.text.specs.Answers.{lineAt, fieldAt, numberOf};
 ghost use Rattle.text.specs.Before.{before};
 
@@ -43,6 +44,17 @@ fn scan(s: &[u8], at: usize, b: u8) -> usize
         i += 1;
     }
     i
+}
+
+// Whether a field is one letter.
+pub fn is_letter(field: &[u8], letter: u8) -> bool
+    ensures { λ r. ⌜ r ≡ isLetter letter (now (field .entry)) ⌝ }
+{
+    if field.len() == 1 {
+        field[0] == letter
+    } else {
+        false
+    }
 }
 
 impl Line {

@@ -1,10 +1,10 @@
--- `manifest::line::is_letter` meets its contract: a field of one byte is that letter or not, and any other is none.
+-- `text::is_letter` meets its contract: a field of one byte is that letter or not, and any other is none.
 -- Assumes nothing.
 use mathlib.Core.Path.{sym}
-use Rattle.manifest.specs.ReadLaws.{letter-one, letter-none}
+use Rattle.text.proofs.Laws.{letter-one, letter-none}
 use borrow.Author.Needs.{needs}
-use Rattle.manifest.proofs.line.is_letter.Statement.{statement}
-use Rattle.manifest.proofs.line.is_letter.Tie as tie
+use Rattle.text.proofs.is_letter.Statement.{statement}
+use Rattle.text.proofs.is_letter.Tie as tie
 
 shared-slice-read-result : tie.Need-shared-slice-read-result
 shared-slice-read-result c = search needs
