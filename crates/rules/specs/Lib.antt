@@ -11,4 +11,5 @@ pub mod Listing
 pub mod BuildingLaws
 pub mod ListingLaws
 pub mod Demand3
+pub mod Schema
 pub mod Examples

@@ -1,0 +1,85 @@
+-- What a word of a schema says (docs/FORMS.md, 'Words'), and what each operation of `schema` answers.
+use Prim.Native.Nat.{ℕ, _+_, _*_, _/_, _%_, _^_}
+use mathlib.Core.Bool.{Bool, true, false, cond, _&&_}
+use mathlib.Core.List.{List, [], _∷_, map}
+use mathlib.Core.Option.{Option, none, some}
+use lib.Dec.{leb, ltb, eqb}
+use lib.ListN.{length, take, drop, getD}
+use lib.Seq.{sets}
+use Rattle.rules.specs.Numbers.{Answer, accepted, refused}
+use Rattle.rules.specs.Text.{decimalOf}
+use Rattle.rules.specs.Listing.{_>>=_}
+use Rattle.rules.specs.Schema.{Item, item, unknown, lawfulItems, readSchema, setType, entityType, entityLine, attributeLine, ascending, namesOf}
+use Rattle.trie.specs.States.{Outcome, refusing, wordsIn}
+use Rattle.trie.specs.declared.Reply.the-variants.{Done}
+use Rattle.schema.specs.declared.item.Item.{Item as ItemRead}
+use Rattle.schema.specs.declared.line.Parsed.{Parsed}
+use Rattle.schema.specs.declared.line.Parsed.the-variants.{Of, Bad}
+use Rattle.schema.specs.declared.line.Tag.{Tag}
+use Rattle.schema.specs.declared.line.Tag.the-variants.{Of as OfTag, Other}
+
+-- the item that a word says
+abbrev pub itemIn : ℕ → Item
+itemIn w = item (w % 16) (w / 16 % 2 ^ 36) (w / 2 ^ 40)
+
+-- the word that says an item
+abbrev pub wordFor : Item → ℕ
+wordFor it = it .tag + (it .value * 16 + it .key * 2 ^ 40)
+
+abbrev pub itemFor : ItemRead → Item
+itemFor it = item (it .tag) (it .value) (it .key)
+
+-- an item by itself: its key is an id, a number stands where a line has one, and of names only the first
+unfoldable pub isItem : Item → Bool
+isItem it =
+    leb (it .key) 65535
+    && cond (eqb (it .tag) entityType) (ltb (it .value) 131072)
+    (cond (eqb (it .tag) setType) true (cond (leb (it .tag) entityLine) (eqb (it .value) 0) (leb (it .tag) 14)))
+
+unfoldable pub allItems : List ℕ → Bool
+allItems [] = true
+allItems (w ∷ ws) = let rest : Bool = allItems ws in cond (isItem (itemIn w)) rest false
+
+-- the items that words say
+abbrev pub itemsOf : List ℕ → List Item
+itemsOf words = map itemIn words
+
+-- words that say lines which may stand one after the other
+abbrev pub goodItems : List ℕ → Bool
+goodItems words = allItems words && lawfulItems unknown (itemsOf words)
+
+-- a schema's items
+abbrev pub itemsIn : List ℕ → List Item
+itemsIn state = itemsOf (wordsIn state)
+
+-- the one length of a schema, and whether a lent one is lawful
+abbrev pub schemaWords : ℕ
+schemaWords = 142337
+
+unfoldable pub lawfulSchema : List ℕ → Bool
+lawfulSchema state = leb schemaWords (length state) && (ltb (getD state 0 0) schemaWords && goodItems (wordsIn state))
+
+-- what a line was read as
+abbrev pub itemRead : Parsed → Option Item
+itemRead (Of it) = some (itemFor it)
+itemRead Bad = none
+
+abbrev pub tagRead : Tag → Option ℕ
+tagRead (OfTag place) = some place
+tagRead Other = none
+
+abbrev pub given : {A : Type 0} → Option A → Bool
+given none = false
+given (some a) = true
+
+-- what the names of an entity type give
+abbrev pub namedBy : List (List ℕ) → Option ℕ
+namedBy fields = ascending 0 fields >>= namesOf
+
+-- reading: 31, then what the text gives by line
+abbrev pub storingItems : List ℕ → Answer (List Item) → Outcome
+storingItems out (accepted items) = record { reply = Done; buffer = sets out 0 (length items ∷ map wordFor items) }
+storingItems out (refused number place) = refusing number place out
+
+unfoldable pub readIn : List ℕ → List ℕ → Outcome
+readIn text out = cond (leb schemaWords (length out)) (storingItems out (readSchema text)) (refusing 31 0 out)

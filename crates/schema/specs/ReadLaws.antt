@@ -1,0 +1,276 @@
+-- Laws of the lines that a schema's text is read as. No contract cites this file.
+use Prim.Native.Nat.{ℕ, _+_, _-_, _≤_, _<_}
+use native.Mathlib.Numerals.{add-one}
+use native.Mathlib.Omega.{arith}
+use mathlib.Core.Bool.{Bool, true, false, cond}
+use mathlib.Core.List.{List, [], _∷_, _++_, map, append-nil, nil≢cons}
+use mathlib.Core.Option.{Option, none, some, Option·none-ne-some, Option·some-injective}
+use mathlib.Core.Path.{_≡_, refl, sym, ap, _∙_}
+use borrow.Author.Tests.{ne-eqb, eqb-true, leb-true, le-leb, lt-leb}
+use lib.Dec.{eqb, leb}
+use lib.ListN.{length, take, drop, set, getD, length-drop, length-set, length-map, drop-of-length-le}
+use lib.Seq.{append-snoc, sets, getD-set-same, length-take-le}
+use Rattle.rules.specs.Facts.{by-option, cond-some}
+use Rattle.rules.specs.Numbers.{Answer, accepted, refused}
+use Rattle.rules.specs.Text.{parted, bytes, linesOf, fieldsOf, decimalOf, LF}
+use Rattle.rules.specs.TextLaws.{parted-some, decimal-written}
+use Rattle.rules.specs.Listing.{_>>=_, isLetter, placeIn}
+use Rattle.rules.specs.Schema.{Item, Known, item, unknown, ascending, valueOf, typeOf, pairOf, itemOf, fits, beyond, ahead, itemsFrom, readSchema}
+use Rattle.text.specs.Answers.{lineAt, firstLine}
+use Rattle.text.proofs.Laws.{whole-within}
+use Rattle.text.specs.declared.Line.{Line}
+use Rattle.text.specs.declared.Line.the-variants.{Whole}
+use Rattle.trie.specs.States.{refusing}
+use Rattle.trie.specs.declared.Reply.the-variants.{Done}
+use Rattle.manifest.specs.ReadLaws.{parted-one, lines-whole, stored-next, bind-some, behind, behind-none, place-within}
+use Rattle.schema.specs.declared.known.Known.{Known as Kept}
+use Rattle.schema.specs.Items.{given, namedBy, wordFor, storingItems, readIn}
+use Rattle.schema.specs.Reads.{knownFor, Bounded, stored, Room, Passed, refusedLine, wordsFor}
+use Rattle.schema.specs.KnownLaws.{most-lines, bounded-beyond, counted-beyond}
+use Rattle.schema.specs.LineLaws.{named-bad, named-more}
+
+-- ---- the numbers of an item
+
+-- a test that gives a value gives the one or the other
+cond-either : {A B : Type 0} (test : Bool) (o o′ : Option A) (a : A) → cond test o o′ ≡ some a → (test ≡ true → o ≡ some a → B) → (o′ ≡ some a → B) → B
+cond-either true o o′ a e this other = this refl e
+cond-either false o o′ a e this other = other e
+
+-- what follows a kind is there for a kind of a type only, and is small
+value-fits : (kind : ℕ) (more : List (List ℕ)) (v : ℕ) → valueOf kind more ≡ some v → (kind ≤ 10) × (v < 131072)
+value-fits kind [] v e =
+    let (low, e₁) = cond-some (leb kind 10) _ v e in
+    cond-either (eqb kind 6) none _ v e₁
+    (λ t n. absurd (Option·none-ne-some v n))
+    (λ e₂. cond-either (eqb kind 9) none (some 0) v e₂
+    (λ t n. absurd (Option·none-ne-some v n))
+    (λ e₃. let none-more : 0 ≡ v = Option·some-injective 0 v e₃ in (leb-true kind 10 low, omega arith)))
+value-fits kind (field ∷ []) v e =
+    cond-either (eqb kind 6) (decimalOf field) _ v e
+    (λ t d. (omega (arith, eqb-true kind 6 t), omega (arith, decimal-written field v d .1)))
+    (λ e₁. let (t, d) = cond-some (eqb kind 9) (decimalOf field) v e₁ in
+    (omega (arith, eqb-true kind 9 t), omega (arith, decimal-written field v d .1)))
+value-fits kind (field ∷ next ∷ fields) v e =
+    let (t, named) = cond-some (eqb kind 9) _ v e in
+    (omega (arith, eqb-true kind 9 t), first named)
+  where
+    first : namedBy (field ∷ next ∷ fields) ≡ some v → v < 131072
+    first named =
+        by-option (decimalOf field)
+        (λ d. absurd (Option·none-ne-some v (sym (named-bad field next fields d) ∙ named)))
+        (λ n d. let (_, e) = cond-some (given (ascending (n + 1) (next ∷ fields))) (some (n + 65536)) v (sym (named-more field next fields d refl) ∙ named) in
+        let both : n + 65536 ≡ v = Option·some-injective (n + 65536) v e in
+        omega (arith, decimal-written field n d .1))
+
+-- a line's item fits its word
+abbrev pub ItemFits : Item → Type 0
+ItemFits it = (it .tag < 16) × (it .value < 131072) × (it .key ≤ 65535)
+
+type-fits : (a b : List ℕ) (more : List (List ℕ)) (it : Item) → typeOf a b more ≡ some it → ItemFits it
+type-fits a b more it e =
+    let (n, n-read, e₁) = bind-some (decimalOf a) _ it e in
+    let (k, k-read, e₂) = bind-some (decimalOf b) _ it e₁ in
+    let (v, v-read, e₃) = bind-some (valueOf k more) _ it e₂ in
+    let (low, small) = value-fits k more v v-read in
+    rw (← Option·some-injective (item k v n) it e₃) (omega arith, small, decimal-written a n n-read .1)
+
+pair-fits : (word a b : List ℕ) (it : Item) → pairOf word a b ≡ some it → ItemFits it
+pair-fits word a b it e =
+    let (place, place-read, e₁) = bind-some (placeIn (bytes "FLC") word) _ it e in
+    let (k, k-read, e₂) = bind-some (decimalOf a) _ it e₁ in
+    let (t, t-read, e₃) = bind-some (decimalOf b) _ it e₂ in
+    rw (← Option·some-injective (item (12 + place) t k) it e₃) (
+      omega (arith, place-within (bytes "FLC") word place place-read),
+      omega (arith, decimal-written b t t-read .1),
+      decimal-written a k k-read .1,
+    )
+
+entity-fits : (name : List ℕ) (it : Item) → (decimalOf name >>= (λ n. some (item 11 0 n))) ≡ some it → ItemFits it
+entity-fits name it e =
+    let (n, n-read, e₁) = bind-some (decimalOf name) _ it e in
+    rw (← Option·some-injective (item 11 0 n) it e₁) (omega arith, omega arith, decimal-written name n n-read .1)
+
+pub item-fits : (fields : List (List ℕ)) (it : Item) → itemOf fields ≡ some it → ItemFits it
+unfolding itemOf
+item-fits [] it e = absurd (Option·none-ne-some it e)
+item-fits (word ∷ []) it e = absurd (Option·none-ne-some it e)
+item-fits (word ∷ name ∷ []) it e = entity-fits name it (cond-some (isLetter 69 word) _ it e .1)
+item-fits (word ∷ a ∷ b ∷ []) it e = cond-either (isLetter 84 word) (typeOf a b []) (pairOf word a b) it e (λ t. type-fits a b [] it) (pair-fits word a b it)
+item-fits (word ∷ a ∷ b ∷ c ∷ more) it e = type-fits a b (c ∷ more) it (cond-some (isLetter 84 word) _ it e .1)
+
+-- ---- a line that is taken
+
+-- there is room for the word of a line that may come
+pub room-next : (count : ℕ) (kept : Kept) (words : List ℕ) (it : Item) → Room count kept words → fits (knownFor kept) it ≡ true → count + 1 < length words
+room-next count kept words it room may =
+    omega (
+      arith,
+      room .words-length,
+      counted-beyond (knownFor kept) it (room .bounded) may count (room .counted),
+      most-lines (beyond (knownFor kept) it) (bounded-beyond (knownFor kept) it (room .bounded) may),
+    )
+
+pub item-passed :
+    (count : ℕ) (kept : Kept) (line words : List ℕ) (it : Item) {word : ℕ} {next : Kept} →
+    Room count kept words →
+    itemOf (fieldsOf line) ≡ some it →
+    fits (knownFor kept) it ≡ true →
+    word ≡ wordFor it →
+    knownFor next ≡ beyond (knownFor kept) it →
+    Bounded (knownFor next) →
+    Passed count kept line words (set words (count + 1) word) next
+item-passed count kept line words it {word} {next} room e may packed past bounded =
+    let left : next .room ≡ beyond (knownFor kept) it .room = ap (λ (k : Known). k .room) past in
+    let section : next .section ≡ beyond (knownFor kept) it .section = ap (λ (k : Known). k .section) past in
+    let lines : next .lines ≡ beyond (knownFor kept) it .lines = ap (λ (k : Known). k .lines) past in
+    record {
+      it = it;
+      read-item = e;
+      may-follow = may;
+      comes-past = past;
+      stored-word = rw packed (stored-next words count (wordFor it) (room-next count kept words it room may));
+      room = record {
+        bounded = bounded;
+        words-length = simp length-set (room .words-length);
+        counted = rw (left, section, lines) (counted-beyond (knownFor kept) it (room .bounded) may count (room .counted));
+      };
+    }
+
+-- ---- the lines of a text
+
+module _ (known : Known) (place : ℕ) where
+  -- what is left without an LF is a line of no form
+  items-cut : (text : List ℕ) (at : ℕ) (r : Line) → r ≡ lineAt text at → ((end : ℕ) → r ≡ Whole end → ⊥) → at < length text →
+      itemsFrom known place (linesOf (drop at text)) ≡ refused 1 place
+  unfolding itemsFrom
+  items-cut text at r ensured unended inside = go (linesOf (drop at text)) refl ensured
+    where
+      go : (lines : List (List ℕ)) → linesOf (drop at text) ≡ lines → r ≡ firstLine at lines → itemsFrom known place (linesOf (drop at text)) ≡ refused 1 place
+      go [] q e = absurd (nil≢cons (sym q ∙ parted-some LF (drop at text) .2))
+      go (line ∷ []) q e =
+          rw (parted-one LF (drop at text) line q, ne-eqb (length (drop at text)) 0 (omega (arith, length-drop at text)))
+      go (line ∷ next ∷ lines) q e = absurd (unended (at + length line) e)
+
+  module _ (line rest : List ℕ) where
+    -- a line that may come stands before those behind it
+    items-next : (it : Item) → itemOf (fieldsOf line) ≡ some it → fits known it ≡ true →
+        itemsFrom known place (line ∷ linesOf rest) ≡ ahead it (itemsFrom (beyond known it) (place + 1) (linesOf rest))
+    unfolding itemsFrom
+    items-next it e may = rw (parted-some LF rest .2, itemsFrom, e, may)
+
+    -- any other is where reading ends
+    items-stopped : refusedLine known (itemOf (fieldsOf line)) → itemsFrom known place (line ∷ linesOf rest) ≡ refused 1 place
+    unfolding itemsFrom
+    items-stopped stopped = go (itemOf (fieldsOf line)) refl stopped
+      where
+        go : (it : Option Item) → itemOf (fieldsOf line) ≡ it → refusedLine known it → itemsFrom known place (line ∷ linesOf rest) ≡ refused 1 place
+        go none q e = rw (parted-some LF rest .2, itemsFrom, q)
+        go (some it) q e = rw (parted-some LF rest .2, itemsFrom, q, e)
+
+-- ---- reading from line to line
+
+behind-item : (words : List ℕ) (it : Item) (answer : Answer (List Item)) →
+    behind words (wordsFor (ahead it answer)) ≡ behind (words ++ (wordFor it ∷ [])) (wordsFor answer)
+behind-item words it (accepted items) = rw (append-snoc words (wordFor it) (map wordFor items))
+behind-item words it (refused number place) = refl
+
+-- the words of what a text gives are those that are stored, and then those of the lines that are left
+pub record Reading (text : List ℕ) (kept : Kept) (words : List ℕ) (at count : ℕ) : Type 0 where
+  pub room : Room count kept words
+  pub inside : at ≤ length text
+  pub left :
+      wordsFor (readSchema text)
+      ≡ behind (stored count words) (wordsFor (itemsFrom (knownFor kept) count (linesOf (drop at text))))
+
+pub reading-none : (text words : List ℕ) (kept : Kept) → knownFor kept ≡ unknown → Bounded unknown → length words ≡ 142337 → Reading text kept words 0 0
+reading-none text words kept start bounded fits =
+    let none-left : kept .room ≡ 0 = ap (λ (k : Known). k .room) start in
+    record {
+      room = record { bounded = rw start bounded; words-length = fits; counted = rw none-left (omega arith) };
+      inside = omega arith;
+      left = rw start (sym (behind-none _));
+    }
+
+module _ {text : List ℕ} {kept : Kept} {words : List ℕ} {at count : ℕ} (reading : Reading text kept words at count) where
+  -- there are fewer items than a state has words
+  pub few-items : count < 142337
+  few-items = omega (arith, reading .room .counted, most-lines (knownFor kept) (reading .room .bounded))
+
+  -- no line is left
+  pub reading-all : length text ≤ at → accepted (stored count words) ≡ wordsFor (readSchema text)
+  unfolding itemsFrom parted
+  reading-all h = sym (reading .left ∙ rw (drop-of-length-le text h, append-nil))
+
+  -- the next line has no LF
+  pub reading-cut : {r : Line} → r ≡ lineAt text at → ((end : ℕ) → r ≡ Whole end → ⊥) → at < length text →
+      refused 1 count ≡ wordsFor (readSchema text)
+  reading-cut {r} ensured unended more =
+      sym (reading .left ∙ rw (items-cut (knownFor kept) count text at r ensured unended more))
+
+  module _ {end : ℕ} {r : Line} (ensured : r ≡ lineAt text at) (e : r ≡ Whole end) where
+    -- the next line is refused
+    pub reading-stopped : refusedLine (knownFor kept) (itemOf (fieldsOf (take (end - at) (drop at text)))) → refused 1 count ≡ wordsFor (readSchema text)
+    reading-stopped stopped =
+        sym (reading .left ∙ rw (lines-whole text at end r ensured e, items-stopped (knownFor kept) count _ _ stopped))
+
+    -- the next line is taken
+    pub reading-next : {words′ : List ℕ} {next : Kept} → Passed count kept (take (end - at) (drop at text)) words words′ next →
+        Reading text next words′ (end + 1) (count + 1)
+    reading-next passed =
+        let (behind-at, within) = whole-within text at end r ensured e in
+        record {
+          room = passed .room;
+          inside = omega arith;
+          left =
+              reading .left
+              ∙ rw (
+                lines-whole text at end r ensured e,
+                items-next (knownFor kept) count _ _ (passed .it) (passed .read-item) (passed .may-follow),
+                behind-item (stored count words) (passed .it) _,
+                ← passed .stored-word,
+                ← passed .comes-past,
+              );
+        }
+
+-- ---- what reading answers, by what was tested
+
+-- the words that were read are stored with their count
+stored-words : (out : List ℕ) (answer : Answer (List Item)) (words : List ℕ) → accepted words ≡ wordsFor answer →
+    storingItems out answer ≡ record { reply = Done; buffer = sets out 0 (length words ∷ words) }
+stored-words out (accepted items) words e =
+    let all-read : words ≡ map wordFor items = cc in
+    rw (all-read, length-map items wordFor)
+stored-words out (refused number place) words e = absurd (let z : _≡_ {A = ℕ} 0 1 = cc in omega arith)
+
+no-items : (out : List ℕ) (answer : Answer (List Item)) (number place : ℕ) → refused number place ≡ wordsFor answer →
+    storingItems out answer ≡ refusing number place out
+no-items out (accepted items) number place e = absurd (let z : _≡_ {A = ℕ} 0 1 = cc in omega arith)
+no-items out (refused n p) number place e =
+    let same-number : number ≡ n = cc in
+    let same-place : place ≡ p = cc in
+    rw (same-number, same-place)
+
+module _ (text out : List ℕ) where
+  pub read-short : length out < 142337 → readIn text out ≡ refusing 31 0 out
+  unfolding readIn
+  read-short h = rw (lt-leb 142337 (length out) h)
+
+  module _ (long : 142337 ≤ length out) where
+    pub read-refused : {number place : ℕ} → refused number place ≡ wordsFor (readSchema text) → readIn text out ≡ refusing number place out
+    unfolding readIn
+    read-refused {number} {place} e = rw (le-leb 142337 (length out) long) (no-items out (readSchema text) number place e)
+
+    pub read-stored : {words : List ℕ} → accepted words ≡ wordsFor (readSchema text) →
+        readIn text out ≡ record { reply = Done; buffer = sets out 0 (length words ∷ words) }
+    unfolding readIn
+    read-stored {words} e = rw (le-leb 142337 (length out) long) (stored-words out (readSchema text) words e)
+
+-- words with their count in front are more than they count
+pub counted-room : (words : List ℕ) (count : ℕ) → count < length words → getD (set words 0 count) 0 0 < length (set words 0 count)
+counted-room words count h = simp length-set (omega (arith, getD-set-same words 0 count 0 (omega arith)))
+
+-- and as they are copied
+pub copied : (words : List ℕ) (count : ℕ) → count < length words →
+    take (getD (set words 0 count) 0 0 + 1) (set words 0 count) ≡ length (stored count words) ∷ stored count words
+copied [] count h = absurd (omega arith)
+copied (x ∷ rest) count h = rw (add-one, length-take-le count rest (omega arith))

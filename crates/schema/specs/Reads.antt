@@ -1,0 +1,83 @@
+-- What reading a schema keeps from line to line, for the contracts of `known` and `reading`.
+use Prim.Native.Nat.{ℕ, _+_, _*_, _≤_, _<_}
+use mathlib.Core.Bool.{true, false, cond}
+use mathlib.Core.List.{List, [], _∷_, _++_, map}
+use mathlib.Core.Option.{Option, none, some}
+use mathlib.Core.Path.{_≡_}
+use lib.Dec.{eqb}
+use lib.ListN.{length, take, drop}
+use Rattle.rules.specs.Numbers.{Answer, accepted, refused}
+use Rattle.rules.specs.Text.{fieldsOf}
+use Rattle.rules.specs.Schema.{Item, Known, itemOf, fits, beyond}
+use Rattle.schema.specs.Items.{wordFor}
+use Rattle.schema.specs.declared.known.Known.{Known as Kept}
+use Rattle.schema.specs.declared.reading.Took.{Took}
+use Rattle.schema.specs.declared.reading.Took.the-variants.{Next, Refused as Stopped}
+use Rattle.schema.specs.declared.reading.Got.{Got}
+use Rattle.schema.specs.declared.reading.Got.the-variants.{Items, Refused}
+
+abbrev pub knownFor : Kept → Known
+knownFor kept = record {
+  section = kept .section;
+  lines = kept .lines;
+  least = kept .least;
+  types = kept .types;
+  room = kept .room;
+  field = kept .field;
+  bound = kept .bound;
+}
+
+-- how many lines there are at most in the sections up to one, with so many lines of that one
+abbrev pub mostLines : ℕ → ℕ → ℕ
+mostLines section lines =
+    cond (eqb section 0) (65 * lines)
+    (cond (eqb section 1) (66560 + 65 * lines) (cond (eqb section 2) (133120 + lines) (141312 + lines)))
+
+-- what is known stays within the limits
+pub record Bounded (known : Known) : Type 0 where
+  pub in-section : known .section ≤ 3
+  pub few-lines : known .lines ≤ 8192
+  pub few-others : eqb (known .section) 2 ≡ false → known .lines ≤ 1024
+  pub few-types : known .types ≤ 1024
+  pub in-types : known .section ≡ 0 → known .types ≡ known .lines
+
+-- so many items stand in the words, and there is room for those that may follow
+pub record Room (count : ℕ) (kept : Kept) (words : List ℕ) : Type 0 where
+  pub bounded : Bounded (knownFor kept)
+  pub words-length : length words ≡ 142337
+  pub counted : count + kept .room ≤ mostLines (kept .section) (kept .lines)
+
+-- so many words are stored, from place 1 on
+abbrev pub stored : ℕ → List ℕ → List ℕ
+stored count words = take count (drop 1 words)
+
+-- a line was taken: its word is stored behind the others
+pub record Passed (count : ℕ) (kept : Kept) (line words words′ : List ℕ) (next : Kept) : Type 0 where
+  pub it : Item
+  pub read-item : itemOf (fieldsOf line) ≡ some it
+  pub may-follow : fits (knownFor kept) it ≡ true
+  pub comes-past : knownFor next ≡ beyond (knownFor kept) it
+  pub stored-word : stored (count + 1) words′ ≡ stored count words ++ (wordFor it ∷ [])
+  pub room : Room (count + 1) next words′
+
+-- whether a line is refused
+abbrev pub refusedLine : Known → Option Item → Type 0
+refusedLine known none = Unit
+refusedLine known (some it) = fits known it ≡ false
+
+abbrev pub Taken : ℕ → Kept → List ℕ → List ℕ → List ℕ → Took → Type 0
+Taken count kept line words words′ (Next next) = Passed count kept line words words′ next
+Taken count kept line words words′ Stopped = refusedLine (knownFor kept) (itemOf (fieldsOf line))
+
+abbrev pub wordsFor : Answer (List Item) → Answer (List ℕ)
+wordsFor (accepted items) = accepted (map wordFor items)
+wordsFor (refused number place) = refused number place
+
+-- what was read into words: the words that are stored, or a refusal
+abbrev pub gotIn : Got → List ℕ → Answer (List ℕ)
+gotIn (Items count) words = accepted (stored count words)
+gotIn (Refused place) words = refused 1 place
+
+abbrev pub countOf : Got → ℕ
+countOf (Items count) = count
+countOf (Refused place) = 0

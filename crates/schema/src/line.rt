@@ -1,0 +1,207 @@
+// A line of a schema's text as an item.
+ghost use mathlib.Core.Path.{_≡_};
+ghost use Prim.Native.Nat.{_≤_};
+ghost use mathlib.Core.List.{[], _∷_};
+ghost use lib.ListN.{length, drop};
+ghost use Rattle.rules.specs.Text.{fieldsOf, bytes};
+ghost use Rattle.rules.specs.Listing.{placeIn};
+ghost use Rattle.rules.specs.Schema.{itemOf, typeOf, pairOf, valueOf, ascending};
+ghost use Rattle.text.specs.Answers.{numberOf};
+ghost use Rattle.schema.specs.Items.{itemRead, tagRead, given, namedBy};
+use crate::item::Item;
+use text::Decimal;
+use text::Field;
+
+// What a line is read as: an item, or not of the stated form.
+pub enum Parsed {
+    Of(Item),
+    Bad,
+}
+
+// The tag of a line that is no type: `F`, `L` or `C`.
+enum Tag {
+    Of(u64),
+    Other,
+}
+
+fn tag_of(field: &[u8]) -> Tag
+    ensures { λ r. ⌜ tagRead r ≡ placeIn (bytes "FLC") (now (field .entry)) ⌝ }
+{
+    if field.len() != 1 {
+        return Tag::Other;
+    }
+    let b = field[0];
+    match b {
+        b'F' => Tag::Of(0),
+        b'L' => Tag::Of(1),
+        b'C' => Tag::Of(2),
+        _ => Tag::Other,
+    }
+}
+
+// Whether the fields of a line from a place on are decimals that ascend strictly, the first at least `least`.
+fn ascends(line: &[u8], at: usize, least: u64) -> bool
+    requires { ⌜ at ≤ length (now line) ⌝ }
+    ensures { λ r. ⌜ r ≡ given (ascending least (fieldsOf (drop at (now (line .entry))))) ⌝ }
+{
+    let mut from = at;
+    let mut next = least;
+    while from <= line.len() {
+        let Field::More(end) = Field::at(line, from) else {
+            let Decimal::Value(last) = Decimal::read(&line[from..]) else {
+                return false;
+            };
+            return next <= last;
+        };
+        let Decimal::Value(n) = Decimal::read(&line[from..end]) else {
+            return false;
+        };
+        if n < next {
+            return false;
+        }
+        next = n + 1;
+        from = end + 1;
+    }
+    false
+}
+
+// The names of an entity type: the first, and 65,536 more where it is not the only one.
+fn names(more: &[u8]) -> Decimal
+    ensures { λ r. ⌜ numberOf r ≡ namedBy (fieldsOf (now (more .entry))) ⌝ }
+{
+    let Field::More(end) = Field::at(more, 0) else {
+        return Decimal::read(more);
+    };
+    let Decimal::Value(first) = Decimal::read(&more[..end]) else {
+        return Decimal::Bad;
+    };
+    if !ascends(more, end + 1, first + 1) {
+        return Decimal::Bad;
+    }
+    Decimal::Value(first + 0x1_0000)
+}
+
+// What a type of a kind with nothing more has: 0, where its kind asks for nothing more.
+fn bare(kind: u64) -> Decimal
+    ensures { λ r. ⌜ numberOf r ≡ valueOf kind [] ⌝ }
+{
+    match kind {
+        6 | 9 => Decimal::Bad,
+        0..=10 => Decimal::Value(0),
+        _ => Decimal::Bad,
+    }
+}
+
+// What a type of a kind has that is followed by more: a set its element type, an entity type its names.
+fn valued(kind: u64, more: &[u8]) -> Decimal
+    ensures { λ r. ⌜ numberOf r ≡ valueOf kind (fieldsOf (now (more .entry))) ⌝ }
+{
+    if kind == Item::ENTITY {
+        return names(more);
+    }
+    if kind != Item::SET {
+        return Decimal::Bad;
+    }
+    let Field::Last = Field::at(more, 0) else {
+        return Decimal::Bad;
+    };
+    Decimal::read(more)
+}
+
+// A type with nothing more than its number and kind.
+fn bare_type(number: &[u8], kind: &[u8]) -> Parsed
+    ensures { λ r. ⌜ itemRead r ≡ typeOf (now (number .entry)) (now (kind .entry)) [] ⌝ }
+{
+    let Decimal::Value(key) = Decimal::read(number) else {
+        return Parsed::Bad;
+    };
+    let Decimal::Value(tag) = Decimal::read(kind) else {
+        return Parsed::Bad;
+    };
+    let Decimal::Value(value) = bare(tag) else {
+        return Parsed::Bad;
+    };
+    Parsed::Of(Item { tag, value, key })
+}
+
+// A type with more than its number and kind.
+fn valued_type(number: &[u8], kind: &[u8], more: &[u8]) -> Parsed
+    ensures { λ r. ⌜ itemRead r ≡ typeOf (now (number .entry)) (now (kind .entry)) (fieldsOf (now (more .entry))) ⌝ }
+{
+    let Decimal::Value(key) = Decimal::read(number) else {
+        return Parsed::Bad;
+    };
+    let Decimal::Value(tag) = Decimal::read(kind) else {
+        return Parsed::Bad;
+    };
+    let Decimal::Value(value) = valued(tag, more) else {
+        return Parsed::Bad;
+    };
+    Parsed::Of(Item { tag, value, key })
+}
+
+// An attribute, a literal or an action, with its type.
+fn pair(word: &[u8], left: &[u8], right: &[u8]) -> Parsed
+    ensures { λ r. ⌜ itemRead r ≡ pairOf (now (word .entry)) (now (left .entry)) (now (right .entry)) ⌝ }
+{
+    let Tag::Of(place) = tag_of(word) else {
+        return Parsed::Bad;
+    };
+    let Decimal::Value(key) = Decimal::read(left) else {
+        return Parsed::Bad;
+    };
+    let Decimal::Value(value) = Decimal::read(right) else {
+        return Parsed::Bad;
+    };
+    Parsed::Of(Item {
+        tag: Item::ATTRIBUTE_LINE + place,
+        value,
+        key,
+    })
+}
+
+// An entity type, by its name.
+fn entity(word: &[u8], name: &[u8]) -> Parsed
+    ensures { λ r. ⌜ itemRead r ≡ itemOf (now (word .entry) ∷ now (name .entry) ∷ []) ⌝ }
+{
+    if !text::is_letter(word, b'E') {
+        return Parsed::Bad;
+    }
+    let Decimal::Value(key) = Decimal::read(name) else {
+        return Parsed::Bad;
+    };
+    Parsed::Of(Item {
+        tag: Item::ENTITY_LINE,
+        value: 0,
+        key,
+    })
+}
+
+// The item of a line, by its fields.
+pub fn parse(line: &[u8]) -> Parsed
+    ensures { λ r. ⌜ itemRead r ≡ itemOf (fieldsOf (now (line .entry))) ⌝ }
+{
+    let Field::More(word_end) = Field::at(line, 0) else {
+        return Parsed::Bad;
+    };
+    let second = word_end + 1;
+    let Field::More(second_end) = Field::at(line, second) else {
+        return entity(&line[..word_end], &line[second..]);
+    };
+    let third = second_end + 1;
+    let Field::More(third_end) = Field::at(line, third) else {
+        if text::is_letter(&line[..word_end], b'T') {
+            return bare_type(&line[second..second_end], &line[third..]);
+        }
+        return pair(&line[..word_end], &line[second..second_end], &line[third..]);
+    };
+    if !text::is_letter(&line[..word_end], b'T') {
+        return Parsed::Bad;
+    }
+    let fourth = third_end + 1;
+    valued_type(
+        &line[second..second_end],
+        &line[third..third_end],
+        &line[fourth..],
+    )
+}

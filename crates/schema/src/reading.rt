@@ -1,0 +1,93 @@
+// Lines to items, each judged after those before it, and a schema's text read into a lent state.
+ghost use mathlib.Core.Path.{_≡_};
+ghost use Prim.Native.Nat.{_≤_, _<_};
+ghost use lib.ListN.{length};
+ghost use Rattle.schema.specs.Items.{readIn};
+ghost use Rattle.schema.specs.Reads.{Room, Taken, gotIn, wordsFor, countOf};
+ghost use Rattle.rules.specs.Schema.{readSchema};
+use crate::known::Known;
+use crate::line::Parsed;
+use crate::line::parse;
+use text::Line;
+use trie::Reply;
+
+// What a line gives: where the schema has come to, or that it is not of the stated form or may not stand there.
+enum Took {
+    Next(Known),
+    Refused,
+}
+
+// What a text gives: how many items, or the line of the refusal.
+enum Got {
+    Items(u64),
+    Refused(u64),
+}
+
+// Takes one line: its word goes behind the others.
+fn take_line(line: &[u8], words: &mut [u64], count: u64, known: Known) -> Took
+    requires { ⌜ Room count known (now words) ⌝ }
+    ensures { λ r. ⌜ Taken count known (now (line .entry)) (now (words .entry)) (now (words .exit)) r ⌝ }
+{
+    let Parsed::Of(item) = parse(line) else {
+        return Took::Refused;
+    };
+    if !known.fits(item) {
+        return Took::Refused;
+    }
+    let end = count as usize + 1;
+    words[end] = item.word();
+    Took::Next(known.beyond(item))
+}
+
+// Reads all lines of a text into words, from place 1 on.
+fn read_items(text: &[u8], words: &mut [u64]) -> Got
+    requires { ⌜ length (now words) ≡ 142337 ⌝ }
+    ensures { λ r. ⌜ gotIn r (now (words .exit)) ≡ wordsFor (readSchema (now (text .entry))) ⌝ }
+    ensures { λ r. ⌜ countOf r < 142337 ⌝ }
+{
+    let mut known = Known::new();
+    let mut count: u64 = 0;
+    let mut at = 0;
+    while at < text.len() {
+        let Line::Whole(end) = Line::at(text, at) else {
+            return Got::Refused(count);
+        };
+        let took = take_line(&text[at..end], words, count, known);
+        match took {
+            Took::Next(next) => {
+                known = next;
+            }
+            Took::Refused => {
+                return Got::Refused(count);
+            }
+        }
+        at = end + 1;
+        count += 1;
+    }
+    Got::Items(count)
+}
+
+// The lent state of a schema: its length.
+pub struct Schema {}
+
+impl Schema {
+    pub const WORDS: usize = 142_337;
+
+    // Reads a schema's text into a state; a refusal leaves the state as it was.
+    pub fn read(text: &[u8], out: &mut [u64]) -> Reply
+        ensures { λ r. ⌜ (r ≡ readIn (now (text .entry)) (now (out .entry)) .reply) × (now (out .exit) ≡ readIn (now (text .entry)) (now (out .entry)) .buffer) ⌝ }
+    {
+        if out.len() < Schema::WORDS {
+            return Reply::Refused(31, 0);
+        }
+        let mut words = [0u64; 142_337];
+        match read_items(text, &mut words) {
+            Got::Refused(line) => Reply::Refused(1, line),
+            Got::Items(count) => {
+                words[0] = count;
+                manifest::copy_rows(&words, out);
+                Reply::Done
+            }
+        }
+    }
+}
