@@ -1,0 +1,83 @@
+-- `schema_cases::ask_text` is safe: the text lies within its buffer.
+use mathlib.Core.Path.{sym}
+use lib.Seq.{length-take-le}
+use borrow.Author.Needs.{needs}
+use Rattle.schema_cases.proofs.ask_text.Statement.{statement}
+use Rattle.schema_cases.proofs.ask_text.Tie as tie
+
+slice-aggregate-text-of : tie.Need-slice-aggregate-text-of
+slice-aggregate-text-of c = search needs
+
+text-of-requires : tie.Need-text-of-requires
+text-of-requires c κs = search needs
+
+array-share-prefix-text : tie.Need-array-share-prefix-text
+array-share-prefix-text c = search needs
+
+slice-aggregate-read : tie.Need-slice-aggregate-read
+slice-aggregate-read c = sym (length-take-le _ _ (search needs))
+
+slice-aggregate-read-2 : tie.Need-slice-aggregate-read-2
+slice-aggregate-read-2 c = search needs
+
+read-requires : tie.Need-read-requires
+read-requires c κs = search needs
+
+enum-known-reply : tie.Need-enum-known-reply
+enum-known-reply c = search needs
+
+say-refused-requires : tie.Need-say-refused-requires
+say-refused-requires c κs = search needs
+
+enum-told : tie.Need-enum-told
+enum-told c = search needs
+
+slice-aggregate-print-words : tie.Need-slice-aggregate-print-words
+slice-aggregate-print-words c = search needs
+
+print-words-requires : tie.Need-print-words-requires
+print-words-requires c κs = search needs
+
+slice-aggregate-is-lawful : tie.Need-slice-aggregate-is-lawful
+slice-aggregate-is-lawful c = search needs
+
+is-lawful-requires : tie.Need-is-lawful-requires
+is-lawful-requires c κs = search needs
+
+slice-aggregate-say : tie.Need-slice-aggregate-say
+slice-aggregate-say c = search needs
+
+say-requires : tie.Need-say-requires
+say-requires c κs = search needs
+
+returns : tie.Need-returns
+returns c = search needs
+
+returns-2 : tie.Need-returns-2
+returns-2 c = search needs
+
+returns-3 : tie.Need-returns-3
+returns-3 c = search needs
+
+pub ask-text-spec : {M : Type 1} → statement M
+ask-text-spec =
+    tie.close
+    (tie.spec
+    slice-aggregate-text-of
+    text-of-requires
+    array-share-prefix-text
+    slice-aggregate-read
+    slice-aggregate-read-2
+    read-requires
+    enum-known-reply
+    say-refused-requires
+    enum-told
+    slice-aggregate-print-words
+    print-words-requires
+    slice-aggregate-is-lawful
+    is-lawful-requires
+    slice-aggregate-say
+    say-requires
+    returns
+    returns-2
+    returns-3)

@@ -1,0 +1,138 @@
+// Replays the vectors of data/cases: texts of schemas that are read, with the words that they give.
+ghost use Prim.Native.Nat.{_≤_};
+ghost use lib.ListN.{length};
+use libc::STDOUT_FILENO;
+use schema::Schema;
+use text::Line;
+use trie::Reply;
+
+// The longest text of a case, and the most words that an answer gives.
+const TEXT: usize = 200_000;
+
+const SHOWN: u64 = 64;
+
+fn say(word: &[u8]) {
+    io::write_all(STDOUT_FILENO, word);
+}
+
+fn say_refused(number: u64, place: u64) {
+    say(b"refused ");
+    io::print_decimal(STDOUT_FILENO, number);
+    say(b" at ");
+    io::print_decimal(STDOUT_FILENO, place);
+}
+
+// Writes what a field of a line stands for into `out` from `at` on, as much as there is room, and answers the place after it.
+fn say_part(out: &mut [u8], at: usize, line: &[u8], n: usize) -> usize
+    requires { ⌜ at ≤ length (now out) ⌝ }
+    ensures { λ r. ⌜ r ≤ length (now (out .exit)) ⌝ }
+{
+    let part = cases::nth(line, n);
+    let start = part.start;
+    let end = part.end;
+    at + cases::decode(&line[start..end], &mut out[at..])
+}
+
+// The text of many lines: a head, and then for each number below a count a line of a letter, a tab, the number and a tail.
+fn say_many(out: &mut [u8], line: &[u8]) -> usize
+    ensures { λ r. ⌜ r ≤ length (now (out .exit)) ⌝ }
+{
+    let count = cases::number(line, 3);
+    let mut to = say_part(out, 0, line, 1);
+    let mut i = 0;
+    while i < count {
+        let lettered = say_part(out, to, line, 2);
+        let tabbed = cases::say(out, lettered, b"\t");
+        let numbered = cases::say_number(out, tabbed, i);
+        to = say_part(out, numbered, line, 4);
+        i += 1;
+    }
+    to
+}
+
+// The text of a case: its own, in escapes, or many lines.
+fn text_of(line: &[u8], out: &mut [u8]) -> usize
+    ensures { λ r. ⌜ r ≤ length (now (out .exit)) ⌝ }
+{
+    if cases::is_word(line, 0, b"many") {
+        return say_many(out, line);
+    }
+    say_part(out, 0, line, 1)
+}
+
+// How many words a state has, and which, where they are few.
+fn print_words(state: &[u64]) {
+    if state.len() == 0 {
+        return;
+    }
+    let count = state[0];
+    io::print_decimal(STDOUT_FILENO, count);
+    say(b" words:");
+    if SHOWN < count {
+        return;
+    }
+    let mut i = 1;
+    while i < state.len() {
+        if count < i as u64 {
+            return;
+        }
+        say(b" ");
+        io::print_decimal(STDOUT_FILENO, state[i]);
+        i += 1;
+    }
+}
+
+// Reads a text, and checks the state that it gives.
+fn ask_text(line: &[u8]) {
+    let mut text = [0u8; TEXT];
+    let n = text_of(line, &mut text);
+    let mut state = [0u64; 142_337];
+    let reply = Schema::read(&text[..n], &mut state);
+    match reply {
+        Reply::Refused(number, place) => say_refused(number, place),
+        Reply::Done => {
+            print_words(&state);
+            if !schema::is_lawful(&state) {
+                say(b" UNLAWFUL");
+            }
+        }
+    }
+}
+
+// One line of the data file: a comment, or a case and what comes of it.
+fn replay(line: &[u8]) {
+    if line.len() == 0 {
+        return;
+    }
+    if line[0] == b'#' {
+        return;
+    }
+    say(line);
+    say(b" -> ");
+    ask_text(line);
+    say(b"\n");
+}
+
+fn replay_all(text: &[u8]) {
+    let mut at = 0;
+    while at < text.len() {
+        let Line::Whole(end) = Line::at(text, at) else {
+            return;
+        };
+        replay(&text[at..end]);
+        at = end + 1;
+    }
+}
+
+fn main() {
+    let path = b"cases";
+    let fd = os::open_read(path);
+    if fd < 0 {
+        os::fail(path);
+        return;
+    }
+    let mut buffer = io::large_buffer();
+    let n = io::read_full(fd, &mut buffer);
+    libc::close(fd);
+    replay_all(&buffer[..n]);
+}
