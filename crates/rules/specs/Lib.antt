@@ -12,4 +12,9 @@ pub mod BuildingLaws
 pub mod ListingLaws
 pub mod Demand3
 pub mod Schema
+pub mod Paths
+pub mod Steps
+pub mod StepLaws
+pub mod TypeLaws
+pub mod Starred
 pub mod Examples
