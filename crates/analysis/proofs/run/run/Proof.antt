@@ -1,0 +1,152 @@
+-- `analysis::run::run` meets its contract: the results on the stack are those of the lines that were passed,
+-- from which the lines that are left lead to what the text gives.
+-- Assumes nothing.
+use Prim.Native.Nat.{ℕ, _≤_, _<_, _-_}
+use native.Mathlib.Omega.{arith}
+use mathlib.Core.Path.{_≡_, refl, sym, _∙_}
+use mathlib.Core.Logic.{⊎-elim}
+use lib.ListN.{length}
+use borrow.Author.Needs.{needs}
+use Rattle.text.proofs.Laws.{whole-within}
+use Rattle.text.specs.declared.Line.the-variants.{Whole}
+use Rattle.analysis.specs.RunLaws.{Running, running-none, running-holds, running-all, running-cut, running-stopped, running-next, read-good}
+use Rattle.analysis.proofs.run.run.Statement.{statement}
+use Rattle.analysis.proofs.run.run.Tie as tie
+
+abbrev Inv-loop : tie.InvT-loop
+Inv-loop words table types text code₀ tries₀ names₀ stack₀ at₀ line₀ code tries names stack at line =
+    Running words text code tries stack at line × (length names ≡ 32)
+
+abbrev μ-loop : tie.MeasureT-loop
+μ-loop words table types text code₀ tries₀ names₀ stack₀ at₀ line₀ code tries names stack at line = length text - at
+
+-- the LF that was found stands in the text
+within : (c : tie.After-end Inv-loop μ-loop) → (c .before .before .before .before .loop .at ≤ c .end .given .0 .0) × (c .end .given .0 .0 < length (c .before .before .before .before .before .before .before .before .before .before .before .args .text .now))
+within c = whole-within _ _ _ _ (c .before .before .at .ensures) (c .end .given .1)
+
+new-requires : tie.Need-new-requires Inv-loop μ-loop
+new-requires c κs = search needs
+
+loop-holds : tie.Need-loop-holds Inv-loop μ-loop
+loop-holds c =
+    let (codes-all, tries-all) = c .before .before .before .before .before .before .pre .1 in
+    (running-none (c .before .before .before .before .before .before .args .words .now) (c .before .before .before .before .before .before .args .text .now) (c .before .before .before .before .before .before .args .code .now) (c .before .before .before .before .before .before .args .tries .now) (c .new .result) codes-all tries-all (c .new .ensures), refl)
+
+at-requires : tie.Need-at-requires Inv-loop μ-loop
+at-requires c κs = search needs
+
+enum-known-end : tie.Need-enum-known-end Inv-loop μ-loop
+enum-known-end c = search needs
+
+same-length : tie.Need-same-length Inv-loop μ-loop
+same-length c = c .before .before .before .loop .inv .0 .held .layout .code-length ∙ sym (c .before .before .before .before .before .before .before .before .before .before .pre .1 .0)
+
+same-length-2 : tie.Need-same-length-2 Inv-loop μ-loop
+same-length-2 c = c .before .before .before .loop .inv .0 .held .layout .tries-length ∙ sym (c .before .before .before .before .before .before .before .before .before .before .pre .1 .1)
+
+returns : tie.Need-returns Inv-loop μ-loop
+returns c =
+    let unended : (end : ℕ) → c .before .at .result ≡ Whole end → ⊥ = λ end e. ⊎-elim (λ z. omega arith) (λ z. omega arith) (rw e at (c .match .keys2)) in
+    running-cut (c .before .before .before .loop .inv .0) (c .before .at .ensures) unended (c .before .before .loop-test .taken)
+
+sub-parse : tie.Need-sub-parse Inv-loop μ-loop
+sub-parse c = omega (arith, within (c .before))
+
+part-parse-start : tie.Need-part-parse-start Inv-loop μ-loop
+part-parse-start c = omega (arith, within (c .before))
+
+part-parse-end : tie.Need-part-parse-end Inv-loop μ-loop
+part-parse-end c = omega (arith, within (c .before))
+
+slice-aggregate-parse : tie.Need-slice-aggregate-parse Inv-loop μ-loop
+slice-aggregate-parse c = sym (c .before .before .before .before .before .before .before .loop .inv .1)
+
+parse-requires : tie.Need-parse-requires Inv-loop μ-loop
+parse-requires c κs = c .before .before .before .before .before .before .before .loop .inv .1
+
+slice-aggregate-apply : tie.Need-slice-aggregate-apply Inv-loop μ-loop
+slice-aggregate-apply c = sym (c .before .before .parse .kept .1 .0 ∙ c .before .before .before .before .before .before .before .before .before .before .loop .inv .1)
+
+apply-requires : tie.Need-apply-requires Inv-loop μ-loop
+apply-requires c κs = (
+  c .before .before .before .before .before .before .before .before .before .before .before .before .before .before .before .before .before .before .before .pre .0,
+  (
+    (c .before .before .before .before .parse .ensures .1, (c .before .before .before .before .parse .kept .1 .0 ∙ c .before .before .before .before .before .before .before .before .before .before .before .before .loop .inv .1, read-good (c .before .before .before .before .parse .result) (c .before .before .before .before .parse .last .1 .0) _ (c .before .before .before .before .parse .ensures .0))),
+    running-holds (c .before .before .before .before .before .before .before .before .before .before .before .before .loop .inv .0),
+  ),
+)
+
+enum-known-stepped : tie.Need-enum-known-stepped Inv-loop μ-loop
+enum-known-stepped c = search needs
+
+enum-known-stepped-2 : tie.Need-enum-known-stepped-2 Inv-loop μ-loop
+enum-known-stepped-2 c = search needs
+
+same-length-3 : tie.Need-same-length-3 Inv-loop μ-loop
+same-length-3 c = c .before .before .before .before .before .before .before .apply .kept .1 .1 .1 .1 .1 .0 ∙ (c .before .before .before .before .before .before .before .before .before .before .before .before .before .before .before .before .before .before .before .before .loop .inv .0 .held .layout .code-length ∙ sym (c .before .before .before .before .before .before .before .before .before .before .before .before .before .before .before .before .before .before .before .before .before .before .before .before .before .before .before .pre .1 .0))
+
+same-length-4 : tie.Need-same-length-4 Inv-loop μ-loop
+same-length-4 c = c .before .before .before .before .before .before .before .apply .kept .1 .1 .1 .1 .1 .1 .0 ∙ (c .before .before .before .before .before .before .before .before .before .before .before .before .before .before .before .before .before .before .before .before .loop .inv .0 .held .layout .tries-length ∙ sym (c .before .before .before .before .before .before .before .before .before .before .before .before .before .before .before .before .before .before .before .before .before .before .before .before .before .before .before .pre .1 .1))
+
+returns-2 : tie.Need-returns-2 Inv-loop μ-loop
+returns-2 c =
+    running-stopped (c .before .before .before .before .before .before .before .before .before .before .before .before .before .before .before .before .before .before .before .before .loop .inv .0) (c .before .before .before .before .before .before .before .before .before .before .before .before .before .before .before .before .before .before .at .ensures) (c .before .before .before .before .before .before .before .before .before .before .before .before .before .before .before .before .end .given .1) (c .before .before .before .before .before .before .before .before .before .before .before .before .parse .ensures .0)
+    (rw (c .before .stepped2 .given .1) at (c .before .before .before .before .before .before .before .apply .ensures))
+
+add-at : tie.Need-add-at Inv-loop μ-loop
+add-at c = omega (arith, within (c .before .before .before .before .before .before .before .before .before .before .before .before .before .before .before .before), c .before .before .before .before .before .before .before .before .before .before .before .before .before .before .before .before .before .before .before .before .before .before .before .before .before .before .before .good .1 .1 .1 .0)
+
+add-line : tie.Need-add-line Inv-loop μ-loop
+add-line c = omega (arith, within (c .before .before .before .before .before .before .before .before .before .before .before .before .before .before .before .before), c .before .before .before .before .before .before .before .before .before .before .before .before .before .before .before .before .before .before .before .before .loop .inv .0 .lines-passed, c .before .before .before .before .before .before .before .before .before .before .before .before .before .before .before .before .before .before .before .before .before .before .before .before .before .before .before .good .1 .1 .1 .0)
+
+loop-less : tie.Need-loop-less Inv-loop μ-loop
+loop-less c = omega (arith, within (c .before .before .before .before .before .before .before .before .before .before .before .before .before .before .before .before))
+
+loop-again : tie.Need-loop-again Inv-loop μ-loop
+loop-again c = (
+  running-next (c .before .before .before .before .before .before .before .before .before .before .before .before .before .before .before .before .before .before .before .before .loop .inv .0) (c .before .before .before .before .before .before .before .before .before .before .before .before .before .before .before .before .before .before .at .ensures) (c .before .before .before .before .before .before .before .before .before .before .before .before .before .before .before .before .end .given .1) (c .before .before .before .before .before .before .before .before .before .before .before .before .parse .ensures .0) (c .before .before .before .before .before .before .before .before .before .before .before .before .before .before .before .before .before .before .before .before .before .before .before .before .before .before .before .pre .0 .0)
+      (rw (c .before .stepped .given .1) at (c .before .before .before .before .before .before .before .apply .ensures)),
+  c .before .before .before .before .before .before .before .before .before .before .before .before .parse .kept .1 .0 ∙ c .before .before .before .before .before .before .before .before .before .before .before .before .before .before .before .before .before .before .before .before .loop .inv .1,
+)
+
+same-length-5 : tie.Need-same-length-5 Inv-loop μ-loop
+same-length-5 c = c .before .loop .inv .0 .held .layout .code-length ∙ sym (c .before .before .before .before .before .before .before .before .pre .1 .0)
+
+same-length-6 : tie.Need-same-length-6 Inv-loop μ-loop
+same-length-6 c = c .before .loop .inv .0 .held .layout .tries-length ∙ sym (c .before .before .before .before .before .before .before .before .pre .1 .1)
+
+returns-3 : tie.Need-returns-3 Inv-loop μ-loop
+returns-3 c = running-all (c .before .loop .inv .0) (c .loop-test .left)
+
+pub run-spec : {M : Type 1} → statement M
+run-spec =
+    tie.close
+    (tie.spec
+    Inv-loop
+    μ-loop
+    new-requires
+    loop-holds
+    at-requires
+    enum-known-end
+    same-length
+    same-length-2
+    returns
+    sub-parse
+    part-parse-start
+    part-parse-end
+    slice-aggregate-parse
+    parse-requires
+    slice-aggregate-apply
+    apply-requires
+    enum-known-stepped
+    enum-known-stepped-2
+    same-length-3
+    same-length-4
+    returns-2
+    add-at
+    add-line
+    loop-less
+    loop-again
+    same-length-5
+    same-length-6
+    returns-3)

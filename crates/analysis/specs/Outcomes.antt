@@ -1,0 +1,33 @@
+-- What `analysis` answers, and what the lent buffer then holds.
+use Prim.Native.Nat.{ℕ, _^_}
+use mathlib.Core.Path.{_≡_}
+use mathlib.Core.Bool.{cond, _&&_}
+use mathlib.Core.List.{List}
+use lib.Dec.{leb, ltb}
+use lib.ListN.{length}
+use Rattle.rules.specs.Numbers.{accepted, refused}
+use Rattle.rules.specs.Schema.{Item}
+use Rattle.rules.specs.Steps.{Result, run, analyse}
+use Rattle.trie.specs.States.{Outcome, refusing, storing}
+use Rattle.schema.specs.Items.{schemaWords, lawfulSchema, itemsIn}
+use Rattle.analysis.specs.Stacks.{Held}
+use Rattle.analysis.specs.declared.run.Ran.{Ran}
+use Rattle.analysis.specs.declared.run.Ran.the-variants.{Stack as Stacked, Refused}
+use Rattle.analysis.specs.declared.stack.Stack.{Stack}
+
+-- analysing steps: 31, then 1 at 0 for a schema that is not lawful or a number that is no request type, then what the text gives by line
+unfoldable pub analyseIn : List ℕ → ℕ → List ℕ → List ℕ → Outcome
+analyseIn schema request text out =
+    cond (leb schemaWords (length schema) && leb 1026 (length out))
+    (cond (lawfulSchema schema && ltb request (2 ^ 48)) (storing out (analyse (itemsIn schema) request text)) (refusing 1 0 out))
+    (refusing 31 0 out)
+
+-- a text was run to its end, and the stack holds the results
+pub record Finished (items : List Item) (text code tries : List ℕ) (stack : Stack) (lines : ℕ) : Type 0 where
+  pub results : List Result
+  pub ran : run items text ≡ accepted (record { lines = lines; stack = results })
+  pub held : Held code tries stack results
+
+abbrev pub RanBy : List Item → List ℕ → List ℕ → List ℕ → Ran → Type 0
+RanBy items text code tries (Stacked stack lines) = Finished items text code tries stack lines
+RanBy items text code tries (Refused number place) = run items text ≡ refused number place

@@ -1,0 +1,1732 @@
+-- Laws of the stack of results in words (Stacks): the room in its two runs, tries that are copied, put and merged, and what each step leaves.
+-- No contract cites this file.
+use Prim.Native.Nat.{ℕ, zero, suc, _+_, _*_, _-_, _/_, _%_, _^_, _≤_, _<_, max}
+use native.Mathlib.Nat.{add-zero}
+use native.Mathlib.Numerals.{add-one}
+use native.Mathlib.Omega.{arith}
+use mathlib.Core.Path.{_≡_, refl, sym, ap, ap₂, _∙_, subst}
+use mathlib.Core.Logic.{_⊎_, inl, inr}
+use mathlib.Core.Bool.{Bool, true, false, cond, _&&_, and-eq-true-iff, or-false, true≢false, false≢true}
+use mathlib.Core.List.{List, [], _∷_, _++_, map, append-assoc, append-nil}
+use mathlib.Core.Option.{Option, none, some, Option·none-ne-some, Option·some-ne-none, Option·some-injective}
+use borrow.Author.Tests.{ltb-true, ltb-false, leb-true, leb-false, lt-ltb, le-ltb, le-leb, lt-leb, eq-eqb, ne-eqb}
+use lib.Dec.{ltb, eqb}
+use lib.ListN.{length, take, drop, getD, set, replicate, length-map, length-append, length-drop, length-set, length-replicate, take-append-drop}
+use lib.Seq.{sets-eq, length-sets, drop-drop, drop-cons, drop-at, take-at, getD-drop, drop-append-seam, length-take-le, set-split}
+use Rattle.rules.specs.Facts.{by-test, by-option, compared, cond-some}
+use Rattle.rules.specs.Numbers.{Answer, accepted, refused}
+use Rattle.rules.specs.Tries.{Row, isRow, isEntry, isStep, isRoot, isType, at, union}
+use Rattle.rules.specs.TrieLaws.{Ordered, ordered-true, union-nil-left, union-nil-right, union-left-length, union-right-length, union-sum-length}
+use Rattle.rules.specs.Paths.{
+  Path,
+  Paths,
+  Empty,
+  AccessPath,
+  Union,
+  RecordLiteral,
+  SetLiteral,
+  Fields,
+  noField,
+  field,
+  Leaf,
+  emptyLeaf,
+  pathsIn,
+  pathsInFields,
+  nodesOf,
+  nodesOfFields,
+  fieldOf,
+  fieldOr,
+  getOrHasAttr,
+  toRootAccessTrieWithLeaf,
+  addPaths,
+  kindAt,
+  elementAt,
+  attributesAt,
+  attributeType,
+  hasAll,
+  typeToAccessTrie,
+  Taken,
+  fullTypeRequired,
+  fieldsRequired,
+  addTaken,
+}
+use Rattle.rules.specs.Schema.{Item, lawfulItems, unknown, recordType, setType}
+use Rattle.rules.specs.Steps.{Result, result, judged, isTooDeep, restored, attrStep, unionResults, twoStep, setStep, dropStep, emptyPaths, inResult, Wrapped, wrapped, recStep, fullStep, stepped}
+use Rattle.rules.specs.StepLaws.{triesOf as pathTries}
+use Rattle.rules.specs.StepLaws.{triesOfTaken}
+use Rattle.rules.specs.StepLaws.{
+  anyTooDeep,
+  grownIn,
+  stepped-some,
+  each-then,
+  attr-grown,
+  attr-deep,
+  grown-paths,
+  add-paths-length,
+  add-paths-deep,
+  add-taken-deep,
+  too-deep-union,
+  Each,
+  IsPath,
+  AllPaths,
+  Plain,
+  IsTrie,
+  GoodResult,
+  AllGood,
+  each-append,
+  each-split,
+  each-map,
+  empty-trie,
+  union-trie,
+  trie-commutative,
+  trie-associative,
+  trie-shallow,
+}
+use Rattle.rules.specs.Listing.{_>>=_}
+use Rattle.rules.specs.TypeLaws.{deepest, path-deep, path-length, longest, larger-max, markedLeaf, ancestor-deep, isNoTrie, typesIn, types-few, TypeAt, type-there, type-missing}
+use Rattle.trie.specs.Words.{depthIn, stepIn, typeFrom, rowOf, wordOf, isWord}
+use Rattle.trie.specs.WordLaws.{is-row, node-low, all-words-cons, words-rows, row-word}
+use Rattle.trie.specs.States.{allWords, rowsOf, wordsIn, rowsIn, holding}
+use Rattle.schema.specs.Items.{itemsOf, allItems, goodItems}
+use Rattle.manifest.specs.Writes.{Wrote}
+use Rattle.manifest.specs.AddLaws.{held-count}
+use Rattle.analysis.specs.Code.{countIn, namesIn, code, codeFields, codes, nodesOfAll, Standing, Measures, pathsAt, Grew}
+use Rattle.analysis.specs.Code.{Result as Stands}
+use Rattle.analysis.specs.Nodes.{nodeWord, belowWord, allNodes, allBelow, IsState, Became, leafOf, anyDeep, AllFit}
+use Rattle.analysis.specs.Tables.{takenAt, AllPairs, Took, Walk, anyTakenDeep, AllTakenPaths}
+use Rattle.analysis.specs.Lines.{stepRead}
+use Rattle.analysis.specs.Stacks.{
+  pathsOf,
+  triesOf,
+  trieWords,
+  stacked,
+  Layout,
+  Held,
+  Reached,
+  Outcomes,
+  Placed,
+  TrieAt,
+  TriesAt,
+  CopiedFrom,
+  merged,
+  Merges,
+  MergedFrom,
+  Wraps,
+  WrapsBy,
+  ReplacedBy,
+  ancestorsRequired,
+}
+use Rattle.analysis.specs.declared.step.Step.{Step as StepRead}
+use Rattle.analysis.specs.declared.stack.Stack.{Stack}
+use Rattle.analysis.specs.declared.stack.Stepped.{Stepped}
+use Rattle.analysis.specs.declared.stack.Stepped.the-variants.{Next, Refused}
+
+-- ---- what is judged of a result
+
+module _ (place : ℕ) (top : Result) (stack : List Result) where
+  pub judged-many : 32 ≤ length stack → judged place top stack ≡ refused 6 place
+  judged-many h = rw (lt-ltb 32 (suc (length stack)) (omega arith))
+
+  module _ (few : length stack < 32) where
+    pub judged-nodes : 256 < nodesOf (top .paths) → judged place top stack ≡ refused 15 place
+    judged-nodes h = rw (le-ltb 32 (suc (length stack)) (omega arith), lt-ltb 256 (nodesOf (top .paths)) h)
+
+    module _ (nodes : nodesOf (top .paths) ≤ 256) where
+      pub judged-deep : isTooDeep (top .trie) ≡ true → judged place top stack ≡ refused 3 place
+      judged-deep e = rw (le-ltb 32 (suc (length stack)) (omega arith), le-ltb 256 (nodesOf (top .paths)) nodes, e)
+
+      module _ (shallow : isTooDeep (top .trie) ≡ false) where
+        pub judged-rows : 1024 < length (top .trie) → judged place top stack ≡ refused 4 place
+        judged-rows h =
+            rw (
+              le-ltb 32 (suc (length stack)) (omega arith),
+              le-ltb 256 (nodesOf (top .paths)) nodes,
+              shallow,
+              lt-ltb 1024 (length (top .trie)) h,
+            )
+
+        pub judged-good : length (top .trie) ≤ 1024 → judged place top stack ≡ accepted (top ∷ stack)
+        judged-good h =
+            rw (
+              le-ltb 32 (suc (length stack)) (omega arith),
+              le-ltb 256 (nodesOf (top .paths)) nodes,
+              shallow,
+              le-ltb 1024 (length (top .trie)) h,
+            )
+
+-- ---- tries in words
+
+no-number : (n : ℕ) → typeFrom n ≡ none → n ≡ 0
+no-number zero e = refl
+no-number (suc t) e = absurd (Option·some-ne-none t e)
+
+-- a word that packs a node without a type
+plain-word : (w : ℕ) → isWord w ≡ true → Plain (rowOf w) → nodeWord w ≡ true
+unfolding nodeWord
+plain-word w word plain =
+    let no-type = no-number (w / 2 ^ 25 % 2 ^ 11) (rw (plain .node) at (plain .untyped)) in
+    let low : w < 2 ^ 25 = omega (arith, node-low w word (plain .node), no-type) in
+    and-eq-true-iff (isWord w) _ .1 (word, and-eq-true-iff (ltb 0 (depthIn w)) _ .1 (lt-ltb 0 (depthIn w) deep, lt-ltb w (2 ^ 25) low))
+  where
+    deep : 0 < depthIn w
+    deep = compared 0 (depthIn w) (λ h. h) (λ h. absurd (true≢false (sym (eq-eqb (depthIn w) 0 (omega arith)) ∙ plain .node)))
+
+-- the words of a trie pack its rows, and those are nodes without types
+pub trie-words : (rows : List Row) → IsTrie rows → (rowsOf (map wordOf rows) ≡ rows) × (allNodes (map wordOf rows) ≡ true)
+unfolding Ordered Each allNodes
+trie-words rows t = go (0 ∷ []) rows (ordered-true (0 ∷ []) rows (t .order)) (t .plain)
+  where
+    go :
+        (s : List ℕ) (rows : List Row)
+        → Ordered s rows
+        → Each Plain rows
+        → (rowsOf (map wordOf rows) ≡ rows) × (allNodes (map wordOf rows) ≡ true)
+    go s [] o p = (refl, refl)
+    go s (row ∷ rows) o p =
+        let (back, word) = row-word row (o .0) (o .2) in
+        let (more, nodes) = go (at s row) rows (o .3) (p .1) in (
+          ap₂ (λ x xs. x ∷ xs) back more,
+          and-eq-true-iff (nodeWord (wordOf row)) _ .1 (plain-word (wordOf row) word (rw back (p .0)), nodes),
+        )
+
+-- nodes are words
+nodes-words : (ws : List ℕ) → allNodes ws ≡ true → allWords ws ≡ true
+unfolding allNodes nodeWord allWords
+nodes-words [] h = refl
+nodes-words (w ∷ ws) h =
+    let (first, rest) = and-eq-true-iff (nodeWord w) (allNodes ws) .0 h in
+    all-words-cons w ws .1 (and-eq-true-iff (isWord w) _ .0 first .0, nodes-words ws rest)
+
+-- what stands where a trie does
+module _ (words rest : List ℕ) (place : ℕ) (trie : List Row) (there : drop place words ≡ trieWords trie ++ rest) where
+  trie-room : place + 1 + length trie + length rest ≡ length words
+  trie-room =
+      omega (arith, ap length there, length-drop place words, length-append (map wordOf trie) rest, length-map trie wordOf, below)
+    where
+      below : place < length words
+      below = omega (arith, ap length there, length-drop place words)
+
+  pub trie-within : place + 1 + length trie ≤ length words
+  trie-within = omega (arith, trie-room)
+
+  pub trie-count : getD words place 0 ≡ length trie
+  trie-count = sym (getD-drop place words 0 0 ∙ rw add-zero) ∙ ap (λ (l : List ℕ). getD l 0 0) there
+
+  trie-behind : drop (place + 1) words ≡ map wordOf trie ++ rest
+  trie-behind = sym (drop-drop 1 place words) ∙ ap (λ (l : List ℕ). drop 1 l) there
+
+  pub trie-rows : take (getD words place 0) (drop (place + 1) words) ≡ map wordOf trie
+  trie-rows = rw (trie-count, trie-behind) (take-at (map wordOf trie) rest (length trie) (length-map trie wordOf))
+
+  pub trie-rest : drop (place + 1 + length trie) words ≡ rest
+  trie-rest =
+      sym (drop-drop (length trie) (place + 1) words) ∙ rw trie-behind (drop-at (map wordOf trie) rest (length trie) (length-map trie wordOf))
+
+  pub trie-whole : take (1 + length trie) (drop place words) ≡ trieWords trie
+  trie-whole = rw there (take-at (trieWords trie) rest (1 + length trie) (omega (arith, length-map trie wordOf)))
+
+-- a state's words
+module _ {state : List ℕ} (is : IsState state) where
+  pub state-count : length (rowsIn state) ≡ getD state 0 0
+  state-count =
+      length-map (wordsIn state) rowOf
+      ∙ length-take-le (getD state 0 0) (drop 1 state) (omega (arith, length-drop 1 state, is .state-length, is .few-rows))
+
+  pub state-words : take (getD state 0 0 + 1) state ≡ trieWords (rowsIn state)
+  state-words =
+      let some-word : 0 < length state = omega (arith, is .state-length) in
+      let split : state ≡ getD state 0 0 ∷ drop 1 state = drop-cons state 0 0 some-word in
+      rw (add-one, state-count, words-rows (wordsIn state) (nodes-words (wordsIn state) (is .nodes)))
+      (ap (λ (l : List ℕ). take (suc (getD state 0 0)) l) split)
+
+-- a buffer that holds a trie is a state of it
+held-state :
+    (out : List ℕ) (trie : List Row)
+    → length out ≡ 1026
+    → IsTrie trie
+    → length trie ≤ 1024
+    → IsState (holding out trie) × (wordsIn (holding out trie) ≡ map wordOf trie)
+held-state out trie long good few =
+    let count : getD (holding out trie) 0 0 ≡ length trie = held-count out trie (omega arith) in
+    let rows : wordsIn (holding out trie) ≡ map wordOf trie =
+    rw (count, sets-eq (length trie ∷ map wordOf trie) out 0 (omega (arith, length-map trie wordOf)))
+    (take-at (map wordOf trie) _ (length trie) (length-map trie wordOf)) in (
+      record {
+        state-length = length-sets out 0 (length trie ∷ map wordOf trie) ∙ long;
+        few-rows = rw count few;
+        nodes = rw rows (trie-words trie good .1);
+      },
+      rows,
+    )
+
+-- a trie that stands somewhere ends there, and fits a state
+pub at-within : {words : List ℕ} {place : ℕ} → TrieAt words place → place + 1 + getD words place 0 ≤ length words
+at-within {words} {place} t =
+    omega (arith, trie-count words (t .rest) place (t .trie) (t .there), trie-within words (t .rest) place (t .trie) (t .there))
+
+pub at-few : {words : List ℕ} {place : ℕ} → TrieAt words place → getD words place 0 ≤ 1024
+at-few {words} {place} t = omega (arith, trie-count words (t .rest) place (t .trie) (t .there), t .few-rows)
+
+pub copied :
+    {words out out′ : List ℕ} {place end after : ℕ}
+    → TrieAt words place
+    → length out ≡ 1026
+    → end ≡ place + 1 + getD words place 0
+    → Wrote out 0 (take (end - place) (drop place words)) out′ after
+    → CopiedFrom words place out′
+copied {words} {out} {out′} {place} {end} t long ends w =
+    let trie = t .trie in
+    let (state, rows) = held-state out trie long (t .good-trie) (t .few-rows) in
+    let many : end - place ≡ 1 + length trie = omega (arith, trie-count words (t .rest) place trie (t .there)) in
+    let same : out′ ≡ holding out trie = w .text ∙ rw (many, trie-whole words (t .rest) place trie (t .there)) in
+    rw same (
+      state,
+      λ other rest good there.
+          rw rows
+          (ap rowsOf (sym (trie-rows words (t .rest) place trie (t .there)) ∙ trie-rows words rest place other there) ∙ trie-words other good .0),
+    )
+
+-- no rows yet
+pub zero-state : IsState (replicate 1026 0)
+unfolding allNodes
+zero-state = record { state-length = length-replicate {A = ℕ} 1026 0; few-rows = omega arith; nodes = refl }
+
+-- ---- words that are put before a place
+
+module _ (words out : List ℕ) (end : ℕ) (fits : length words ≤ end) (inside : end ≤ length out) where
+  add-back : (n : ℕ) → n ≡ end → n - length words + length words ≡ end
+  add-back n e = omega arith
+
+  pub placed :
+      {out′ : List ℕ} {after : ℕ}
+      → Wrote out (end - length words) words out′ after
+      → Placed words out end out′ (end - length words)
+  placed w = record {
+    starts = omega arith;
+    there =
+        rw (w .text, sets-eq words out (end - length words) (omega arith), append-assoc)
+        (drop-at (take (end - length words) out) (words ++ drop (end - length words + length words) out) (end - length words)
+        (length-take-le (end - length words) out (omega arith))
+        ∙ rw (add-back end refl));
+    same-length = rw (w .text) (length-sets out (end - length words) words);
+  }
+
+-- one word
+pub placed-one : (w : ℕ) (out : List ℕ) (end : ℕ) → 0 < end → end ≤ length out → Placed (w ∷ []) out end (set out (end - 1) w) (end - 1)
+placed-one w out end some-place inside =
+    let before : end - 1 < length out = omega arith in
+    let next : suc (end - 1) ≡ end = omega arith in
+    record {
+      starts = omega arith;
+      there =
+          rw (set-split out (end - 1) w before)
+          (drop-at (take (end - 1) out) (w ∷ drop (suc (end - 1)) out) (end - 1) (length-take-le (end - 1) out (omega arith))
+          ∙ ap (λ (n : ℕ). w ∷ drop n out) next);
+      same-length = length-set out (end - 1) w;
+    }
+
+-- ---- the room of results
+
+mutual
+  unfolding code codeFields nodesOf nodesOfFields pathsIn pathsInFields namesIn Each
+
+  code-short : (paths : Paths) → AllPaths (pathsIn paths) → length (code paths) + 1 ≤ 26 * nodesOf paths
+  code-short Empty good = omega arith
+  code-short (AccessPath path) good = omega (arith, good .0 .short)
+  code-short (Union left right) good =
+      let (of-right, of-left) = each-split IsPath (pathsIn right) (pathsIn left) good in
+      omega (arith, code-short right of-right, code-short left of-left, length-append (code right) (code left))
+  code-short (RecordLiteral fields) good =
+      omega (arith, fields-short fields good, length-append (namesIn fields) (codeFields fields))
+  code-short (SetLiteral elements) good = omega (arith, code-short elements good)
+
+  fields-short :
+      (fields : Fields)
+      → AllPaths (pathsInFields fields)
+      → length (namesIn fields) + length (codeFields fields) ≤ 26 * nodesOfFields fields
+  fields-short noField good = omega arith
+  fields-short (field name paths fields) good =
+      let (of-paths, of-fields) = each-split IsPath (pathsIn paths) (pathsInFields fields) good in
+      omega (arith, code-short paths of-paths, fields-short fields of-fields, length-append (code paths) (codeFields fields))
+
+-- so are the words of several
+codes-short :
+    (results : List Result)
+    → AllGood results
+    → length (codes (pathsOf results)) + length results ≤ 26 * nodesOfAll (pathsOf results)
+unfolding codes nodesOfAll Each
+codes-short [] good = omega arith
+codes-short (r ∷ results) good =
+    omega (arith, code-short (r .paths) (good .0 .good-paths), codes-short results (good .1), length-append (code (r .paths)) (codes (pathsOf results)))
+
+codes-room : (results : List Result) → AllGood results → length (codes (pathsOf results)) ≤ 6656 * length results
+unfolding codes Each
+codes-room [] good = omega arith
+codes-room (r ∷ results) good =
+    omega (
+      arith,
+      code-short (r .paths) (good .0 .good-paths),
+      good .0 .few-nodes,
+      codes-room results (good .1),
+      length-append (code (r .paths)) (codes (pathsOf results)),
+    )
+
+tries-room : (results : List Result) → AllGood results → length (stacked (triesOf results)) ≤ 1025 * length results
+unfolding stacked Each
+tries-room [] good = omega arith
+tries-room (r ∷ results) good =
+    omega (
+      arith,
+      good .0 .few-rows,
+      tries-room results (good .1),
+      length-append (trieWords (r .trie)) (stacked (triesOf results)),
+      length-map (r .trie) wordOf,
+    )
+
+-- ---- the results that a stack holds
+
+module _ {codeRun tries : List ℕ} {stack : Stack} {results : List Result} (held : Held codeRun tries stack results) where
+  pub code-place : stack .code + length (codes (pathsOf results)) ≡ 212992
+  code-place =
+      omega (arith, ap length (held .layout .code-there), length-drop (stack .code) codeRun, held .layout .code-length, held .layout .in-code)
+
+  pub tries-place : stack .tries + length (stacked (triesOf results)) ≡ 32800
+  tries-place =
+      omega (arith, ap length (held .layout .tries-there), length-drop (stack .tries) tries, held .layout .tries-length, held .layout .in-tries)
+
+  pub code-left : 212992 ≤ stack .code + 6656 * length results
+  code-left = omega (arith, code-place, codes-room results (held .good))
+
+  pub tries-left : 32800 ≤ stack .tries + 1025 * length results
+  tries-left = omega (arith, tries-place, tries-room results (held .good))
+
+-- the top, and what is below it
+module _ {codeRun tries : List ℕ} {stack : Stack} {top : Result} {rest : List Result} (held : Held codeRun tries stack (top ∷ rest)) where
+  pub top-code : drop (stack .code) codeRun ≡ code (top .paths) ++ codes (pathsOf rest)
+  unfolding codes
+  top-code = held .layout .code-there
+
+  pub top-trie : drop (stack .tries) tries ≡ trieWords (top .trie) ++ stacked (triesOf rest)
+  unfolding stacked
+  top-trie = held .layout .tries-there
+
+  pub top-good : GoodResult top
+  unfolding Each
+  top-good = held .good .0
+
+  rest-good : AllGood rest
+  unfolding Each
+  rest-good = held .good .1
+
+  -- the stack without its top
+  abbrev pub below : Stack
+  below = record {
+    code = stack .code + length (code (top .paths));
+    tries = stack .tries + 1 + length (top .trie);
+    results = length rest;
+  }
+
+  pub below-held : Held codeRun tries below rest
+  unfolding codes stacked
+  below-held = record {
+    layout = record {
+      code-length = held .layout .code-length;
+      tries-length = held .layout .tries-length;
+      in-code = omega (arith, code-place held, length-append (code (top .paths)) (codes (pathsOf rest)));
+      in-tries =
+          omega (
+            arith,
+            tries-place held,
+            length-append (trieWords (top .trie)) (stacked (triesOf rest)),
+            length-map (top .trie) wordOf,
+          );
+      code-there =
+          sym (drop-drop (length (code (top .paths))) (stack .code) codeRun)
+          ∙ rw top-code (drop-append-seam (code (top .paths)) (codes (pathsOf rest)));
+      tries-there = trie-rest tries (stacked (triesOf rest)) (stack .tries) (top .trie) top-trie;
+      as-many = refl;
+    };
+    few = omega (arith, held .few);
+    good = rest-good;
+  }
+
+  -- it stands in the runs
+  pub top-standing : Standing codeRun (stack .code) 1
+  unfolding codes
+  top-standing = record { paths = top .paths ∷ []; rest = codes (pathsOf rest); as-many = refl; coded = top-code ∙ rw append-nil }
+
+  pub top-stands : Stands codeRun (stack .code)
+  top-stands = record {
+    paths = top .paths;
+    rest = codes (pathsOf rest);
+    coded = top-code;
+    few-nodes = top-good .few-nodes;
+    good-paths = top-good .good-paths;
+  }
+
+  pub top-at : TrieAt tries (stack .tries)
+  top-at = record {
+    trie = top .trie;
+    rest = stacked (triesOf rest);
+    there = top-trie;
+    few-rows = top-good .few-rows;
+    good-trie = top-good .good-trie;
+  }
+
+  -- where it ends
+  pub code-end : {end nodes : ℕ} → Measures codeRun (stack .code) 1 end nodes → end ≡ below .code
+  unfolding codes
+  code-end m =
+      m (top .paths ∷ []) (codes (pathsOf rest)) refl (top-code ∙ rw append-nil) .0 ∙ rw append-nil
+
+  pub tries-end : {end : ℕ} → end ≡ stack .tries + 1 + getD tries (stack .tries) 0 → end ≡ below .tries
+  tries-end e = e ∙ rw (trie-count tries (stacked (triesOf rest)) (stack .tries) (top .trie) top-trie)
+
+-- a result was put before those that lie behind two places
+pub landed :
+    {codeRun tries codeRun′ tries′ : List ℕ} {under stack : Stack} {top : Result} {rest : List Result}
+    → Layout codeRun tries under rest
+    → Placed (code (top .paths)) codeRun (under .code) codeRun′ (stack .code)
+    → Placed (trieWords (top .trie)) tries (under .tries) tries′ (stack .tries)
+    → stack .results ≡ suc (length rest)
+    → Layout codeRun′ tries′ stack (top ∷ rest)
+unfolding codes stacked
+landed layout c t many = record {
+  code-length = c .same-length ∙ layout .code-length;
+  tries-length = t .same-length ∙ layout .tries-length;
+  in-code = omega (arith, c .starts, layout .in-code);
+  in-tries = omega (arith, t .starts, layout .in-tries);
+  code-there = c .there ∙ rw (layout .code-there);
+  tries-there = t .there ∙ rw (layout .tries-there);
+  as-many = many;
+}
+
+-- a result without rows on top
+pub pushed :
+    {codeRun tries codeRun′ : List ℕ} {stack : Stack} {results : List Result} {start : ℕ} (paths : Paths)
+    → Held codeRun tries stack results
+    → length results < 32
+    → nodesOf paths ≡ 1
+    → Placed (code paths) codeRun (stack .code) codeRun′ start
+    → Reached (λ place. judged place (result [] paths) results) codeRun′ (set tries (stack .tries - 1) 0)
+    (record { code = start; tries = stack .tries - 1; results = stack .results + 1 })
+unfolding isTooDeep
+pushed {tries} {stack} {results} paths held few nodes p =
+    let some-room : 0 < stack .tries = omega (arith, tries-left held) in
+    let inside : stack .tries ≤ length tries = omega (arith, held .layout .in-tries, held .layout .tries-length) in
+    record {
+      after = result [] paths ∷ results;
+      reached = λ place. judged-good place (result [] paths) results few (omega arith) refl (omega arith);
+      layout = landed (held .layout) p (placed-one 0 tries (stack .tries) some-room inside) (omega (arith, held .layout .as-many));
+    }
+
+-- ---- tries that are merged
+
+merged-length : (trie : List Row) (tries : List (List Row)) → length trie ≤ length (merged trie tries)
+unfolding merged
+merged-length trie [] = omega arith
+merged-length trie (next ∷ tries) = omega (arith, union-left-length trie next, merged-length (union trie next) tries)
+
+merged-trie : (trie : List Row) (tries : List (List Row)) → IsTrie trie → Each IsTrie tries → IsTrie (merged trie tries)
+unfolding merged Each
+merged-trie trie [] t good = t
+merged-trie trie (next ∷ tries) t good = merged-trie (union trie next) tries (union-trie trie next t (good .0)) (good .1)
+
+-- so many tries stand from a place on
+pub record Ready (words : List ℕ) (end left : ℕ) : Type 0 where
+  pub tries : List (List Row)
+  pub rest : List ℕ
+  pub as-many : length tries ≡ left
+  pub there : drop end words ≡ stacked tries ++ rest
+  pub few-rows : Each (λ trie. length trie ≤ 1024) tries
+  pub good-tries : Each IsTrie tries
+
+-- what is left of tries that are merged
+pub record Left (words rest state : List ℕ) (tries : List (List Row)) (end left : ℕ) : Type 0 where
+  pub ahead : List (List Row)
+  pub as-many : length ahead ≡ left
+  pub there : drop end words ≡ stacked ahead ++ rest
+  pub good : Each IsTrie ahead
+  pub same : merged (rowsIn state) ahead ≡ merged [] tries
+
+abbrev pub Merging : List ℕ → ℕ → ℕ → List ℕ → ℕ → ℕ → Type 0
+Merging words place count state end i =
+    (tries : List (List Row)) (rest : List ℕ)
+    → length tries ≡ count
+    → Each IsTrie tries
+    → drop place words ≡ stacked tries ++ rest
+    → Left words rest state tries end (count - i)
+
+pub record Going (words : List ℕ) (place count : ℕ) (state : List ℕ) (end i : ℕ) : Type 0 where
+  pub most : i ≤ count
+  pub inside : end ≤ length words
+  pub is : IsState state
+  pub ready : Ready words end (count - i)
+  pub room : getD state 0 0 + i ≤ end
+  pub merging : Merging words place count state end i
+
+-- the next trie
+module _ {words : List ℕ} {end left : ℕ} (ready : Ready words end left) (more : 0 < left) where
+  pub next-at : TrieAt words end
+  unfolding stacked Each
+  next-at = go (ready .tries) (ready .as-many) (ready .there) (ready .few-rows) (ready .good-tries)
+    where
+      go :
+          (tries : List (List Row))
+          → length tries ≡ left
+          → drop end words ≡ stacked tries ++ ready .rest
+          → Each (λ trie. length trie ≤ 1024) tries
+          → Each IsTrie tries
+          → TrieAt words end
+      go [] many there few good = absurd (omega arith)
+      go (trie ∷ tries) many there few good = record {
+        trie = trie;
+        rest = stacked tries ++ ready .rest;
+        there = there ∙ append-assoc (trieWords trie) (stacked tries) (ready .rest);
+        few-rows = few .0;
+        good-trie = good .0;
+      }
+
+  pub next-ready : {e : ℕ} → e ≡ end + 1 + getD words end 0 → Ready words e (left - 1)
+  unfolding stacked Each
+  next-ready {e} ends = go (ready .tries) (ready .as-many) (ready .there) (ready .few-rows) (ready .good-tries)
+    where
+      go :
+          (tries : List (List Row))
+          → length tries ≡ left
+          → drop end words ≡ stacked tries ++ ready .rest
+          → Each (λ trie. length trie ≤ 1024) tries
+          → Each IsTrie tries
+          → Ready words e (left - 1)
+      go [] many there few good = absurd (omega arith)
+      go (trie ∷ tries) many there few good =
+          let here = there ∙ append-assoc (trieWords trie) (stacked tries) (ready .rest) in
+          let after : e ≡ end + 1 + length trie = ends ∙ rw (trie-count words (stacked tries ++ ready .rest) end trie here) in
+          record {
+            tries = tries;
+            rest = ready .rest;
+            as-many = omega arith;
+            there = rw after (trie-rest words (stacked tries ++ ready .rest) end trie here);
+            few-rows = few .1;
+            good-tries = good .1;
+          }
+
+-- before the first
+pub going-first : (words : List ℕ) (place count : ℕ) → TriesAt words place count → Going words place count (replicate 1026 0) place 0
+going-first words place count t = record {
+  most = omega arith;
+  inside = omega (arith, at-within (next-at ready (omega (arith, t .some-trie))));
+  is = zero-state;
+  ready = ready;
+  room = omega arith;
+  merging = λ tries rest many good there. record {
+    ahead = tries;
+    as-many = omega arith;
+    there = there;
+    good = good;
+    same = refl;
+  };
+}
+  where
+    ready : Ready words place (count - 0)
+    ready = record {
+      tries = t .tries;
+      rest = t .rest;
+      as-many = omega (arith, t .as-many);
+      there = t .there;
+      few-rows = t .few-rows;
+      good-tries = t .good-tries;
+    }
+
+-- its rows in words are nodes
+pub next-nodes : {words : List ℕ} {end : ℕ} → TrieAt words end → allNodes (take (getD words end 0) (drop (end + 1) words)) ≡ true
+next-nodes {words} {end} t = rw (trie-rows words (t .rest) end (t .trie) (t .there)) (trie-words (t .trie) (t .good-trie) .1)
+
+pub next-length : {words : List ℕ} {end : ℕ} → TrieAt words end → length (take (getD words end 0) (drop (end + 1) words)) ≡ getD words end 0
+next-length {words} {end} t =
+    ap length (trie-rows words (t .rest) end (t .trie) (t .there))
+    ∙ length-map (t .trie) wordOf
+    ∙ sym (trie-count words (t .rest) end (t .trie) (t .there))
+
+-- it was merged, or that has too many nodes
+module _ {words rest state state′ : List ℕ} {tries : List (List Row)} {end left : ℕ} (l : Left words rest state tries end left) (more : 0 < left) where
+  left-next :
+      {e : ℕ}
+      → e ≡ end + 1 + getD words end 0
+      → Became (union (rowsIn state) (rowsOf (take (getD words end 0) (drop (end + 1) words)))) state′ true
+      → Left words rest state′ tries e (left - 1)
+  unfolding stacked Each merged
+  left-next {e} ends b = go (l .ahead) (l .as-many) (l .there) (l .good) (l .same)
+    where
+      go :
+          (ahead : List (List Row))
+          → length ahead ≡ left
+          → drop end words ≡ stacked ahead ++ rest
+          → Each IsTrie ahead
+          → merged (rowsIn state) ahead ≡ merged [] tries
+          → Left words rest state′ tries e (left - 1)
+      go [] many there good same = absurd (omega arith)
+      go (trie ∷ ahead) many there good same =
+          let here = there ∙ append-assoc (trieWords trie) (stacked ahead) rest in
+          let after : e ≡ end + 1 + length trie = ends ∙ rw (trie-count words (stacked ahead ++ rest) end trie here) in
+          let rows : rowsIn state′ ≡ union (rowsIn state) trie =
+          b .there refl ∙ rw (trie-rows words (stacked ahead ++ rest) end trie here, trie-words trie (good .0) .0) in
+          record {
+            ahead = ahead;
+            as-many = omega arith;
+            there = rw after (trie-rest words (stacked ahead ++ rest) end trie here);
+            good = good .1;
+            same = rw rows same;
+          }
+
+  left-over :
+      Became (union (rowsIn state) (rowsOf (take (getD words end 0) (drop (end + 1) words)))) state′ false
+      → 1024 < length (merged [] tries)
+  unfolding stacked Each merged
+  left-over b = go (l .ahead) (l .as-many) (l .there) (l .good) (l .same)
+    where
+      go :
+          (ahead : List (List Row))
+          → length ahead ≡ left
+          → drop end words ≡ stacked ahead ++ rest
+          → Each IsTrie ahead
+          → merged (rowsIn state) ahead ≡ merged [] tries
+          → 1024 < length (merged [] tries)
+      go [] many there good same = absurd (omega arith)
+      go (trie ∷ ahead) many there good same =
+          let here = there ∙ append-assoc (trieWords trie) (stacked ahead) rest in
+          let rows : union (rowsIn state) (rowsOf (take (getD words end 0) (drop (end + 1) words))) ≡ union (rowsIn state) trie =
+          rw (trie-rows words (stacked ahead ++ rest) end trie here, trie-words trie (good .0) .0) in
+          let run = take (getD words end 0) (drop (end + 1) words) in
+          omega (
+            arith,
+            leb-false (length (union (rowsIn state) (rowsOf run))) 1024 (sym (b .judged)),
+            ap length rows,
+            merged-length (union (rowsIn state) trie) ahead,
+            ap length same,
+          )
+
+module _ {words state : List ℕ} {place count end i : ℕ} (going : Going words place count state end i) (more : i < count) where
+  some-left : 0 < count - i
+  some-left = omega arith
+
+  pub going-at : TrieAt words end
+  going-at = next-at (going .ready) some-left
+
+  pub going-nodes : allNodes (take (getD words end 0) (drop (end + 1) words)) ≡ true
+  going-nodes = next-nodes going-at
+
+  pub going-next :
+      {state′ : List ℕ} {e : ℕ}
+      → e ≡ end + 1 + getD words end 0
+      → Became (union (rowsIn state) (rowsOf (take (getD words end 0) (drop (end + 1) words)))) state′ true
+      → Going words place count state′ e (i + 1)
+  going-next {state′} {e} ends b =
+      let fewer : count - i - 1 ≡ count - (i + 1) = omega arith in
+      let run = take (getD words end 0) (drop (end + 1) words) in
+      record {
+        most = omega arith;
+        inside = omega (arith, at-within going-at);
+        is = b .still;
+        ready = rw (← fewer) (next-ready (going .ready) some-left ends);
+        room =
+            omega (
+              arith,
+              going .room,
+              state-count (going .is),
+              state-count (b .still),
+              ap length (b .there refl),
+              union-sum-length (rowsIn state) (rowsOf run),
+              length-map run rowOf,
+              next-length going-at,
+            );
+        merging = λ tries rest many good there.
+            rw (← fewer) (left-next (going .merging tries rest many good there) some-left ends b);
+      }
+
+  pub going-over :
+      {words′ state′ : List ℕ} {start : ℕ}
+      → start ≡ 32800
+      → Became (union (rowsIn state) (rowsOf (take (getD words end 0) (drop (end + 1) words)))) state′ false
+      → MergedFrom words place count words′ start
+  going-over all b tries rest many good there = inl (all, left-over (going .merging tries rest many good there) some-left b)
+
+-- all were merged
+pub going-done :
+    {words state words′ : List ℕ} {place count end i start : ℕ}
+    → Going words place count state end i
+    → count ≤ i
+    → length words ≡ 32800
+    → Placed (trieWords (rowsIn state)) words end words′ start
+    → MergedFrom words place count words′ start
+unfolding merged stacked
+going-done {words} {state} {words′} {place} {count} {end} {i} {start} going all long p tries rest many good there =
+    let l = going .merging tries rest many good there in
+    go (l .ahead) (l .as-many) (l .there) (l .same)
+  where
+    go :
+        (ahead : List (List Row))
+        → length ahead ≡ count - i
+        → drop end words ≡ stacked ahead ++ rest
+        → merged (rowsIn state) ahead ≡ merged [] tries
+        → ((start ≡ 32800) × (1024 < length (merged [] tries))) ⊎ Merges tries rest words′ start
+    go [] many there same = inr (record {
+      fits = omega (arith, ap length same, state-count (going .is), going .is .few-rows);
+      inside = omega (arith, p .starts, going .inside);
+      same-length = p .same-length ∙ long;
+      there = p .there ∙ rw (there, ← same);
+    })
+    go (trie ∷ ahead) many there same = absurd (omega arith)
+
+-- ---- results that are wrapped
+
+codes-split : (taken left : List Result) → codes (pathsOf (taken ++ left)) ≡ codes (pathsOf taken) ++ codes (pathsOf left)
+unfolding codes
+codes-split [] left = refl
+codes-split (r ∷ taken) left = rw (codes-split taken left) (sym (append-assoc (code (r .paths)) (codes (pathsOf taken)) (codes (pathsOf left))))
+
+tries-split : (taken left : List Result) → stacked (triesOf (taken ++ left)) ≡ stacked (triesOf taken) ++ stacked (triesOf left)
+unfolding stacked
+tries-split [] left = refl
+tries-split (r ∷ taken) left =
+    rw (tries-split taken left) (sym (append-assoc (trieWords (r .trie)) (stacked (triesOf taken)) (stacked (triesOf left))))
+
+-- so many results stand on top
+pub top-of :
+    {codeRun tries : List ℕ} {stack : Stack} (count : ℕ) (results : List Result)
+    → Held codeRun tries stack results
+    → Held codeRun tries stack (take count results ++ drop count results)
+top-of count results held = rw (take-append-drop count results) held
+
+module _ {codeRun tries : List ℕ} {stack : Stack} (taken left : List Result) {count : ℕ} (many : length taken ≡ count) (held : Held codeRun tries stack (taken ++ left)) where
+  taken-good : AllGood taken
+  taken-good = each-split GoodResult taken left (held .good) .0
+
+  left-good : AllGood left
+  left-good = each-split GoodResult taken left (held .good) .1
+
+  codes-there : drop (stack .code) codeRun ≡ codes (pathsOf taken) ++ codes (pathsOf left)
+  codes-there = held .layout .code-there ∙ codes-split taken left
+
+  tries-there : drop (stack .tries) tries ≡ stacked (triesOf taken) ++ stacked (triesOf left)
+  tries-there = held .layout .tries-there ∙ tries-split taken left
+
+  tries-good : Each IsTrie (triesOf taken)
+  tries-good = each-map GoodResult IsTrie (λ r. r .trie) (λ r good. good .good-trie) taken taken-good
+
+  pub wrap-standing : Standing codeRun (stack .code) count
+  wrap-standing = record {
+    paths = pathsOf taken;
+    rest = codes (pathsOf left);
+    as-many = length-map taken (λ r. r .paths) ∙ many;
+    coded = codes-there;
+  }
+
+  pub wrap-nodes : {end nodes : ℕ} → Measures codeRun (stack .code) count end nodes → nodes ≡ nodesOfAll (pathsOf taken)
+  wrap-nodes m = m (pathsOf taken) (codes (pathsOf left)) (length-map taken (λ r. r .paths) ∙ many) codes-there .1
+
+  module _ (some-taken : 0 < count) where
+    pub wrap-tries : TriesAt tries (stack .tries) count
+    wrap-tries = record {
+      tries = triesOf taken;
+      rest = stacked (triesOf left);
+      words-length = held .layout .tries-length;
+      some-trie = some-taken;
+      as-many = length-map taken (λ r. r .trie) ∙ many;
+      there = tries-there;
+      few-rows = each-map GoodResult (λ trie. length trie ≤ 1024) (λ r. r .trie) (λ r good. good .few-rows) taken taken-good;
+      good-tries = tries-good;
+    }
+
+    wrap-few : length left < 32
+    wrap-few = omega (arith, held .few, length-append taken left)
+
+    -- there is room for a head with its names
+    pub wrap-room : nodesOfAll (pathsOf taken) < 256 → (count + 1 ≤ stack .code) × (stack .code ≤ length codeRun)
+    wrap-room few-nodes = (
+      omega (
+        arith,
+        code-place held,
+        ap length (codes-split taken left),
+        length-append (codes (pathsOf taken)) (codes (pathsOf left)),
+        codes-short taken taken-good,
+        codes-room left left-good,
+        held .few,
+        length-append taken left,
+      ),
+      omega (arith, held .layout .in-code, held .layout .code-length),
+    )
+
+    module _ {head : List ℕ} {wrapping : Result} (w : Wraps head taken wrapping) where
+      pub wrap-over :
+          {nodes : ℕ}
+          → nodes ≡ nodesOfAll (pathsOf taken)
+          → 256 ≤ nodes
+          → (place : ℕ)
+          → judged place wrapping left ≡ refused 15 place
+      wrap-over e many-nodes place = judged-nodes place wrapping left wrap-few (omega (arith, w .nodes))
+
+      module _ {tries′ : List ℕ} {start : ℕ} (few-nodes : nodesOfAll (pathsOf taken) < 256) (m : MergedFrom tries (stack .tries) count tries′ start) where
+        wrapped-nodes : nodesOf (wrapping .paths) ≤ 256
+        wrapped-nodes = omega (arith, w .nodes)
+
+        wrapped-shallow : isTooDeep (wrapping .trie) ≡ false
+        wrapped-shallow = rw (w .tries) (trie-shallow _ (merged-trie [] (triesOf taken) empty-trie tries-good))
+
+        pub wrap-rows : start ≡ 32800 → (place : ℕ) → judged place wrapping left ≡ refused 4 place
+        wrap-rows none-there place =
+            go (m (triesOf taken) (stacked (triesOf left)) (length-map taken (λ r. r .trie) ∙ many) tries-good tries-there)
+          where
+            go :
+                ((start ≡ 32800) × (1024 < length (merged [] (triesOf taken)))) ⊎ Merges (triesOf taken) (stacked (triesOf left)) tries′ start
+                → judged place wrapping left ≡ refused 4 place
+            go (inl h) = judged-rows place wrapping left wrap-few wrapped-nodes wrapped-shallow (omega (arith, h .1, ap length (w .tries)))
+            go (inr h) = absurd (omega (arith, h .inside))
+
+        pub wrap-done :
+            {codeRun′ : List ℕ} {first : ℕ}
+            → (start ≡ 32800 → ⊥)
+            → Placed head codeRun (stack .code) codeRun′ first
+            → Reached (λ place. judged place wrapping left) codeRun′ tries′
+            (record { code = first; tries = start; results = stack .results - count + 1 })
+        unfolding codes stacked
+        wrap-done {codeRun′} {first} there p =
+            go (m (triesOf taken) (stacked (triesOf left)) (length-map taken (λ r. r .trie) ∙ many) tries-good tries-there)
+          where
+            go :
+                ((start ≡ 32800) × (1024 < length (merged [] (triesOf taken)))) ⊎ Merges (triesOf taken) (stacked (triesOf left)) tries′ start
+                → Reached (λ place. judged place wrapping left) codeRun′ tries′
+                (record { code = first; tries = start; results = stack .results - count + 1 })
+            go (inl h) = absurd (there (h .0))
+            go (inr h) = record {
+              after = wrapping ∷ left;
+              reached = λ place.
+                  judged-good place wrapping left wrap-few wrapped-nodes wrapped-shallow (omega (arith, h .fits, ap length (w .tries)));
+              layout = record {
+                code-length = p .same-length ∙ held .layout .code-length;
+                tries-length = h .same-length;
+                in-code = omega (arith, p .starts, held .layout .in-code);
+                in-tries = omega (arith, h .inside);
+                code-there =
+                    p .there
+                    ∙ rw (codes-there, w .coded) (sym (append-assoc head (codes (pathsOf taken)) (codes (pathsOf left))));
+                tries-there = h .there ∙ rw (w .tries);
+                as-many = omega (arith, held .layout .as-many, length-append taken left);
+              };
+            }
+
+-- a union, and a set literal
+pub union-wraps :
+    (left right : Result)
+    → IsTrie (left .trie)
+    → IsTrie (right .trie)
+    → Wraps (2 ∷ []) (right ∷ left ∷ []) (unionResults left right)
+unfolding code codes nodesOf nodesOfAll merged
+union-wraps left right tl tr = record {
+  coded = rw append-nil;
+  nodes = omega arith;
+  tries = rw union-nil-left (trie-commutative (left .trie) (right .trie) tl tr);
+}
+
+pub set-wraps : (top : Result) → Wraps (3 ∷ []) (top ∷ []) (result (top .trie) (SetLiteral (top .paths)))
+unfolding code codes nodesOf nodesOfAll merged
+set-wraps top = record { coded = rw append-nil; nodes = omega arith; tries = sym (union-nil-left (top .trie)) }
+
+module _ {codeRun tries : List ℕ} {stack : Stack} (results : List Result) (held : Held codeRun tries stack results) where
+  pub two-few : (of : Result → Result → Result) → stack .results < 2 → (place : ℕ) → twoStep of place results ≡ refused 6 place
+  two-few of few place = go results (held .layout .as-many)
+    where
+      go : (results : List Result) → stack .results ≡ length results → twoStep of place results ≡ refused 6 place
+      go [] many = refl
+      go (right ∷ []) many = refl
+      go (right ∷ left ∷ rest) many = absurd (omega arith)
+
+  pub union-done :
+      (codeRun′ tries′ : List ℕ) (r : Stepped)
+      → 2 ≤ stack .results
+      → WrapsBy (2 ∷ []) 2 codeRun tries stack codeRun′ tries′ r
+      → Outcomes (λ place. twoStep unionResults place results) codeRun′ tries′ r
+  unfolding Each
+  union-done codeRun′ tries′ r enough w = go results held
+    where
+      go :
+          (results : List Result)
+          → Held codeRun tries stack results
+          → Outcomes (λ place. twoStep unionResults place results) codeRun′ tries′ r
+      go [] held = absurd (omega (arith, held .layout .as-many))
+      go (right ∷ []) held = absurd (omega (arith, held .layout .as-many))
+      go (right ∷ left ∷ rest) held =
+          w (right ∷ left ∷ []) rest (unionResults left right) refl
+          (union-wraps left right (held .good .1 .0 .good-trie) (held .good .0 .good-trie))
+          held
+
+  pub set-few : stack .results ≡ 0 → (place : ℕ) → setStep place results ≡ refused 6 place
+  set-few few place = go results (held .layout .as-many)
+    where
+      go : (results : List Result) → stack .results ≡ length results → setStep place results ≡ refused 6 place
+      go [] many = refl
+      go (top ∷ rest) many = absurd (omega arith)
+
+  pub set-done :
+      (codeRun′ tries′ : List ℕ) (r : Stepped)
+      → 0 < stack .results
+      → WrapsBy (3 ∷ []) 1 codeRun tries stack codeRun′ tries′ r
+      → Outcomes (λ place. setStep place results) codeRun′ tries′ r
+  set-done codeRun′ tries′ r enough w = go results held
+    where
+      go : (results : List Result) → Held codeRun tries stack results → Outcomes (λ place. setStep place results) codeRun′ tries′ r
+      go [] held = absurd (omega (arith, held .layout .as-many))
+      go (top ∷ rest) held = w (top ∷ []) rest (result (top .trie) (SetLiteral (top .paths))) refl (set-wraps top) held
+
+-- ---- record literals
+
+-- what a record literal takes from the stack
+record Wrapping (names : List ℕ) (taken left : List Result) (w : Wrapped) : Type 0 where
+  leaves : w .left ≡ left
+  named : namesIn (w .fields) ≡ names
+  counted : countIn (w .fields) ≡ length names
+  coded : codeFields (w .fields) ≡ codes (pathsOf taken)
+  nodes : nodesOfFields (w .fields) ≡ nodesOfAll (pathsOf taken)
+  good : IsTrie (w .trie)
+  tries : (trie : List Row) → IsTrie trie → merged trie (triesOf taken) ≡ union trie (w .trie)
+
+names-wrapped :
+    (names : List ℕ) (taken left : List Result)
+    → length taken ≡ length names
+    → AllGood taken
+    → (w : Wrapped) × (wrapped names (taken ++ left) ≡ some w) × Wrapping names taken left w
+unfolding wrapped Each merged namesIn countIn codeFields codes nodesOfFields nodesOfAll
+names-wrapped [] [] left many good = (
+  record { trie = []; fields = noField; left = left },
+  refl,
+  record {
+    leaves = refl;
+    named = refl;
+    counted = refl;
+    coded = refl;
+    nodes = refl;
+    good = empty-trie;
+    tries = λ trie t. sym (union-nil-right trie);
+  },
+)
+names-wrapped [] (r ∷ taken) left many good = absurd (omega arith)
+names-wrapped (name ∷ names) [] left many good = absurd (omega arith)
+names-wrapped (name ∷ names) (r ∷ taken) left many good =
+    let (w, e, k) = names-wrapped names taken left (omega arith) (good .1) in (
+      record { trie = union (w .trie) (r .trie); fields = field name (r .paths) (w .fields); left = w .left },
+      rw e,
+      record {
+        leaves = k .leaves;
+        named = rw (k .named);
+        counted = rw (k .counted);
+        coded = rw (k .coded);
+        nodes = rw (k .nodes);
+        good = union-trie (w .trie) (r .trie) (k .good) (good .0 .good-trie);
+        tries = λ trie t.
+            k .tries (union trie (r .trie)) (union-trie trie (r .trie) t (good .0 .good-trie))
+            ∙ trie-associative trie (r .trie) (w .trie) t (good .0 .good-trie) (k .good)
+            ∙ rw (trie-commutative (r .trie) (w .trie) (good .0 .good-trie) (k .good));
+      },
+    )
+
+names-few : (names : List ℕ) (results : List Result) → length results < length names → wrapped names results ≡ none
+unfolding wrapped
+names-few [] results few = absurd (omega arith)
+names-few (name ∷ names) [] few = refl
+names-few (name ∷ names) (r ∷ results) few = rw (names-few names results (omega arith))
+
+module _ {codeRun tries : List ℕ} {stack : Stack} (results : List Result) (held : Held codeRun tries stack results) (names : List ℕ) where
+  pub rec-few : stack .results < length names → (place : ℕ) → recStep names place results ≡ refused 6 place
+  rec-few few place = rw (names-few names results (omega (arith, held .layout .as-many)), recStep)
+
+  pub rec-done :
+      (count : ℕ) (codeRun′ tries′ : List ℕ) (r : Stepped)
+      → length names ≡ count
+      → count ≤ stack .results
+      → WrapsBy ((4 + 8 * count) ∷ names) count codeRun tries stack codeRun′ tries′ r
+      → Outcomes (λ place. recStep names place results) codeRun′ tries′ r
+  unfolding code nodesOf
+  rec-done count codeRun′ tries′ r as-many enough by =
+      let many : length (take count results) ≡ count = length-take-le count results (omega (arith, held .layout .as-many)) in
+      let split : take count results ++ drop count results ≡ results = take-append-drop count results in
+      let top = top-of count results held in
+      let (w, e, k) = names-wrapped names (take count results) (drop count results) (many ∙ sym as-many) (taken-good (take count results) (drop count results) many top) in
+      let wraps : Wraps ((4 + 8 * count) ∷ names) (take count results) (result (w .trie) (RecordLiteral (w .fields))) =
+      record {
+        coded = rw (k .counted ∙ as-many, k .named, k .coded);
+        nodes = rw (k .nodes);
+        tries = sym (k .tries [] empty-trie ∙ union-nil-left (w .trie));
+      } in
+      let gives : wrapped names results ≡ some w = rw split at e in
+      let outcome = by (take count results) (drop count results) (result (w .trie) (RecordLiteral (w .fields))) many wraps top in
+      subst
+      (λ (o : Option Wrapped).
+      Outcomes
+      (λ place. elim o [ none ↦ refused 6 place | some w ↦ judged place (result (w .trie) (RecordLiteral (w .fields))) (w .left) ])
+      codeRun′
+      tries′
+      r)
+      (sym gives)
+      (subst
+      (λ (l : List Result). Outcomes (λ place. judged place (result (w .trie) (RecordLiteral (w .fields))) l) codeRun′ tries′ r)
+      (sym (k .leaves))
+      outcome)
+
+-- no name, and a head with names
+pub rec-none :
+    (results : List Result) (names codeRun′ tries′ : List ℕ) (r : Stepped)
+    → names ≡ []
+    → Outcomes (λ place. judged place (result [] (RecordLiteral noField)) results) codeRun′ tries′ r
+    → Outcomes (λ place. recStep names place results) codeRun′ tries′ r
+unfolding wrapped
+rec-none results names codeRun′ tries′ r e outcome =
+    subst (λ (l : List ℕ). Outcomes (λ place. recStep l place results) codeRun′ tries′ r) (sym e) outcome
+
+pub rec-head :
+    (w : ℕ) (names : List ℕ) {out′ : List ℕ} {end : ℕ}
+    → length names ≤ 32
+    → Wrote (set (replicate 33 0) 0 w) 1 names out′ end
+    → take end out′ ≡ w ∷ names
+rec-head w names few written =
+    let room : 1 + length names ≤ length (set (replicate {A = ℕ} 33 0) 0 w) = omega arith in
+    rw (written .text, written .after, sets-eq names (set (replicate 33 0) 0 w) 1 room)
+    (take-at (w ∷ names) _ (1 + length names) (omega arith))
+
+pub head-room :
+    (w : ℕ) (names : List ℕ) {out′ : List ℕ} {end : ℕ}
+    → length names ≤ 32
+    → Wrote (set (replicate 33 0) 0 w) 1 names out′ end
+    → (end ≤ length out′) × (end ≡ 1 + length names)
+head-room w names few written =
+    (omega (arith, written .after, ap length (written .text), length-sets (set (replicate 33 0) 0 w) 1 names), written .after)
+
+-- ---- the top
+
+pub held-top :
+    {codeRun tries : List ℕ} {stack : Stack} (results : List Result)
+    → Held codeRun tries stack results
+    → 0 < stack .results
+    → (top : Result) × (rest : List Result) × (results ≡ top ∷ rest) × Held codeRun tries stack (top ∷ rest)
+held-top [] held some-result = absurd (omega (arith, held .layout .as-many))
+held-top (top ∷ rest) held some-result = (top, rest, refl, held)
+
+module _ {codeRun tries : List ℕ} {stack : Stack} {top : Result} {rest : List Result} (held : Held codeRun tries stack (top ∷ rest)) where
+  pub top-few : length rest < 32
+  top-few = omega (arith, held .few)
+
+  -- there is room for another top
+  pub code-end-room : {end : ℕ} → end ≡ below held .code → (6656 ≤ end) × (end ≤ 212992)
+  code-end-room e = (omega (arith, code-left (below-held held), top-few), omega (arith, below-held held .layout .in-code))
+
+  pub tries-end-room : {end : ℕ} → end ≡ below held .tries → (1025 ≤ end) × (end ≤ 32800)
+  tries-end-room e = (omega (arith, tries-left (below-held held), top-few), omega (arith, below-held held .layout .in-tries))
+
+-- empty paths
+pub drop-few :
+    {codeRun tries : List ℕ} {stack : Stack} (results : List Result)
+    → Held codeRun tries stack results
+    → stack .results ≡ 0
+    → (place : ℕ)
+    → dropStep place results ≡ refused 6 place
+drop-few [] held few place = refl
+drop-few (top ∷ rest) held few place = absurd (omega (arith, held .layout .as-many))
+
+pub drop-done :
+    {codeRun tries codeRun′ : List ℕ} {stack : Stack} {end nodes start : ℕ} (results : List Result)
+    → Held codeRun tries stack results
+    → 0 < stack .results
+    → Measures codeRun (stack .code) 1 end nodes
+    → Placed (0 ∷ []) codeRun end codeRun′ start
+    → Reached (λ place. dropStep place results) codeRun′ tries (record { code = start; tries = stack .tries; results = stack .results })
+unfolding code codes nodesOf
+drop-done [] held some-result m p = absurd (omega (arith, held .layout .as-many))
+drop-done (top ∷ rest) held some-result m p =
+    let under = below-held held .layout in
+    let put = rw (code-end held m) at p in
+    record {
+      after = emptyPaths (top .trie) ∷ rest;
+      reached = λ place.
+          judged-good place (emptyPaths (top .trie)) rest (top-few held) (omega arith) (trie-shallow (top .trie) (top-good held .good-trie)) (top-good held .few-rows);
+      layout = record {
+        code-length = put .same-length ∙ under .code-length;
+        tries-length = held .layout .tries-length;
+        in-code = omega (arith, put .starts, under .in-code);
+        in-tries = held .layout .in-tries;
+        code-there = put .there ∙ rw (under .code-there);
+        tries-there = held .layout .tries-there;
+        as-many = held .layout .as-many;
+      };
+    }
+
+-- nothing is below a path
+pub fit-none : (paths : List Path) → AllFit paths []
+unfolding AllFit allBelow
+fit-none [] = tt
+fit-none (path ∷ paths) = (refl, fit-none paths)
+
+-- ---- attributes
+
+-- paths with a leaf are too deep exactly where one of them with what is below its leaf is
+any-deep :
+    (paths : List Path) (leaf : Leaf)
+    → Each (λ path. 0 < length path) paths
+    → anyTooDeep (pathTries paths leaf) ≡ anyDeep paths (deepest (leaf .below))
+unfolding anyTooDeep anyDeep Each
+any-deep [] leaf some-steps = refl
+any-deep (path ∷ paths) leaf some-steps = rw (path-deep path leaf (some-steps .0), any-deep paths leaf (some-steps .1))
+
+-- no path is too deep exactly where each is short enough
+none-deep : (paths : List Path) (under : ℕ) → anyDeep paths under ≡ false → Each (λ path. length path + under ≤ 24) paths
+unfolding anyDeep Each
+none-deep [] under e = tt
+none-deep (path ∷ paths) under e =
+    by-test (ltb 24 (length path + under))
+    (λ deep. absurd (true≢false (rw deep at e)))
+    (λ short. (ltb-false 24 (length path + under) short, none-deep paths under (rw short at e)))
+
+all-some : (paths : List Path) → AllPaths paths → Each (λ path. 0 < length path) paths
+all-some paths good = each-then IsPath (λ path. 0 < length path) (λ path p. stepped-some path (p .steps)) paths good
+
+grown-some : (f : ℕ) (paths : Paths) → Each (λ path. 0 < length path) (grownIn f paths)
+unfolding grownIn Each
+grown-some f Empty = tt
+grown-some f (AccessPath path) = (omega (arith, length-append path (f ∷ [])), tt)
+grown-some f (Union left right) = each-append (λ path. 0 < length path) (grownIn f right) (grownIn f left) (grown-some f right) (grown-some f left)
+grown-some f (RecordLiteral fields) = tt
+grown-some f (SetLiteral elements) = tt
+
+-- no path nodes are added
+bound :
+    {A B P : Type 0} (o : Option A) (next : A → Option B) (b : B)
+    → (o >>= next) ≡ some b
+    → ((a : A) → o ≡ some a → next a ≡ some b → P)
+    → P
+bound none next b e then = absurd (Option·none-ne-some b e)
+bound (some a) next b e then = then a refl e
+
+field-nodes : (f : ℕ) (fields : Fields) (paths : Paths) → fieldOf f fields ≡ some paths → nodesOf paths ≤ nodesOfFields fields
+unfolding fieldOf nodesOfFields
+field-nodes f noField paths e = absurd (Option·none-ne-some paths e)
+field-nodes f (field name own fields) paths e =
+    by-test (eqb name f)
+    (λ h. rw (← Option·some-injective own paths (rw h at e)) (omega arith))
+    (λ h. omega (arith, field-nodes f fields paths (rw h at e)))
+
+attr-nodes : (f : ℕ) (paths after : Paths) → getOrHasAttr f paths ≡ some after → nodesOf after ≤ nodesOf paths
+unfolding getOrHasAttr nodesOf
+attr-nodes f Empty after e = rw (← Option·some-injective Empty after e) (omega arith)
+attr-nodes f (AccessPath path) after e = rw (← Option·some-injective (AccessPath (path ++ (f ∷ []))) after e) (omega arith)
+attr-nodes f (Union a b) after e =
+    bound (getOrHasAttr f b) _ after e λ b′ eb e.
+    bound (getOrHasAttr f a) _ after e λ a′ ea e.
+    rw (← Option·some-injective (Union a′ b′) after e) (omega (arith, attr-nodes f a a′ ea, attr-nodes f b b′ eb))
+attr-nodes f (RecordLiteral fields) after e =
+    rw (← Option·some-injective (fieldOr (fieldOf f fields) (RecordLiteral fields)) after e)
+    (by-option (fieldOf f fields)
+    (λ h. rw h (omega arith))
+    (λ own h. rw h (omega (arith, field-nodes f fields own h))))
+attr-nodes f (SetLiteral elements) after e = absurd (Option·none-ne-some after e)
+
+pub attr-few :
+    {codeRun tries : List ℕ} {stack : Stack} (f : ℕ) (results : List Result)
+    → Held codeRun tries stack results
+    → stack .results ≡ 0
+    → (place : ℕ)
+    → attrStep place f results ≡ refused 6 place
+attr-few f [] held few place = refl
+attr-few f (top ∷ rest) held few place = absurd (omega (arith, held .layout .as-many))
+
+-- the state that a trie was copied into holds it
+pub copied-top :
+    {codeRun tries state : List ℕ} {stack : Stack} {top : Result} {rest : List Result}
+    → Held codeRun tries stack (top ∷ rest)
+    → CopiedFrom tries (stack .tries) state
+    → rowsIn state ≡ top .trie
+copied-top {top} {rest} held c = c .1 (top .trie) (stacked (triesOf rest)) (top-good held .good-trie) (top-trie held)
+
+module _ {codeRun tries : List ℕ} {stack : Stack} {top : Result} {rest : List Result} (held : Held codeRun tries stack (top ∷ rest)) (f : ℕ) where
+  pub attr-set : getOrHasAttr f (top .paths) ≡ none → (place : ℕ) → attrStep place f (top ∷ rest) ≡ refused 7 place
+  attr-set e place = rw (e, attrStep)
+
+  module _ (small : f < 65536) {out places : List ℕ} {words grown : ℕ} (g : Grew f (top .paths) out places words grown) where
+    abbrev gained : List Path
+    gained = pathsAt out (take grown places)
+
+    attr-answer : (place : ℕ) → attrStep place f (top ∷ rest) ≡ judged place (restored (top .trie) (g .after)) rest
+    attr-answer place = rw (g .extended, attrStep)
+
+    nodes-after : nodesOf (g .after) ≤ 256
+    nodes-after = omega (arith, attr-nodes f (top .paths) (g .after) (g .extended), top-good held .few-nodes)
+
+    deep-after : isTooDeep (addPaths (top .trie) (pathsIn (g .after)) emptyLeaf) ≡ anyDeep gained 0
+    unfolding deepest
+    deep-after =
+        attr-deep top f (g .after) (top-good held) (g .extended)
+        ∙ any-deep (grownIn f (top .paths)) emptyLeaf (grown-some f (top .paths))
+        ∙ rw (g .there)
+
+    pub attr-too-deep : anyDeep gained 0 ≡ true → (place : ℕ) → attrStep place f (top ∷ rest) ≡ refused 3 place
+    attr-too-deep deep place =
+        attr-answer place ∙ judged-deep place (restored (top .trie) (g .after)) rest (top-few held) nodes-after (deep-after ∙ deep)
+
+    module _ (shallow : anyDeep gained 0 ≡ false) where
+      grown-good : AllPaths (grownIn f (top .paths))
+      grown-good =
+          grown-paths f (top .paths) small (top-good held .good-paths)
+          (each-then (λ path. length path + 0 ≤ 24) (λ path. length path ≤ 24) (λ path h. omega arith) (grownIn f (top .paths))
+          (none-deep (grownIn f (top .paths)) 0 (rw (← g .there) shallow)))
+
+      pub attr-paths : AllPaths gained
+      attr-paths = rw (g .there) grown-good
+
+      module _ (state : List ℕ) {state′ : List ℕ} {fits : Bool} (copy : rowsIn state ≡ top .trie) (b : Became (addPaths (rowsIn state) gained emptyLeaf) state′ fits) where
+        rows-after : addPaths (rowsIn state) gained emptyLeaf ≡ addPaths (top .trie) (pathsIn (g .after)) emptyLeaf
+        rows-after = rw (copy, g .there) (sym (attr-grown top f (g .after) (top-good held) (g .extended) grown-good))
+
+        pub attr-rows : fits ≡ false → (place : ℕ) → attrStep place f (top ∷ rest) ≡ refused 4 place
+        attr-rows over place =
+            attr-answer place
+            ∙ judged-rows place (restored (top .trie) (g .after)) rest (top-few held) nodes-after (deep-after ∙ shallow)
+            (omega (
+              arith,
+              leb-false (length (addPaths (rowsIn state) gained emptyLeaf)) 1024 (sym (b .judged) ∙ over),
+              ap length rows-after,
+            ))
+
+        pub attr-done :
+            {codeRun′ tries′ : List ℕ} {end nodes tend start tstart : ℕ}
+            → fits ≡ true
+            → Measures codeRun (stack .code) 1 end nodes
+            → tend ≡ stack .tries + 1 + getD tries (stack .tries) 0
+            → Placed (take words out) codeRun end codeRun′ start
+            → Placed (trieWords (rowsIn state′)) tries tend tries′ tstart
+            → Reached (λ place. attrStep place f (top ∷ rest)) codeRun′ tries′
+            (record { code = start; tries = tstart; results = stack .results })
+        attr-done fit m te p t = record {
+          after = restored (top .trie) (g .after) ∷ rest;
+          reached = λ place.
+              attr-answer place
+              ∙ judged-good place (restored (top .trie) (g .after)) rest (top-few held) nodes-after (deep-after ∙ shallow)
+              (omega (
+                arith,
+                leb-true (length (addPaths (rowsIn state) gained emptyLeaf)) 1024 (sym (b .judged) ∙ fit),
+                ap length rows-after,
+              ));
+          layout =
+              landed (below-held held .layout)
+              (rw (code-end held m, g .coded) at p)
+              (rw (tries-end held te, b .there fit ∙ rows-after) at t)
+              (held .layout .as-many);
+        }
+
+-- ---- ancestors
+
+pub longest-short : (paths : List Path) → AllPaths paths → longest paths ≤ 24
+unfolding longest Each
+longest-short [] good = omega arith
+longest-short (path ∷ paths) good = rw larger-max (omega (arith, good .0 .short, longest-short paths (good .1)))
+
+-- a word of a node may stand below another
+node-step : (row : Row) → isRow row ≡ true → isEntry row ≡ false → isStep (row .step) ≡ true
+node-step row whole e =
+    is-step (eqb (row .depth) 1)
+    (and-eq-true-iff (cond (eqb (row .depth) 1) (isRoot (row .step)) (isStep (row .step))) (isType (row .type)) .0 (rw e at whole) .0)
+  where
+    is-step : (top : Bool) → cond top (isRoot (row .step)) (isStep (row .step)) ≡ true → isStep (row .step) ≡ true
+    is-step true h = and-eq-true-iff (isStep (row .step)) _ .0 h .0
+    is-step false h = h
+
+below-word : (w : ℕ) → nodeWord w ≡ true → belowWord w ≡ true
+unfolding nodeWord belowWord
+below-word w h =
+    let (word, rest) = and-eq-true-iff (isWord w) _ .0 h in
+    let (deep, low) = and-eq-true-iff (ltb 0 (depthIn w)) _ .0 rest in
+    let no-entry : eqb (depthIn w) 0 ≡ false = ne-eqb (depthIn w) 0 (omega (arith, ltb-true 0 (depthIn w) deep)) in
+    and-eq-true-iff (isStep (stepIn w)) _ .1 (node-step (rowOf w) (is-row w word) no-entry, rest)
+
+nodes-below : (n : ℕ) (ws : List ℕ) → allNodes ws ≡ true → n + deepest (rowsOf ws) ≤ 24 → allBelow n ws ≡ true
+unfolding allNodes allBelow deepest
+nodes-below n [] nodes near = refl
+nodes-below n (w ∷ ws) nodes near =
+    let (first, rest) = and-eq-true-iff (nodeWord w) (allNodes ws) .0 nodes in
+    let most : n + max (depthIn w) (deepest (rowsOf ws)) ≤ 24 = rw larger-max at near in
+    and-eq-true-iff _ _ .1 (
+      and-eq-true-iff (belowWord w) _ .1 (below-word w first, le-leb (n + depthIn w) 24 (omega arith)),
+      nodes-below n ws rest (omega arith),
+    )
+
+fit-below :
+    (paths : List Path) (ws : List ℕ)
+    → allNodes ws ≡ true
+    → Each (λ path. length path + deepest (rowsOf ws) ≤ 24) paths
+    → AllFit paths ws
+unfolding AllFit Each
+fit-below [] ws nodes near = tt
+fit-below (path ∷ paths) ws nodes near = (nodes-below (length path) ws nodes (near .0), fit-below paths ws nodes (near .1))
+
+-- a state stays what it is
+pub became-same : {state : List ℕ} → IsState state → Became (rowsIn state) state true
+became-same {state} is = record {
+  judged = sym (le-leb (length (rowsIn state)) 1024 (omega (arith, state-count is, is .few-rows)));
+  still = is;
+  there = λ _. refl;
+}
+
+abbrev ancestorsLeaf : List Path → Leaf
+ancestorsLeaf right = record { mark = false; below = addPaths [] right markedLeaf }
+
+-- as many paths as places
+pub paths-many : (words places : List ℕ) → length (pathsAt words places) ≡ length places
+unfolding pathsAt
+paths-many words [] = refl
+paths-many words (place ∷ places) = rw (paths-many words places)
+
+pub paths-none : (words places : List ℕ) → length places ≡ 0 → pathsAt words places ≡ []
+unfolding pathsAt
+paths-none words [] e = refl
+paths-none words (place ∷ places) e = absurd (omega arith)
+
+-- no path takes ancestors
+pub ancestors-none :
+    {state : List ℕ} (left right : List Path)
+    → IsState state
+    → left ≡ []
+    → Became (ancestorsRequired (rowsIn state) left right) state true
+unfolding addPaths
+ancestors-none left right is e = rw e (became-same is)
+
+module _ (left right : List Path) {ancestors : List ℕ} {fits : Bool} (b : Became (addPaths (rowsIn (replicate 1026 0)) right markedLeaf) ancestors fits) where
+  -- they have too many nodes, and so has what takes them
+  pub ancestors-over :
+      {state : List ℕ}
+      → IsState state
+      → 0 < length left
+      → fits ≡ false
+      → Became (ancestorsRequired (rowsIn state) left right) state false
+  unfolding addPaths
+  ancestors-over {state} is some-left over = record {
+    judged = sym (lt-leb (length (ancestorsRequired (rowsIn state) left right)) 1024 (go left some-left));
+    still = is;
+    there = λ no. absurd (false≢true no);
+  }
+    where
+      many : 1024 < length (addPaths [] right markedLeaf)
+      many = leb-false (length (addPaths [] right markedLeaf)) 1024 (sym (b .judged) ∙ over)
+
+      go : (left : List Path) → 0 < length left → 1024 < length (ancestorsRequired (rowsIn state) left right)
+      go [] some-left = absurd (omega arith)
+      go (path ∷ more) some-left =
+          let some-rows : isNoTrie path (ancestorsLeaf right) ≡ false =
+          by-test (eqb (length path) 1)
+          (λ e. rw (e, ne-eqb (length (addPaths [] right markedLeaf)) 0 (omega (arith, many))))
+          (λ e. rw e) in
+          let rows : length (toRootAccessTrieWithLeaf path (ancestorsLeaf right)) ≡ length path + length (addPaths [] right markedLeaf) =
+          path-length path (ancestorsLeaf right) ∙ rw some-rows in
+          omega (
+            arith,
+            many,
+            rows,
+            union-right-length (rowsIn state) (toRootAccessTrieWithLeaf path (ancestorsLeaf right)),
+            add-paths-length (union (rowsIn state) (toRootAccessTrieWithLeaf path (ancestorsLeaf right))) more (ancestorsLeaf right),
+          )
+
+  -- they fit below paths that are not too deep with them
+  pub ancestors-fit : fits ≡ true → anyDeep left (longest right) ≡ false → AllFit left (wordsIn ancestors)
+  ancestors-fit fit shallow =
+      let depth : deepest (rowsIn ancestors) ≡ longest right = ap deepest (b .there fit) ∙ ancestor-deep right in
+      fit-below left (wordsIn ancestors) (b .still .nodes) (rw depth (none-deep left (longest right) shallow))
+
+  pub ancestors-done :
+      (state : List ℕ) {state′ : List ℕ} {done : Bool}
+      → fits ≡ true
+      → Became (addPaths (rowsIn state) left (leafOf false (wordsIn ancestors))) state′ done
+      → Became (ancestorsRequired (rowsIn state) left right) state′ done
+  ancestors-done state fit d = rw (b .there fit) at d
+
+-- ---- empty paths and a trie in the place of results
+
+pub replaced :
+    {codeRun tries : List ℕ} {under : Stack} {rest : List Result} {answer : ℕ → Answer (List Result)} {results : ℕ} (state codeRun′ tries′ : List ℕ) (trie : List Row) (r : Stepped)
+    → Layout codeRun tries under rest
+    → rowsIn state ≡ trie
+    → results ≡ suc (length rest)
+    → ((place : ℕ) → answer place ≡ accepted (emptyPaths trie ∷ rest))
+    → ReplacedBy state codeRun (under .code) tries (under .tries) results codeRun′ tries′ r
+    → Outcomes answer codeRun′ tries′ r
+replaced {rest} state codeRun′ tries′ trie (Next stack) layout same many answers w = record {
+  after = emptyPaths trie ∷ rest;
+  reached = answers;
+  layout = landed layout (w .paths) (rw same at (w .rows)) (w .many ∙ many);
+}
+replaced state codeRun′ tries′ trie (Refused number) layout same many answers w = absurd w
+
+-- the words of the top's trie
+module _ {codeRun tries : List ℕ} {stack : Stack} {top : Result} {rest : List Result} (held : Held codeRun tries stack (top ∷ rest)) {end : ℕ} (ends : end ≡ stack .tries + 1 + getD tries (stack .tries) 0) where
+  run-words : take (end - (stack .tries + 1)) (drop (stack .tries + 1) tries) ≡ map wordOf (top .trie)
+  run-words =
+      let many : end - (stack .tries + 1) ≡ getD tries (stack .tries) 0 = omega arith in
+      rw many (trie-rows tries (stacked (triesOf rest)) (stack .tries) (top .trie) (top-trie held))
+
+  pub run-nodes : allNodes (take (end - (stack .tries + 1)) (drop (stack .tries + 1) tries)) ≡ true
+  run-nodes = rw run-words (trie-words (top .trie) (top-good held .good-trie) .1)
+
+  pub run-rows : rowsOf (take (end - (stack .tries + 1)) (drop (stack .tries + 1) tries)) ≡ top .trie
+  run-rows = rw run-words (trie-words (top .trie) (top-good held .good-trie) .0)
+
+-- ---- ancestors of two results
+
+pub held-two :
+    {codeRun tries : List ℕ} {stack : Stack} (results : List Result)
+    → Held codeRun tries stack results
+    → 2 ≤ stack .results
+    → (right : Result) × (left : Result) × (rest : List Result) × (results ≡ right ∷ left ∷ rest) × Held codeRun tries stack (right ∷ left ∷ rest)
+held-two [] held enough = absurd (omega (arith, held .layout .as-many))
+held-two (right ∷ []) held enough = absurd (omega (arith, held .layout .as-many))
+held-two (right ∷ left ∷ rest) held enough = (right, left, rest, refl, held)
+
+module _ {codeRun tries : List ℕ} {stack : Stack} {right left : Result} {rest : List Result} (held : Held codeRun tries stack (right ∷ left ∷ rest)) where
+  in-few : length rest < 32
+  in-few = omega (arith, held .few)
+
+  in-nodes : nodesOf (inResult left right .paths) ≤ 256
+  unfolding nodesOf
+  in-nodes = omega arith
+
+  module _ {lefts rights : List Path} (l : lefts ≡ pathsIn (left .paths)) (r : rights ≡ pathsIn (right .paths)) where
+    in-deep : isTooDeep (inResult left right .trie) ≡ anyDeep lefts (longest rights)
+    in-deep =
+        too-deep-union (ancestorsRequired (left .trie) (pathsIn (left .paths)) (pathsIn (right .paths))) (right .trie)
+        ∙ rw (
+          trie-shallow (right .trie) (top-good held .good-trie),
+          or-false,
+          add-paths-deep (left .trie) (pathsIn (left .paths)) (ancestorsLeaf (pathsIn (right .paths))),
+          trie-shallow (left .trie) (top-good (below-held held) .good-trie),
+        )
+        (any-deep (pathsIn (left .paths)) (ancestorsLeaf (pathsIn (right .paths))) (all-some (pathsIn (left .paths)) (top-good (below-held held) .good-paths))
+        ∙ rw (ancestor-deep (pathsIn (right .paths)), ← l, ← r))
+
+    pub in-too-deep : anyDeep lefts (longest rights) ≡ true → (place : ℕ) → twoStep inResult place (right ∷ left ∷ rest) ≡ refused 3 place
+    in-too-deep deep place = judged-deep place (inResult left right) rest in-few in-nodes (in-deep ∙ deep)
+
+    module _ (shallow : anyDeep lefts (longest rights) ≡ false) (state : List ℕ) {state′ : List ℕ} {fits : Bool} (copy : rowsIn state ≡ left .trie) (b : Became (ancestorsRequired (rowsIn state) lefts rights) state′ fits) where
+      required : ancestorsRequired (rowsIn state) lefts rights ≡ ancestorsRequired (left .trie) (pathsIn (left .paths)) (pathsIn (right .paths))
+      required = rw (copy, l, r)
+
+      pub in-over : fits ≡ false → (place : ℕ) → twoStep inResult place (right ∷ left ∷ rest) ≡ refused 4 place
+      in-over over place =
+          judged-rows place (inResult left right) rest in-few in-nodes (in-deep ∙ shallow)
+          (omega (
+            arith,
+            leb-false (length (ancestorsRequired (rowsIn state) lefts rights)) 1024 (sym (b .judged) ∙ over),
+            ap length required,
+            union-left-length (ancestorsRequired (left .trie) (pathsIn (left .paths)) (pathsIn (right .paths))) (right .trie),
+          ))
+
+      module _ (fit : fits ≡ true) (run : List ℕ) (same-run : rowsOf run ≡ right .trie) {state″ : List ℕ} {fits′ : Bool} (u : Became (union (rowsIn state′) (rowsOf run)) state″ fits′) where
+        united : union (rowsIn state′) (rowsOf run) ≡ inResult left right .trie
+        united = rw (b .there fit ∙ required, same-run)
+
+        pub in-rows : fits′ ≡ false → (place : ℕ) → twoStep inResult place (right ∷ left ∷ rest) ≡ refused 4 place
+        in-rows over place =
+            judged-rows place (inResult left right) rest in-few in-nodes (in-deep ∙ shallow)
+            (omega (arith, leb-false (length (union (rowsIn state′) (rowsOf run))) 1024 (sym (u .judged) ∙ over), ap length united))
+
+        pub in-done :
+            (codeRun′ tries′ : List ℕ) (r : Stepped) {end tend : ℕ}
+            → fits′ ≡ true
+            → end ≡ below (below-held held) .code
+            → tend ≡ below (below-held held) .tries
+            → ReplacedBy state″ codeRun end tries tend (stack .results - 1) codeRun′ tries′ r
+            → Outcomes (λ place. twoStep inResult place (right ∷ left ∷ rest)) codeRun′ tries′ r
+        in-done codeRun′ tries′ r fit′ e t w =
+            replaced state″ codeRun′ tries′ (inResult left right .trie) r (below-held (below-held held) .layout) (u .there fit′ ∙ united)
+            (omega (arith, held .layout .as-many))
+            (λ place.
+            judged-good place (inResult left right) rest in-few in-nodes (in-deep ∙ shallow)
+            (omega (arith, leb-true (length (union (rowsIn state′) (rowsOf run))) 1024 (sym (u .judged) ∙ fit′), ap length united)))
+            (rw (e, t) at w)
+
+-- ---- full types
+
+-- what holds of all paths holds of those that take a type
+attribute-cases :
+    {P : Type 0} (o : Option ℕ) (own : ℕ → Option (List Taken)) (others : Option (List Taken)) (taken : List Taken)
+    → elim o [ none ↦ others | some t ↦ own t >>= (λ first. others >>= (λ more. some (first ++ more))) ] ≡ some taken
+    → (others ≡ some taken → P)
+    → ((t : ℕ) (first more : List Taken) → own t ≡ some first → others ≡ some more → first ++ more ≡ taken → P)
+    → P
+attribute-cases none own others taken e none-then some-then = none-then e
+attribute-cases (some t) own others taken e none-then some-then =
+    bound (own t) _ taken e λ first ep e.
+    bound others _ taken e λ more ef e. some-then t first more ep ef (Option·some-injective (first ++ more) taken e)
+
+taken-append : (xs ys : List Taken) → AllTakenPaths xs → AllTakenPaths ys → AllTakenPaths (xs ++ ys)
+unfolding AllTakenPaths
+taken-append [] ys h k = k
+taken-append (x ∷ xs) ys h k = (h .0, taken-append xs ys (h .1) k)
+
+mutual
+  unfolding fullTypeRequired fieldsRequired pathsIn pathsInFields Each AllTakenPaths
+
+  taken-paths :
+      (items : List Item) (paths : Paths) (t : ℕ) (taken : List Taken)
+      → AllPaths (pathsIn paths)
+      → fullTypeRequired items paths t ≡ some taken
+      → AllTakenPaths taken
+  taken-paths items Empty t taken h e = rw (← Option·some-injective [] taken e) tt
+  taken-paths items (AccessPath path) t taken h e = rw (← Option·some-injective (record { path = path; type = t } ∷ []) taken e) (h .0, tt)
+  taken-paths items (Union a b) t taken h e =
+      let (of-b, of-a) = each-split IsPath (pathsIn b) (pathsIn a) h in
+      bound (fullTypeRequired items b t) _ taken e λ tb eb e.
+      bound (fullTypeRequired items a t) _ taken e λ ta ea e.
+      rw (← Option·some-injective (tb ++ ta) taken e) (taken-append tb ta (taken-paths items b t tb of-b eb) (taken-paths items a t ta of-a ea))
+  taken-paths items (RecordLiteral fields) t taken h e =
+      let (_, e) = cond-some (eqb (kindAt items t) recordType && hasAll fields (attributesAt items t)) _ taken e in
+      taken-fields items fields (attributesAt items t) taken h e
+  taken-paths items (SetLiteral elements) t taken h e =
+      let (_, e) = cond-some (eqb (kindAt items t) setType) _ taken e in
+      taken-paths items elements (elementAt items t) taken h e
+
+  taken-fields :
+      (items : List Item) (fields : Fields) (attributes : List Item) (taken : List Taken)
+      → AllPaths (pathsInFields fields)
+      → fieldsRequired items fields attributes ≡ some taken
+      → AllTakenPaths taken
+  taken-fields items noField attributes taken h e = rw (← Option·some-injective [] taken e) tt
+  taken-fields items (field name paths fields) attributes taken h e =
+      let (of-paths, of-fields) = each-split IsPath (pathsIn paths) (pathsInFields fields) h in
+      attribute-cases (attributeType name attributes) (fullTypeRequired items paths) (fieldsRequired items fields attributes) taken e
+      (λ e. taken-fields items fields attributes taken of-fields e)
+      (λ t first more ep ef same.
+      rw (← same) (taken-append first more (taken-paths items paths t first of-paths ep) (taken-fields items fields attributes more of-fields ef)))
+
+-- paths with the tries of their types are too deep exactly where one of them is
+taken-deep :
+    (words : List ℕ) (taken : List Taken)
+    → AllTakenPaths taken
+    → anyTooDeep (triesOfTaken (itemsOf words) taken) ≡ anyTakenDeep words taken
+unfolding anyTooDeep anyTakenDeep AllTakenPaths
+taken-deep words [] good = refl
+taken-deep words (one ∷ more) good =
+    rw (
+      path-deep (one .path) (typeToAccessTrie (itemsOf words) (one .type)) (stepped-some (one .path) (good .0 .steps)),
+      taken-deep words more (good .1),
+    )
+
+pairs-more : (words : List ℕ) (types more : ℕ) (pairs : List ℕ) → types ≤ more → AllPairs words types pairs → AllPairs words more pairs
+unfolding AllPairs
+pairs-more words types more [] h all = tt
+pairs-more words types more (pair ∷ pairs) h all = (all .0, (omega (arith, all .1 .0), pairs-more words types more pairs h (all .1 .1)))
+
+module _ (words : List ℕ) (good : goodItems words ≡ true) where
+  lawful-items : lawfulItems unknown (itemsOf words) ≡ true
+  lawful-items = and-eq-true-iff (allItems words) _ .0 good .1
+
+  pub full-missing :
+      (t : ℕ) (results : List Result)
+      → typesIn (itemsOf words) ≤ t
+      → (place : ℕ)
+      → fullStep (itemsOf words) t place results ≡ refused 1 place
+  full-missing t [] h place = rw (type-missing (itemsOf words) lawful-items t h, fullStep)
+  full-missing t (top ∷ rest) h place = rw (type-missing (itemsOf words) lawful-items t h, fullStep)
+
+  module _ (t : ℕ) (known : t < typesIn (itemsOf words)) where
+    line : TypeAt (itemsOf words) t
+    line = type-there (itemsOf words) lawful-items t known
+
+    pub full-few :
+        {codeRun tries : List ℕ} {stack : Stack} (results : List Result)
+        → Held codeRun tries stack results
+        → stack .results ≡ 0
+        → (place : ℕ)
+        → fullStep (itemsOf words) t place results ≡ refused 6 place
+    full-few [] held few place = rw (line .from, fullStep)
+    full-few (top ∷ rest) held few place = absurd (omega (arith, held .layout .as-many))
+
+    module _ {codeRun tries : List ℕ} {stack : Stack} {top : Result} {rest : List Result} (held : Held codeRun tries stack (top ∷ rest)) where
+      pub full-walk : Walk codeRun (stack .code) 256
+      full-walk = record { paths = top .paths; rest = codes (pathsOf rest); coded = top-code held; few-nodes = top-good held .few-nodes }
+
+      pub full-mismatch :
+          fullTypeRequired (itemsOf words) (top .paths) t ≡ none
+          → (place : ℕ)
+          → fullStep (itemsOf words) t place (top ∷ rest) ≡ refused 8 place
+      full-mismatch e place = rw (line .from, e, fullStep)
+
+      module _ {before pairs : List ℕ} {end more : ℕ} (k : Took codeRun (itemsOf words) (top .paths) t (stack .code) before 0 pairs end more) where
+        abbrev taken : List Taken
+        taken = map (takenAt codeRun) (take more pairs)
+
+        same-taken : taken ≡ k .taken
+        same-taken = rw (k .added) (k .there)
+
+        full-answer :
+            (place : ℕ)
+            → fullStep (itemsOf words) t place (top ∷ rest) ≡ judged place (emptyPaths (addTaken (itemsOf words) (top .trie) taken)) rest
+        full-answer place = rw (line .from, k .required, fullStep, same-taken)
+
+        pub full-pairs : AllPairs codeRun (typesIn (itemsOf words)) (take more pairs)
+        full-pairs = rw (k .added) (k .all-pairs)
+
+        pub full-places : AllPairs codeRun 1024 (take more pairs)
+        full-places = pairs-more codeRun (typesIn (itemsOf words)) 1024 (take more pairs) (types-few (itemsOf words) lawful-items) full-pairs
+
+        pub full-paths : AllTakenPaths taken
+        full-paths = rw same-taken (taken-paths (itemsOf words) (top .paths) t (k .taken) (top-good held .good-paths) (k .required))
+
+        full-depth : isTooDeep (addTaken (itemsOf words) (top .trie) taken) ≡ anyTakenDeep words taken
+        full-depth =
+            add-taken-deep (itemsOf words) (top .trie) taken
+            ∙ rw (trie-shallow (top .trie) (top-good held .good-trie)) (taken-deep words taken full-paths)
+
+        empty-nodes : nodesOf (emptyPaths (addTaken (itemsOf words) (top .trie) taken) .paths) ≤ 256
+        unfolding nodesOf
+        empty-nodes = omega arith
+
+        pub full-too-deep : anyTakenDeep words taken ≡ true → (place : ℕ) → fullStep (itemsOf words) t place (top ∷ rest) ≡ refused 3 place
+        full-too-deep deep place =
+            full-answer place
+            ∙ judged-deep place (emptyPaths (addTaken (itemsOf words) (top .trie) taken)) rest (top-few held) empty-nodes (full-depth ∙ deep)
+
+        module _ (shallow : anyTakenDeep words taken ≡ false) (state : List ℕ) {state′ : List ℕ} {fits : Bool} (copy : rowsIn state ≡ top .trie) (b : Became (addTaken (itemsOf words) (rowsIn state) taken) state′ fits) where
+          rows-taken : addTaken (itemsOf words) (rowsIn state) taken ≡ addTaken (itemsOf words) (top .trie) taken
+          rows-taken = rw copy
+
+          pub full-rows : fits ≡ false → (place : ℕ) → fullStep (itemsOf words) t place (top ∷ rest) ≡ refused 4 place
+          full-rows over place =
+              full-answer place
+              ∙ judged-rows place (emptyPaths (addTaken (itemsOf words) (top .trie) taken)) rest (top-few held) empty-nodes (full-depth ∙ shallow)
+              (omega (
+                arith,
+                leb-false (length (addTaken (itemsOf words) (rowsIn state) taken)) 1024 (sym (b .judged) ∙ over),
+                ap length rows-taken,
+              ))
+
+          pub full-done :
+              (codeRun′ tries′ : List ℕ) (r : Stepped) {tend : ℕ}
+              → fits ≡ true
+              → tend ≡ stack .tries + 1 + getD tries (stack .tries) 0
+              → ReplacedBy state′ codeRun end tries tend (stack .results) codeRun′ tries′ r
+              → Outcomes (λ place. fullStep (itemsOf words) t place (top ∷ rest)) codeRun′ tries′ r
+          full-done codeRun′ tries′ r fit te w =
+              replaced state′ codeRun′ tries′ (addTaken (itemsOf words) (top .trie) taken) r (below-held held .layout) (b .there fit ∙ rows-taken)
+              (held .layout .as-many)
+              (λ place.
+              full-answer place
+              ∙ judged-good place (emptyPaths (addTaken (itemsOf words) (top .trie) taken)) rest (top-few held) empty-nodes (full-depth ∙ shallow)
+              (omega (
+                arith,
+                leb-true (length (addTaken (itemsOf words) (rowsIn state) taken)) 1024 (sym (b .judged) ∙ fit),
+                ap length rows-taken,
+              )))
+              (rw (k .ends, tries-end held te) at w)
+
+-- ---- the step that was read
+
+pub step-is :
+    (items : List Item) (names : List ℕ) (results : List Result) (codeRun′ tries′ : List ℕ) (r : Stepped) (given read : StepRead)
+    → given ≡ read
+    → Outcomes (λ place. stepped items place (stepRead read names) results) codeRun′ tries′ r
+    → Outcomes (λ place. stepped items place (stepRead given names) results) codeRun′ tries′ r
+step-is items names results codeRun′ tries′ r given read e outcome =
+    subst (λ (s : StepRead). Outcomes (λ place. stepped items place (stepRead s names) results) codeRun′ tries′ r) (sym e) outcome

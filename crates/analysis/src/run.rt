@@ -1,0 +1,124 @@
+// A step text under a request type as a contribution's rows.
+ghost use mathlib.Core.Path.{_≡_};
+ghost use mathlib.Core.Bool.{true, false};
+ghost use mathlib.Core.List.{List, _∷_, _++_};
+ghost use Prim.Native.Nat.{ℕ, _^_, _<_, _≤_};
+ghost use lib.ListN.{length, drop};
+ghost use Rattle.rules.specs.Tries.{Row as RowOf};
+ghost use Rattle.rules.specs.Listing.{read};
+ghost use Rattle.rules.specs.Steps.{analyse as analyseSteps};
+ghost use Rattle.rules.specs.TypeLaws.{typesIn};
+ghost use Rattle.trie.specs.States.{holding, storing};
+ghost use Rattle.schema.specs.Items.{itemsOf, goodItems};
+ghost use Rattle.analysis.specs.Tables.{Tabled};
+ghost use Rattle.analysis.specs.Stacks.{TrieAt, trieWords};
+ghost use Rattle.analysis.specs.Outcomes.{analyseIn, RanBy};
+use crate::stack::Stack;
+use crate::stack::Stepped;
+use crate::step::Step;
+use crate::step::parse;
+use crate::steps::apply;
+use crate::types::TypeSize;
+use crate::types::fill_table;
+use text::Line;
+use trie::Kind;
+use trie::Reply;
+use trie::Row;
+
+// What a text gives: the stack after so many lines, or a refusal's number and line.
+enum Ran {
+    Stack(Stack, u64),
+    Refused(u64, u64),
+}
+
+// Runs all lines of a text.
+fn run(
+    words: &[u64],
+    table: &[u64],
+    types: u64,
+    text: &[u8],
+    code: &mut [u64],
+    tries: &mut [u64],
+) -> Ran
+    requires { ⌜ (goodItems (now words) ≡ true) × (Tabled (now words) (now table) types × (types ≡ typesIn (itemsOf (now words)))) ⌝ }
+    requires { ⌜ (length (now code) ≡ 212992) × (length (now tries) ≡ 32800) ⌝ }
+    ensures { λ r. ⌜ RanBy (itemsOf (now (words .entry))) (now (text .entry)) (now (code .exit)) (now (tries .exit)) r ⌝ }
+{
+    let mut names = [0u64; Step::NAMES];
+    let mut stack = Stack::new();
+    let mut at = 0;
+    let mut line: u64 = 0;
+    while at < text.len() {
+        let Line::Whole(end) = Line::at(text, at) else {
+            return Ran::Refused(1, line);
+        };
+        let step = parse(&text[at..end], &mut names);
+        let stepped = apply(step, &names, words, table, types, code, tries, stack);
+        match stepped {
+            Stepped::Next(next) => {
+                stack = next;
+            }
+            Stepped::Refused(number) => {
+                return Ran::Refused(number, line);
+            }
+        }
+        at = end + 1;
+        line += 1;
+    }
+    Ran::Stack(stack, line)
+}
+
+// Writes the contribution of the one result on a stack.
+fn write_contribution(request: u64, tries: &[u64], at: usize, out: &mut [u64])
+    requires { ⌜ TrieAt (now tries) at × ((request < 2 ^ 48) × (1026 ≤ length (now out))) ⌝ }
+    ensures { λ _. ⌜ ((trie : List RowOf) (rest : List ℕ) → drop at (now (tries .entry)) ≡ trieWords trie ++ rest → now (out .exit) ≡ holding (now (out .entry)) (read 0 request false ∷ trie)) ⌝ }
+{
+    let count = tries[at];
+    out[0] = count + 1;
+    out[1] = Row::entry(request).word;
+    let first = at + 1;
+    let end = first + count as usize;
+    crate::paths::copy_words(&tries[first..end], out, 2);
+}
+
+// Analyses a step text with a schema's words.
+fn analyse_with(words: &[u64], request: u64, text: &[u8], out: &mut [u64]) -> Reply
+    requires { ⌜ (goodItems (now words) ≡ true) × (length (now words) < 142337) ⌝ }
+    requires { ⌜ (request < 2 ^ 48) × (1026 ≤ length (now out)) ⌝ }
+    ensures { λ r. ⌜ (r ≡ storing (now (out .entry)) (analyseSteps (itemsOf (now (words .entry))) request (now (text .entry))) .reply) × (now (out .exit) ≡ storing (now (out .entry)) (analyseSteps (itemsOf (now (words .entry))) request (now (text .entry))) .buffer) ⌝ }
+{
+    let mut table = [0u64; TypeSize::TYPES];
+    let types = fill_table(words, &mut table);
+    let mut code = [0u64; Stack::CODE];
+    let mut tries = [0u64; Stack::TRIES];
+    match run(words, &table, types, text, &mut code, &mut tries) {
+        Ran::Refused(number, line) => Reply::Refused(number, line),
+        Ran::Stack(stack, lines) => {
+            if stack.results != 1 {
+                return Reply::Refused(6, lines);
+            }
+            write_contribution(request, &tries, stack.tries, out);
+            Reply::Done
+        }
+    }
+}
+
+// The contribution of a step text under a request type; a refusal leaves the output as it was.
+pub fn analyse(schema: &[u64], request: u64, text: &[u8], out: &mut [u64]) -> Reply
+    ensures { λ r. ⌜ (r ≡ analyseIn (now (schema .entry)) request (now (text .entry)) (now (out .entry)) .reply) × (now (out .exit) ≡ analyseIn (now (schema .entry)) request (now (text .entry)) (now (out .entry)) .buffer) ⌝ }
+{
+    if schema.len() < schema::Schema::WORDS {
+        return Reply::Refused(31, 0);
+    }
+    if out.len() < Kind::Contribution.words() {
+        return Reply::Refused(31, 0);
+    }
+    if !schema::is_lawful(schema) {
+        return Reply::Refused(1, 0);
+    }
+    if 0xffff_ffff_ffff < request {
+        return Reply::Refused(1, 0);
+    }
+    let end = schema[0] as usize + 1;
+    analyse_with(&schema[1..end], request, text, out)
+}

@@ -1,0 +1,339 @@
+// Each step on the stack, judged on its whole result: 1, 6, 7, 8, 15, 3, 4.
+ghost use mathlib.Core.Path.{_≡_};
+ghost use mathlib.Core.Bool.{true, false};
+ghost use mathlib.Core.List.{[]};
+ghost use Prim.Native.Nat.{_+_, _-_, _<_, _≤_};
+ghost use lib.ListN.{length, drop, getD};
+ghost use Rattle.rules.specs.Paths.{emptyLeaf, addPaths};
+ghost use Rattle.rules.specs.Steps.{fromRoot, defaultResult, judged, attrStep, twoStep, unionResults, inResult, setStep, dropStep, recStep, fullStep, stepped as steppedBy};
+ghost use Rattle.rules.specs.StepLaws.{AllPaths};
+ghost use Rattle.rules.specs.TypeLaws.{typesIn, longest as longestOf};
+ghost use Rattle.trie.specs.States.{rowsIn};
+ghost use Rattle.schema.specs.Items.{itemsOf, goodItems};
+ghost use Rattle.analysis.specs.Code.{AllWithin, pathsAt};
+ghost use Rattle.analysis.specs.Nodes.{IsState, Became, anyDeep};
+ghost use Rattle.analysis.specs.Lines.{stepRead, namesOf, GoodRead};
+ghost use Rattle.analysis.specs.Tables.{Tabled};
+ghost use Rattle.analysis.specs.Stacks.{Holding, StepsBy, WrapsBy, ReplacedBy, ancestorsRequired};
+use crate::full::Required;
+use crate::full::add_taken;
+use crate::full::full_type_required;
+use crate::full::is_any_too_deep;
+use crate::paths::Extended;
+use crate::paths::WrappedAccessPaths;
+use crate::paths::get_or_has_attr;
+use crate::paths::measure;
+use crate::paths::paths_in;
+use crate::stack::Stack;
+use crate::stack::Stepped;
+use crate::stack::copy_trie;
+use crate::stack::merge_tries;
+use crate::stack::push;
+use crate::stack::put_before;
+use crate::stack::put_trie;
+use crate::stack::trie_end;
+use crate::step::Step;
+use crate::tries::TRIE;
+use crate::tries::add_paths;
+use crate::tries::is_too_deep;
+use crate::tries::longest;
+use crate::tries::union_into;
+
+const NODES: usize = 256;
+
+// `from_root`: a path that is its root.
+fn root_step(root: u64, code: &mut [u64], tries: &mut [u64], stack: Stack) -> Stepped
+    requires { ⌜ Holding (now code) (now tries) stack ⌝ }
+    ensures { λ r. ⌜ StepsBy (λ place results. judged place (fromRoot root) results) (now (code .entry)) (now (tries .entry)) stack (now (code .exit)) (now (tries .exit)) r ⌝ }
+{
+    let paths = [WrappedAccessPaths::AccessPath(1).word(), root];
+    push(&paths, code, tries, stack)
+}
+
+// The default result.
+fn none_step(code: &mut [u64], tries: &mut [u64], stack: Stack) -> Stepped
+    requires { ⌜ Holding (now code) (now tries) stack ⌝ }
+    ensures { λ r. ⌜ StepsBy (λ place results. judged place defaultResult results) (now (code .entry)) (now (tries .entry)) stack (now (code .exit)) (now (tries .exit)) r ⌝ }
+{
+    let paths = [WrappedAccessPaths::Empty.word()];
+    push(&paths, code, tries, stack)
+}
+
+// Merges the paths at some places into a trie, and answers whether it stays within the limit of nodes.
+fn add_grown(trie: &mut [u64], code: &[u64], places: &[u64]) -> bool
+    requires { ⌜ IsState (now trie) × (AllWithin (now code) (now places) × AllPaths (pathsAt (now code) (now places))) ⌝ }
+    ensures { λ r. ⌜ Became (addPaths (rowsIn (now (trie .entry))) (pathsAt (now (code .entry)) (now (places .entry))) emptyLeaf) (now (trie .exit)) r ⌝ }
+{
+    add_paths(trie, code, places, false, &places[..0])
+}
+
+// `get_or_has_attr`, and `restore_global_trie_invariant` for the paths that gained the field: the others are in the trie.
+fn attr_step(name: u64, code: &mut [u64], tries: &mut [u64], stack: Stack) -> Stepped
+    requires { ⌜ Holding (now code) (now tries) stack × (name < 65536) ⌝ }
+    ensures { λ r. ⌜ StepsBy (λ place results. attrStep place name results) (now (code .entry)) (now (tries .entry)) stack (now (code .exit)) (now (tries .exit)) r ⌝ }
+{
+    if stack.results == 0 {
+        return Stepped::Refused(6);
+    }
+    let mut paths = [0u64; WrappedAccessPaths::WORDS];
+    let mut places = [0u64; NODES];
+    let Extended::Done(words, grown) = get_or_has_attr(
+        code,
+        stack.code,
+        name,
+        &mut paths,
+        &mut places,
+    ) else {
+        return Stepped::Refused(7);
+    };
+    if is_too_deep(&paths, &places[..grown], 0) {
+        return Stepped::Refused(3);
+    }
+    let mut trie = [0u64; TRIE];
+    copy_trie(tries, stack.tries, &mut trie);
+    if !add_grown(&mut trie, &paths, &places[..grown]) {
+        return Stepped::Refused(4);
+    }
+    let code_end = measure(code, stack.code, 1).end;
+    let tries_end = trie_end(tries, stack.tries);
+    Stepped::Next(Stack {
+        code: put_before(&paths[..words], code, code_end),
+        tries: put_trie(&trie, tries, tries_end),
+        results: stack.results,
+    })
+}
+
+// Wraps the top results under a head: their tries are merged.
+fn wrap(head: &[u64], count: u64, code: &mut [u64], tries: &mut [u64], stack: Stack) -> Stepped
+    requires { ⌜ Holding (now code) (now tries) stack × ((0 < count) × ((count ≤ stack .results) × (length (now head) ≤ count + 1))) ⌝ }
+    ensures { λ r. ⌜ WrapsBy (now (head .entry)) count (now (code .entry)) (now (tries .entry)) stack (now (code .exit)) (now (tries .exit)) r ⌝ }
+{
+    let wrapped = measure(code, stack.code, count as usize);
+    if WrappedAccessPaths::NODES <= wrapped.nodes {
+        return Stepped::Refused(15);
+    }
+    let merged = merge_tries(tries, stack.tries, count);
+    if merged == tries.len() {
+        return Stepped::Refused(4);
+    }
+    Stepped::Next(Stack {
+        code: put_before(head, code, stack.code),
+        tries: merged,
+        results: stack.results - count + 1,
+    })
+}
+
+// `union`: tries merged, paths joined.
+fn union_step(code: &mut [u64], tries: &mut [u64], stack: Stack) -> Stepped
+    requires { ⌜ Holding (now code) (now tries) stack ⌝ }
+    ensures { λ r. ⌜ StepsBy (λ place results. twoStep unionResults place results) (now (code .entry)) (now (tries .entry)) stack (now (code .exit)) (now (tries .exit)) r ⌝ }
+{
+    if stack.results < 2 {
+        return Stepped::Refused(6);
+    }
+    let head = [WrappedAccessPaths::Union.word()];
+    wrap(&head, 2, code, tries, stack)
+}
+
+fn set_step(code: &mut [u64], tries: &mut [u64], stack: Stack) -> Stepped
+    requires { ⌜ Holding (now code) (now tries) stack ⌝ }
+    ensures { λ r. ⌜ StepsBy (λ place results. setStep place results) (now (code .entry)) (now (tries .entry)) stack (now (code .exit)) (now (tries .exit)) r ⌝ }
+{
+    if stack.results == 0 {
+        return Stepped::Refused(6);
+    }
+    let head = [WrappedAccessPaths::SetLiteral.word()];
+    wrap(&head, 1, code, tries, stack)
+}
+
+// A record literal of the top results; the names stand at the end of `names`, last first.
+fn rec_step(
+    count: usize,
+    names: &[u64],
+    code: &mut [u64],
+    tries: &mut [u64],
+    stack: Stack,
+) -> Stepped
+    requires { ⌜ Holding (now code) (now tries) stack × ((count ≤ 32) × (length (now names) ≡ 32)) ⌝ }
+    ensures { λ r. ⌜ StepsBy (λ place results. recStep (drop (32 - count) (now (names .entry))) place results) (now (code .entry)) (now (tries .entry)) stack (now (code .exit)) (now (tries .exit)) r ⌝ }
+{
+    if count == 0 {
+        let empty = [WrappedAccessPaths::RecordLiteral(0).word()];
+        return push(&empty, code, tries, stack);
+    }
+    if stack.results < count as u64 {
+        return Stepped::Refused(6);
+    }
+    let mut head = [0u64; 33];
+    head[0] = WrappedAccessPaths::RecordLiteral(count).word();
+    let first = Step::NAMES - count;
+    let end = crate::paths::copy_words(&names[first..], &mut head, 1);
+    wrap(&head[..end], count as u64, code, tries, stack)
+}
+
+// Puts a trie with empty paths in the place of results that end at two places.
+fn replace(
+    trie: &[u64],
+    code: &mut [u64],
+    code_end: usize,
+    tries: &mut [u64],
+    tries_end: usize,
+    results: u64,
+) -> Stepped
+    requires { ⌜ IsState (now trie) × ((0 < «code_end») × («code_end» ≤ length (now code))) ⌝ }
+    requires { ⌜ (getD (now trie) 0 0 < «tries_end») × («tries_end» ≤ length (now tries)) ⌝ }
+    ensures { λ r. ⌜ ReplacedBy (now (trie .entry)) (now (code .entry)) «code_end» (now (tries .entry)) «tries_end» results (now (code .exit)) (now (tries .exit)) r ⌝ }
+{
+    let empty = [WrappedAccessPaths::Empty.word()];
+    Stepped::Next(Stack {
+        code: put_before(&empty, code, code_end),
+        tries: put_trie(trie, tries, tries_end),
+        results,
+    })
+}
+
+// `empty_paths`
+fn drop_step(code: &mut [u64], tries: &mut [u64], stack: Stack) -> Stepped
+    requires { ⌜ Holding (now code) (now tries) stack ⌝ }
+    ensures { λ r. ⌜ StepsBy (λ place results. dropStep place results) (now (code .entry)) (now (tries .entry)) stack (now (code .exit)) (now (tries .exit)) r ⌝ }
+{
+    if stack.results == 0 {
+        return Stepped::Refused(6);
+    }
+    let code_end = measure(code, stack.code, 1).end;
+    let empty = [WrappedAccessPaths::Empty.word()];
+    Stepped::Next(Stack {
+        code: put_before(&empty, code, code_end),
+        tries: stack.tries,
+        results: stack.results,
+    })
+}
+
+// `full_type_required`: every path takes the trie of its type as leaf.
+fn full_step(
+    t: u64,
+    words: &[u64],
+    table: &[u64],
+    types: u64,
+    code: &mut [u64],
+    tries: &mut [u64],
+    stack: Stack,
+) -> Stepped
+    requires { ⌜ (goodItems (now words) ≡ true) × (Tabled (now words) (now table) types × (types ≡ typesIn (itemsOf (now words)))) ⌝ }
+    requires { ⌜ Holding (now code) (now tries) stack ⌝ }
+    ensures { λ r. ⌜ StepsBy (λ place results. fullStep (itemsOf (now (words .entry))) t place results) (now (code .entry)) (now (tries .entry)) stack (now (code .exit)) (now (tries .exit)) r ⌝ }
+{
+    if types <= t {
+        return Stepped::Refused(1);
+    }
+    if stack.results == 0 {
+        return Stepped::Refused(6);
+    }
+    let mut pairs = [0u64; NODES];
+    let Required::Next(code_end, count) = full_type_required(
+        code,
+        stack.code,
+        words,
+        table,
+        t,
+        &mut pairs,
+        0,
+        WrappedAccessPaths::NODES,
+    ) else {
+        return Stepped::Refused(8);
+    };
+    if is_any_too_deep(code, table, &pairs[..count]) {
+        return Stepped::Refused(3);
+    }
+    let mut trie = [0u64; TRIE];
+    copy_trie(tries, stack.tries, &mut trie);
+    if !add_taken(&mut trie, code, words, table, &pairs[..count]) {
+        return Stepped::Refused(4);
+    }
+    let tries_end = trie_end(tries, stack.tries);
+    replace(&trie, code, code_end, tries, tries_end, stack.results)
+}
+
+// `with_ancestors_required`: merges the paths at some places, with the ancestor trie of the right side's paths below each, into a trie, and
+// answers whether it stays within the limit of nodes.
+fn with_ancestors_required(trie: &mut [u64], code: &[u64], left: &[u64], right: &[u64]) -> bool
+    requires { ⌜ IsState (now trie) × (AllWithin (now code) (now left) × AllPaths (pathsAt (now code) (now left))) ⌝ }
+    requires { ⌜ AllWithin (now code) (now right) × AllPaths (pathsAt (now code) (now right)) ⌝ }
+    requires { ⌜ anyDeep (pathsAt (now code) (now left)) (longestOf (pathsAt (now code) (now right))) ≡ false ⌝ }
+    ensures { λ r. ⌜ Became (ancestorsRequired (rowsIn (now (trie .entry))) (pathsAt (now (code .entry)) (now (left .entry))) (pathsAt (now (code .entry)) (now (right .entry)))) (now (trie .exit)) r ⌝ }
+{
+    if left.len() == 0 {
+        return true;
+    }
+    let mut ancestors = [0u64; TRIE];
+    if !add_paths(&mut ancestors, code, right, true, &right[..0]) {
+        return false;
+    }
+    let end = ancestors[0] as usize + 1;
+    add_paths(trie, code, left, false, &ancestors[1..end])
+}
+
+// `in`: the left side with the right side's ancestor trie, then both tries merged; no paths are left.
+fn in_step(code: &mut [u64], tries: &mut [u64], stack: Stack) -> Stepped
+    requires { ⌜ Holding (now code) (now tries) stack ⌝ }
+    ensures { λ r. ⌜ StepsBy (λ place results. twoStep inResult place results) (now (code .entry)) (now (tries .entry)) stack (now (code .exit)) (now (tries .exit)) r ⌝ }
+{
+    if stack.results < 2 {
+        return Stepped::Refused(6);
+    }
+    let mut right = [0u64; NODES];
+    let right_paths = paths_in(code, stack.code, &mut right);
+    let left_code = measure(code, stack.code, 1).end;
+    let mut left = [0u64; NODES];
+    let left_paths = paths_in(code, left_code, &mut left);
+    if is_too_deep(
+        code,
+        &left[..left_paths],
+        longest(code, &right[..right_paths]),
+    ) {
+        return Stepped::Refused(3);
+    }
+    let right_tries = stack.tries;
+    let left_tries = trie_end(tries, right_tries);
+    let mut trie = [0u64; TRIE];
+    copy_trie(tries, left_tries, &mut trie);
+    if !with_ancestors_required(&mut trie, code, &left[..left_paths], &right[..right_paths]) {
+        return Stepped::Refused(4);
+    }
+    if !union_into(&mut trie, &tries[right_tries + 1..left_tries]) {
+        return Stepped::Refused(4);
+    }
+    let code_end = measure(code, left_code, 1).end;
+    let tries_end = trie_end(tries, left_tries);
+    replace(&trie, code, code_end, tries, tries_end, stack.results - 1)
+}
+
+// One step on the stack.
+pub fn apply(
+    step: Step,
+    names: &[u64],
+    words: &[u64],
+    table: &[u64],
+    types: u64,
+    code: &mut [u64],
+    tries: &mut [u64],
+    stack: Stack,
+) -> Stepped
+    requires { ⌜ (goodItems (now words) ≡ true) × (Tabled (now words) (now table) types × (types ≡ typesIn (itemsOf (now words)))) ⌝ }
+    requires { ⌜ (namesOf step ≤ 32) × ((length (now names) ≡ 32) × GoodRead step) ⌝ }
+    requires { ⌜ Holding (now code) (now tries) stack ⌝ }
+    ensures { λ r. ⌜ StepsBy (λ place results. steppedBy (itemsOf (now (words .entry))) place (stepRead step (now (names .entry))) results) (now (code .entry)) (now (tries .entry)) stack (now (code .exit)) (now (tries .exit)) r ⌝ }
+{
+    match step {
+        Step::Root(root) => root_step(root, code, tries, stack),
+        Step::None => none_step(code, tries, stack),
+        Step::Attr(name) => attr_step(name, code, tries, stack),
+        Step::Union => union_step(code, tries, stack),
+        Step::Drop => drop_step(code, tries, stack),
+        Step::Full(t) => full_step(t, words, table, types, code, tries, stack),
+        Step::In => in_step(code, tries, stack),
+        Step::Set => set_step(code, tries, stack),
+        Step::Rec(count) => rec_step(count, names, code, tries, stack),
+        Step::Bad => Stepped::Refused(1),
+    }
+}

@@ -1,0 +1,162 @@
+// Paths into tries. A trie is a state without an entry: the count of its nodes, then their rows.
+ghost use mathlib.Core.Path.{_≡_};
+ghost use mathlib.Core.Bool.{true, not, _&&_};
+ghost use mathlib.Core.List.{[], _∷_};
+ghost use Prim.Native.Nat.{_+_, _≤_};
+ghost use lib.Dec.{eqb};
+ghost use lib.ListN.{length};
+ghost use Rattle.rules.specs.Tries.{union};
+ghost use Rattle.rules.specs.Paths.{addAccessPath, addPaths};
+ghost use Rattle.rules.specs.StepLaws.{IsPath, AllPaths};
+ghost use Rattle.rules.specs.TypeLaws.{longest as longestOf};
+ghost use Rattle.trie.specs.States.{rowsOf, rowsIn};
+ghost use Rattle.manifest.specs.Writes.{Wrote};
+ghost use Rattle.analysis.specs.Code.{pathAt, pathsAt, AllWithin};
+ghost use Rattle.analysis.specs.Nodes.{allNodes, allBelow, IsState, Became, leafOf, anyDeep, AllFit, chainWords, deeperWords};
+use crate::types::larger;
+use trie::Kind;
+use trie::Reply;
+use trie::Row;
+
+// The words of a trie: its count and at most as many nodes as a contribution has. A path with its leaf has at most 24 more.
+pub const TRIE: usize = 1_026;
+
+const RUN: usize = 1_048;
+
+// Writes the chain of nodes of a path, the last one marked or not, and answers how many there are.
+fn write_chain(path: &[u64], marked: bool, out: &mut [u64]) -> usize
+    requires { ⌜ IsPath (now path) × (length (now path) ≤ length (now out)) ⌝ }
+    ensures { λ r. ⌜ Wrote (now (out .entry)) 0 (chainWords (now (path .entry)) marked) (now (out .exit)) r ⌝ }
+{
+    let last = path.len() - 1;
+    let mut i = 0;
+    while i < last {
+        let depth = i + 1;
+        out[i] = Row::node(depth as u64, path[i], false).word;
+        i = depth;
+    }
+    let steps = last + 1;
+    out[last] = Row::node(steps as u64, path[last], marked).word;
+    steps
+}
+
+// Writes rows so many steps deeper from a place on, and answers the place after them.
+fn write_deeper(rows: &[u64], by: usize, out: &mut [u64], to: usize) -> usize
+    requires { ⌜ (allBelow by (now rows) ≡ true) × (to + length (now rows) ≤ length (now out)) ⌝ }
+    ensures { λ r. ⌜ Wrote (now (out .entry)) to (deeperWords by (now (rows .entry))) (now (out .exit)) r ⌝ }
+{
+    let mut i = 0;
+    while i < rows.len() {
+        out[to + i] = rows[i] + by as u64;
+        i += 1;
+    }
+    to + i
+}
+
+// Merges a run of nodes into a trie, and answers whether it stays within the limit of nodes; if not, the trie is as it was.
+pub fn union_into(trie: &mut [u64], run: &[u64]) -> bool
+    requires { ⌜ IsState (now trie) × (allNodes (now run) ≡ true) ⌝ }
+    ensures { λ r. ⌜ Became (union (rowsIn (now (trie .entry))) (rowsOf (now (run .entry)))) (now (trie .exit)) r ⌝ }
+{
+    let end = trie[0] as usize + 1;
+    let mut united = [0u64; TRIE];
+    let reply = trie::union_rows(Kind::Contribution, &trie[1..end], run, &mut united);
+    let Reply::Done = reply else {
+        return false;
+    };
+    manifest::copy_rows(&united, trie);
+    true
+}
+
+// Whether a path of so many steps and its leaf give no node: no field, no mark and nothing below.
+fn is_no_trie(steps: usize, marked: bool, below: usize) -> bool
+    ensures { λ r. ⌜ r ≡ (eqb steps 1 && (not marked && eqb below 0)) ⌝ }
+{
+    if steps != 1 {
+        return false;
+    }
+    if marked {
+        return false;
+    }
+    below == 0
+}
+
+// `add_access_path`: merges a path with its leaf into a trie: a mark, and the nodes below it. A path without fields and with an empty leaf
+// adds nothing.
+pub fn add_access_path(trie: &mut [u64], path: &[u64], marked: bool, below: &[u64]) -> bool
+    requires { ⌜ IsState (now trie) × IsPath (now path) ⌝ }
+    requires { ⌜ (length (now below) ≤ 1024) × (allBelow (length (now path)) (now below) ≡ true) ⌝ }
+    ensures { λ r. ⌜ Became (addAccessPath (rowsIn (now (trie .entry))) (now (path .entry)) (leafOf marked (now (below .entry)))) (now (trie .exit)) r ⌝ }
+{
+    if is_no_trie(path.len(), marked, below.len()) {
+        return true;
+    }
+    let mut run = [0u64; RUN];
+    let leaf = write_chain(path, marked, &mut run);
+    let end = write_deeper(below, path.len(), &mut run, leaf);
+    union_into(trie, &run[..end])
+}
+
+// The path whose head stands at a place.
+pub fn path_at(code: &[u64], at: usize) -> &[u64]
+    requires { ⌜ AllWithin (now code) (at ∷ []) ⌝ }
+    ensures { λ r. ⌜ now r ≡ pathAt (now (code .entry)) at ⌝ }
+{
+    let first = at + 1;
+    let end = first + (code[at] / 8) as usize;
+    &code[first..end]
+}
+
+// `add_wrapped_access_paths`: merges the paths at some places with one leaf into a trie, and answers whether it stays within the limit.
+pub fn add_paths(
+    trie: &mut [u64],
+    code: &[u64],
+    places: &[u64],
+    marked: bool,
+    below: &[u64],
+) -> bool
+    requires { ⌜ IsState (now trie) × (AllWithin (now code) (now places) × AllPaths (pathsAt (now code) (now places))) ⌝ }
+    requires { ⌜ (length (now below) ≤ 1024) × AllFit (pathsAt (now code) (now places)) (now below) ⌝ }
+    ensures { λ r. ⌜ Became (addPaths (rowsIn (now (trie .entry))) (pathsAt (now (code .entry)) (now (places .entry))) (leafOf marked (now (below .entry)))) (now (trie .exit)) r ⌝ }
+{
+    let mut i = 0;
+    while i < places.len() {
+        let at = places[i] as usize;
+        if !add_access_path(trie, path_at(code, at), marked, below) {
+            return false;
+        }
+        i += 1;
+    }
+    true
+}
+
+// Whether some path with so many steps below it would exceed the steps of a position.
+pub fn is_too_deep(code: &[u64], places: &[u64], below: u64) -> bool
+    requires { ⌜ AllWithin (now code) (now places) × (below ≤ 24) ⌝ }
+    ensures { λ r. ⌜ r ≡ anyDeep (pathsAt (now (code .entry)) (now (places .entry))) below ⌝ }
+{
+    let mut i = 0;
+    while i < places.len() {
+        let at = places[i] as usize;
+        if Kind::STEPS < code[at] / 8 + below {
+            return true;
+        }
+        i += 1;
+    }
+    false
+}
+
+// The steps of the longest of some paths.
+pub fn longest(code: &[u64], places: &[u64]) -> u64
+    requires { ⌜ AllWithin (now code) (now places) ⌝ }
+    ensures { λ r. ⌜ r ≡ longestOf (pathsAt (now (code .entry)) (now (places .entry))) ⌝ }
+{
+    let mut most = 0;
+    let mut i = 0;
+    while i < places.len() {
+        let at = places[i] as usize;
+        most = larger(most, code[at] / 8);
+        i += 1;
+    }
+    most
+}
