@@ -1,0 +1,63 @@
+-- `steps_cases::print_contribution` is safe: what was written lies within the buffer.
+use mathlib.Core.Path.{sym}
+use lib.Seq.{length-take-le}
+use borrow.Author.Needs.{needs}
+use Rattle.steps_cases.proofs.print_contribution.Statement.{statement}
+use Rattle.steps_cases.proofs.print_contribution.Tie as tie
+
+slice-aggregate-write-listing : tie.Need-slice-aggregate-write-listing
+slice-aggregate-write-listing c = search needs
+
+write-listing-requires : tie.Need-write-listing-requires
+write-listing-requires c κs = search needs
+
+enum-known-written : tie.Need-enum-known-written
+enum-known-written c = search needs
+
+say-refused-requires : tie.Need-say-refused-requires
+say-refused-requires c κs = search needs
+
+enum-known-written-2 : tie.Need-enum-known-written-2
+enum-known-written-2 c = search needs
+
+slice-aggregate-say : tie.Need-slice-aggregate-say
+slice-aggregate-say c = search needs
+
+say-requires : tie.Need-say-requires
+say-requires c κs = search needs
+
+array-share-prefix-out : tie.Need-array-share-prefix-out
+array-share-prefix-out c = search needs
+
+slice-aggregate-say-2 : tie.Need-slice-aggregate-say-2
+slice-aggregate-say-2 c = sym (length-take-le _ _ (search needs))
+
+say-requires-2 : tie.Need-say-requires-2
+say-requires-2 c κs = search needs
+
+returns : tie.Need-returns
+returns c = search needs
+
+returns-2 : tie.Need-returns-2
+returns-2 c = search needs
+
+returns-3 : tie.Need-returns-3
+returns-3 c = search needs
+
+pub print-contribution-spec : {M : Type 1} → statement M
+print-contribution-spec =
+    tie.close
+    (tie.spec
+    slice-aggregate-write-listing
+    write-listing-requires
+    enum-known-written
+    say-refused-requires
+    enum-known-written-2
+    slice-aggregate-say
+    say-requires
+    array-share-prefix-out
+    slice-aggregate-say-2
+    say-requires-2
+    returns
+    returns-2
+    returns-3)
