@@ -1,10 +1,15 @@
 // The front: every operation that is public to users. None has a `requires`; each checks its own input, and its `ensures` fixes the reply
 // and the final content of every lent buffer.
+mod c;
+
 ghost use mathlib.Core.Path.{_≡_};
 ghost use Rattle.trie.specs.States.{unionOf, hasOf};
 ghost use Rattle.manifest.specs.Outcomes.{emptyIn, addIn, readIn, writeIn};
+ghost use Rattle.schema.specs.Items.{readIn as readSchemaIn};
+ghost use Rattle.analysis.specs.Outcomes.{analyseIn};
 use manifest::EntityManifest;
 pub use manifest::Written;
+use schema::Schema;
 pub use trie::Held;
 pub use trie::Kind;
 pub use trie::Reply;
@@ -49,4 +54,18 @@ pub fn write_listing(kind: Kind, state: &[u64], out: &mut [u8]) -> Written
     ensures { λ r. ⌜ (r ≡ writeIn kind (now (state .entry)) (now (out .entry)) .reply) × (now (out .exit) ≡ writeIn kind (now (state .entry)) (now (out .entry)) .buffer) ⌝ }
 {
     manifest::write_listing(kind, state, out)
+}
+
+// Reads a schema's text into a state.
+pub fn read_schema(text: &[u8], out: &mut [u64]) -> Reply
+    ensures { λ r. ⌜ (r ≡ readSchemaIn (now (text .entry)) (now (out .entry)) .reply) × (now (out .exit) ≡ readSchemaIn (now (text .entry)) (now (out .entry)) .buffer) ⌝ }
+{
+    Schema::read(text, out)
+}
+
+// Analyses a step text under a request type, with a schema, and stores the contribution.
+pub fn analyse(schema: &[u64], request: u64, text: &[u8], out: &mut [u64]) -> Reply
+    ensures { λ r. ⌜ (r ≡ analyseIn (now (schema .entry)) request (now (text .entry)) (now (out .entry)) .reply) × (now (out .exit) ≡ analyseIn (now (schema .entry)) request (now (text .entry)) (now (out .entry)) .buffer) ⌝ }
+{
+    analysis::analyse(schema, request, text, out)
 }

@@ -1,0 +1,23 @@
+-- `entity_manifest::c::terbagyl_empty_manifest` meets its contract: what the front answers is told as a number and a value.
+-- Assumes nothing.
+use borrow.Author.Needs.{needs}
+use Rattle.entity_manifest.proofs.c.terbagyl_empty_manifest.Statement.{statement}
+use Rattle.entity_manifest.proofs.c.terbagyl_empty_manifest.Tie as tie
+
+empty-manifest-requires : tie.Need-empty-manifest-requires
+empty-manifest-requires c κs = search needs
+
+tell-requires : tie.Need-tell-requires
+tell-requires c κs = search needs
+
+same-length : tie.Need-same-length
+same-length c = search needs
+
+returns : tie.Need-returns
+returns c =
+    let said = c .before .before .before .before .empty-manifest .ensures in
+    rw (← (said .0)) (c .tell .ensures .0, (c .tell .ensures .1, said .1))
+
+pub terbagyl-empty-manifest-spec : {M : Type 1} → statement M
+terbagyl-empty-manifest-spec =
+    tie.close (tie.spec empty-manifest-requires tell-requires same-length returns)

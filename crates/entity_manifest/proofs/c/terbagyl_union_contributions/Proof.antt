@@ -1,0 +1,23 @@
+-- `entity_manifest::c::terbagyl_union_contributions` meets its contract: what the front answers is told as a number and a value.
+-- Assumes nothing.
+use borrow.Author.Needs.{needs}
+use Rattle.entity_manifest.proofs.c.terbagyl_union_contributions.Statement.{statement}
+use Rattle.entity_manifest.proofs.c.terbagyl_union_contributions.Tie as tie
+
+union-requires : tie.Need-union-requires
+union-requires c κs = search needs
+
+tell-requires : tie.Need-tell-requires
+tell-requires c κs = search needs
+
+same-length : tie.Need-same-length
+same-length c = search needs
+
+returns : tie.Need-returns
+returns c =
+    let said = c .before .before .before .before .union .ensures in
+    rw (← (said .0)) (c .tell .ensures .0, (c .tell .ensures .1, said .1))
+
+pub terbagyl-union-contributions-spec : {M : Type 1} → statement M
+terbagyl-union-contributions-spec =
+    tie.close (tie.spec union-requires tell-requires same-length returns)

@@ -1,0 +1,2 @@
+-- What the C names of the front answer.
+pub mod Numbers

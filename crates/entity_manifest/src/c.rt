@@ -1,0 +1,177 @@
+// The C names of the front. A slice passes as a pointer and a length. The result is 0, or the refusal's number; `value` receives the
+// refusal's place, or what the operation says beside it: the count of bytes, or whether a place is there, and is 0 otherwise.
+ghost use mathlib.Core.Path.{_≡_};
+ghost use Rattle.trie.specs.States.{unionOf, hasOf};
+ghost use Rattle.manifest.specs.Outcomes.{emptyIn, addIn, readIn, writeIn};
+ghost use Rattle.schema.specs.Items.{readIn as readSchemaIn};
+ghost use Rattle.analysis.specs.Outcomes.{analyseIn};
+ghost use Rattle.trie.specs.declared.Kind.the-variants.{Contribution, Manifest};
+ghost use Rattle.entity_manifest.specs.Numbers.{numberOf, placeOf, writtenNumber, writtenValue, heldNumber, heldValue};
+use manifest::Written;
+use trie::Held;
+use trie::Kind;
+use trie::Reply;
+
+// A reply as its number, its place beside it.
+fn tell(reply: Reply, value: &mut u64) -> u64
+    ensures { λ r. ⌜ (r ≡ numberOf reply) × (now (value .exit) ≡ placeOf reply) ⌝ }
+{
+    match reply {
+        Reply::Done => {
+            *value = 0;
+            0
+        }
+        Reply::Refused(number, place) => {
+            *value = place;
+            number
+        }
+    }
+}
+
+// What was written as a number, the count of bytes or the place beside it.
+fn tell_written(written: Written, value: &mut u64) -> u64
+    ensures { λ r. ⌜ (r ≡ writtenNumber written) × (now (value .exit) ≡ writtenValue written) ⌝ }
+{
+    match written {
+        Written::Bytes(bytes) => {
+            *value = bytes as u64;
+            0
+        }
+        Written::Refused(number, place) => {
+            *value = place;
+            number
+        }
+    }
+}
+
+// What is held as a number; beside it 0 for missing, 1 for there, 2 for there and marked, or the place.
+fn tell_held(held: Held, value: &mut u64) -> u64
+    ensures { λ r. ⌜ (r ≡ heldNumber held) × (now (value .exit) ≡ heldValue held) ⌝ }
+{
+    match held {
+        Held::Missing => {
+            *value = 0;
+            0
+        }
+        Held::There(marked) => {
+            *value = if marked { 2 } else { 1 };
+            0
+        }
+        Held::Unheld(number, place) => {
+            *value = place;
+            number
+        }
+    }
+}
+
+// Makes a lent state the empty manifest.
+#[no_mangle]
+pub extern "C" fn terbagyl_empty_manifest(out: &mut [u64], value: &mut u64) -> u64
+    ensures { λ r. ⌜ (r ≡ numberOf (emptyIn (now (out .entry)) .reply)) × ((now (value .exit) ≡ placeOf (emptyIn (now (out .entry)) .reply)) × (now (out .exit) ≡ emptyIn (now (out .entry)) .buffer)) ⌝ }
+{
+    tell(crate::empty_manifest(out), value)
+}
+
+// Adds a contribution to a manifest.
+#[no_mangle]
+pub extern "C" fn terbagyl_add(manifest: &mut [u64], contribution: &[u64], value: &mut u64) -> u64
+    ensures { λ r. ⌜ (r ≡ numberOf (addIn (now (manifest .entry)) (now (contribution .entry)) .reply)) × ((now (value .exit) ≡ placeOf (addIn (now (manifest .entry)) (now (contribution .entry)) .reply)) × (now (manifest .exit) ≡ addIn (now (manifest .entry)) (now (contribution .entry)) .buffer)) ⌝ }
+{
+    tell(crate::add(manifest, contribution), value)
+}
+
+// The union of two manifests in a third.
+#[no_mangle]
+pub extern "C" fn terbagyl_union_manifests(
+    a: &[u64],
+    b: &[u64],
+    out: &mut [u64],
+    value: &mut u64,
+) -> u64
+    ensures { λ r. ⌜ (r ≡ numberOf (unionOf Manifest (now (a .entry)) (now (b .entry)) (now (out .entry)) .reply)) × ((now (value .exit) ≡ placeOf (unionOf Manifest (now (a .entry)) (now (b .entry)) (now (out .entry)) .reply)) × (now (out .exit) ≡ unionOf Manifest (now (a .entry)) (now (b .entry)) (now (out .entry)) .buffer)) ⌝ }
+{
+    tell(crate::union(Kind::Manifest, a, b, out), value)
+}
+
+// The union of two contributions in a third.
+#[no_mangle]
+pub extern "C" fn terbagyl_union_contributions(
+    a: &[u64],
+    b: &[u64],
+    out: &mut [u64],
+    value: &mut u64,
+) -> u64
+    ensures { λ r. ⌜ (r ≡ numberOf (unionOf Contribution (now (a .entry)) (now (b .entry)) (now (out .entry)) .reply)) × ((now (value .exit) ≡ placeOf (unionOf Contribution (now (a .entry)) (now (b .entry)) (now (out .entry)) .reply)) × (now (out .exit) ≡ unionOf Contribution (now (a .entry)) (now (b .entry)) (now (out .entry)) .buffer)) ⌝ }
+{
+    tell(crate::union(Kind::Contribution, a, b, out), value)
+}
+
+// Whether a manifest has a place, and whether it marks it.
+#[no_mangle]
+pub extern "C" fn terbagyl_has_in_manifest(state: &[u64], place: &[u64], value: &mut u64) -> u64
+    ensures { λ r. ⌜ (r ≡ heldNumber (hasOf Manifest (now (state .entry)) (now (place .entry)))) × (now (value .exit) ≡ heldValue (hasOf Manifest (now (state .entry)) (now (place .entry)))) ⌝ }
+{
+    tell_held(crate::has(Kind::Manifest, state, place), value)
+}
+
+// Whether a contribution has a place, and whether it marks it.
+#[no_mangle]
+pub extern "C" fn terbagyl_has_in_contribution(state: &[u64], place: &[u64], value: &mut u64) -> u64
+    ensures { λ r. ⌜ (r ≡ heldNumber (hasOf Contribution (now (state .entry)) (now (place .entry)))) × (now (value .exit) ≡ heldValue (hasOf Contribution (now (state .entry)) (now (place .entry)))) ⌝ }
+{
+    tell_held(crate::has(Kind::Contribution, state, place), value)
+}
+
+// Reads the listing of a manifest into a state.
+#[no_mangle]
+pub extern "C" fn terbagyl_read_manifest(text: &[u8], out: &mut [u64], value: &mut u64) -> u64
+    ensures { λ r. ⌜ (r ≡ numberOf (readIn Manifest (now (text .entry)) (now (out .entry)) .reply)) × ((now (value .exit) ≡ placeOf (readIn Manifest (now (text .entry)) (now (out .entry)) .reply)) × (now (out .exit) ≡ readIn Manifest (now (text .entry)) (now (out .entry)) .buffer)) ⌝ }
+{
+    tell(crate::read_listing(Kind::Manifest, text, out), value)
+}
+
+// Reads the listing of a contribution into a state.
+#[no_mangle]
+pub extern "C" fn terbagyl_read_contribution(text: &[u8], out: &mut [u64], value: &mut u64) -> u64
+    ensures { λ r. ⌜ (r ≡ numberOf (readIn Contribution (now (text .entry)) (now (out .entry)) .reply)) × ((now (value .exit) ≡ placeOf (readIn Contribution (now (text .entry)) (now (out .entry)) .reply)) × (now (out .exit) ≡ readIn Contribution (now (text .entry)) (now (out .entry)) .buffer)) ⌝ }
+{
+    tell(crate::read_listing(Kind::Contribution, text, out), value)
+}
+
+// Writes the listing of a manifest.
+#[no_mangle]
+pub extern "C" fn terbagyl_write_manifest(state: &[u64], out: &mut [u8], value: &mut u64) -> u64
+    ensures { λ r. ⌜ (r ≡ writtenNumber (writeIn Manifest (now (state .entry)) (now (out .entry)) .reply)) × ((now (value .exit) ≡ writtenValue (writeIn Manifest (now (state .entry)) (now (out .entry)) .reply)) × (now (out .exit) ≡ writeIn Manifest (now (state .entry)) (now (out .entry)) .buffer)) ⌝ }
+{
+    tell_written(crate::write_listing(Kind::Manifest, state, out), value)
+}
+
+// Writes the listing of a contribution.
+#[no_mangle]
+pub extern "C" fn terbagyl_write_contribution(state: &[u64], out: &mut [u8], value: &mut u64) -> u64
+    ensures { λ r. ⌜ (r ≡ writtenNumber (writeIn Contribution (now (state .entry)) (now (out .entry)) .reply)) × ((now (value .exit) ≡ writtenValue (writeIn Contribution (now (state .entry)) (now (out .entry)) .reply)) × (now (out .exit) ≡ writeIn Contribution (now (state .entry)) (now (out .entry)) .buffer)) ⌝ }
+{
+    tell_written(crate::write_listing(Kind::Contribution, state, out), value)
+}
+
+// Reads a schema's text into a state.
+#[no_mangle]
+pub extern "C" fn terbagyl_read_schema(text: &[u8], out: &mut [u64], value: &mut u64) -> u64
+    ensures { λ r. ⌜ (r ≡ numberOf (readSchemaIn (now (text .entry)) (now (out .entry)) .reply)) × ((now (value .exit) ≡ placeOf (readSchemaIn (now (text .entry)) (now (out .entry)) .reply)) × (now (out .exit) ≡ readSchemaIn (now (text .entry)) (now (out .entry)) .buffer)) ⌝ }
+{
+    tell(crate::read_schema(text, out), value)
+}
+
+// Analyses a step text under a request type, with a schema, and stores the contribution.
+#[no_mangle]
+pub extern "C" fn terbagyl_analyse(
+    schema: &[u64],
+    request: u64,
+    text: &[u8],
+    out: &mut [u64],
+    value: &mut u64,
+) -> u64
+    ensures { λ r. ⌜ (r ≡ numberOf (analyseIn (now (schema .entry)) request (now (text .entry)) (now (out .entry)) .reply)) × ((now (value .exit) ≡ placeOf (analyseIn (now (schema .entry)) request (now (text .entry)) (now (out .entry)) .reply)) × (now (out .exit) ≡ analyseIn (now (schema .entry)) request (now (text .entry)) (now (out .entry)) .buffer)) ⌝ }
+{
+    tell(crate::analyse(schema, request, text, out), value)
+}
