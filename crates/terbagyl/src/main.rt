@@ -1,10 +1,16 @@
 // The program: arguments, files, and one call of the front for each thing that is asked.
+ghost use Prim.Native.Nat.{ℕ, _+_, _≤_};
+ghost use lib.ListN.{length};
+ghost use mathlib.Core.Path.{_≡_};
+ghost use Rattle.text.specs.declared.Decimal.the-variants.{Value};
 ghost use Rattle.terbagyl.specs.Files.{LoadedWithin};
 use entity_manifest::Kind;
 use entity_manifest::Reply;
 use entity_manifest::Written;
 use libc::STDERR_FILENO;
 use libc::STDOUT_FILENO;
+use text::Decimal;
+use text::Line;
 
 // The longest text that is read, and the longest listing.
 const TEXT: usize = 65_536;
@@ -12,6 +18,8 @@ const TEXT: usize = 65_536;
 const WORDS: usize = 4_161;
 
 const LISTING: usize = 62_720;
+
+const SCHEMA: usize = 142_337;
 
 // What came of reading a file: how many bytes it has, or that it was reported as unusable.
 enum Loaded {
@@ -31,7 +39,10 @@ fn say_reason(number: u64) {
         3 => say(b"a position would exceed 24 steps"),
         4 => say(b"too many nodes"),
         5 => say(b"a request type too many"),
-        15 => say(b"over 65,536 input bytes"),
+        6 => say(b"too few results, over 32, or not one at the end"),
+        7 => say(b"a set is dereferenced"),
+        8 => say(b"a literal against its type"),
+        15 => say(b"over 256 path nodes, or over 65,536 input bytes"),
         31 => say(b"a lent buffer is too short"),
         _ => say(b"refused"),
     }
@@ -61,7 +72,7 @@ fn say_cannot(reason: &[u8], about: &[u8]) {
 fn say_help() {
     io::write_all(
         STDOUT_FILENO,
-        b"terbagyl list FILE       reads a listing and writes it again\nterbagyl merge FILE...   adds each FILE, a contribution's text, to an empty manifest and writes its listing\nterbagyl help            this text\n",
+        b"terbagyl build SCHEMA FILE...       analyses each FILE, a policy text, and writes the listing of the manifest\nterbagyl steps P A R SCHEMA FILE    analyses FILE, a step text, under request type (P, A, R) and writes the contribution\nterbagyl list FILE                  reads a listing and writes it again\nterbagyl merge FILE...              adds each FILE, a contribution's text, to an empty manifest and writes its listing\nterbagyl help                       this text\n",
     );
 }
 
@@ -100,10 +111,10 @@ fn refuse(i: usize, number: u64, place: u64) {
     say_refused(&path[..n], number, place);
 }
 
-// Writes the listing of a manifest to standard output.
-fn print_listing(i: usize, manifest: &[u64]) {
+// Writes the listing of a manifest, or of a contribution, to standard output.
+fn print_listing(i: usize, kind: Kind, state: &[u64]) {
     let mut out = [0u8; LISTING];
-    let written = entity_manifest::write_listing(Kind::Manifest, manifest, &mut out);
+    let written = entity_manifest::write_listing(kind, state, &mut out);
     match written {
         Written::Bytes(n) => {
             if n <= LISTING {
@@ -123,7 +134,7 @@ fn list() {
     let mut manifest = [0u64; WORDS];
     let reply = entity_manifest::read_listing(Kind::Manifest, &text[..n], &mut manifest);
     match reply {
-        Reply::Done => print_listing(2, &manifest),
+        Reply::Done => print_listing(2, Kind::Manifest, &manifest),
         Reply::Refused(number, place) => refuse(2, number, place),
     }
 }
@@ -137,9 +148,9 @@ fn is_usable(i: usize) -> bool {
     true
 }
 
-// Whether all files can be read: judged for all of them before anything else.
-fn all_usable(count: usize) -> bool {
-    let mut i = 2;
+// Whether all files from an argument on can be read: judged for all of them before anything else.
+fn all_usable(first: usize, count: usize) -> bool {
+    let mut i = first;
     while i < count {
         if !is_usable(i) {
             return false;
@@ -171,7 +182,7 @@ fn add_file(i: usize, manifest: &mut [u64]) -> bool {
 
 // `merge FILE...`: adds each contribution to an empty manifest, all or nothing, and writes the listing.
 fn merge(count: usize) {
-    if !all_usable(count) {
+    if !all_usable(2, count) {
         return;
     }
     let mut manifest = [0u64; WORDS];
@@ -182,7 +193,219 @@ fn merge(count: usize) {
         }
         i += 1;
     }
-    print_listing(1, &manifest);
+    print_listing(1, Kind::Manifest, &manifest);
+}
+
+// What a line of a policy text is: an `A` line with its request type, or another one.
+enum Opened {
+    Request(u64),
+    Other,
+}
+
+// The lines of one contribution in a policy text: where they end, and how many there are.
+struct Part {
+    end: usize,
+    lines: u64,
+}
+
+// The request type of an `A` line, which is the listing of an entry without nodes.
+fn request_of(line: &[u8]) -> Opened {
+    if line.len() == 0 {
+        return Opened::Other;
+    }
+    if line[0] != b'A' {
+        return Opened::Other;
+    }
+    let mut entry = [0u64; 1_026];
+    let reply = entity_manifest::read_listing(Kind::Contribution, line, &mut entry);
+    let Reply::Done = reply else {
+        return Opened::Other;
+    };
+    Opened::Request(entry[1] / 64)
+}
+
+// The lines from a place on up to the next `A` line, or to the end.
+fn part_of(text: &[u8], at: usize) -> Part
+    requires { ⌜ at ≤ length (now text) ⌝ }
+    ensures { λ r. ⌜ (at + r .lines ≤ r .end) × (r .end ≤ length (now (text .entry))) ⌝ }
+{
+    let mut end = at;
+    let mut lines: u64 = 0;
+    while end < text.len() {
+        let Line::Whole(last) = Line::at(text, end) else {
+            return Part {
+                end: text.len(),
+                lines: lines + 1,
+            };
+        };
+        let next = last + 1;
+        if let Opened::Request(_) = request_of(&text[end..next]) {
+            return Part { end, lines };
+        }
+        end = next;
+        lines += 1;
+    }
+    Part { end, lines }
+}
+
+// Reads the schema that an argument names, and answers whether it was accepted.
+fn load_schema(i: usize, schema: &mut [u64]) -> bool {
+    let mut text = [0u8; 65_537];
+    let Loaded::Bytes(n) = load(i, &mut text) else {
+        return false;
+    };
+    let reply = entity_manifest::read_schema(&text[..n], schema);
+    if let Reply::Refused(number, place) = reply {
+        refuse(i, number, place);
+        return false;
+    }
+    true
+}
+
+// The line of a refusal at a place behind so many other lines; a refusal's place is never larger than the number of lines.
+fn line_of(before: u64, place: u64) -> u64 {
+    if 65_536 < before {
+        return place;
+    }
+    if 65_536 < place {
+        return place;
+    }
+    before + place
+}
+
+// Adds the contribution of step lines that stand behind so many other lines and end at a line, and answers whether it was accepted.
+fn add_steps(
+    i: usize,
+    schema: &[u64],
+    request: u64,
+    steps: &[u8],
+    before: u64,
+    last: u64,
+    manifest: &mut [u64],
+) -> bool {
+    let mut contribution = [0u64; 1_026];
+    let analysed = entity_manifest::analyse(schema, request, steps, &mut contribution);
+    if let Reply::Refused(number, place) = analysed {
+        refuse(i, number, line_of(before, place));
+        return false;
+    }
+    let added = entity_manifest::add(manifest, &contribution);
+    if let Reply::Refused(number, _) = added {
+        refuse(i, number, last);
+        return false;
+    }
+    true
+}
+
+// Adds all contributions of a policy text, and answers whether they were accepted.
+fn add_policy(i: usize, schema: &[u64], text: &[u8], manifest: &mut [u64]) -> bool {
+    let mut at = 0;
+    let mut line: u64 = 0;
+    while at < text.len() {
+        let Line::Whole(end) = Line::at(text, at) else {
+            refuse(i, 1, line);
+            return false;
+        };
+        let first = end + 1;
+        let Opened::Request(request) = request_of(&text[at..first]) else {
+            refuse(i, 1, line);
+            return false;
+        };
+        let part = part_of(text, first);
+        let part_end = part.end;
+        let before = line + 1;
+        let last = before + part.lines;
+        if !add_steps(
+            i,
+            schema,
+            request,
+            &text[first..part_end],
+            before,
+            last,
+            manifest,
+        ) {
+            return false;
+        }
+        at = part_end;
+        line = last;
+    }
+    true
+}
+
+// Adds the policy text that an argument names, and answers whether it was accepted.
+fn add_policy_file(i: usize, schema: &[u64], manifest: &mut [u64]) -> bool {
+    let mut text = [0u8; 65_537];
+    let Loaded::Bytes(n) = load(i, &mut text) else {
+        return false;
+    };
+    add_policy(i, schema, &text[..n], manifest)
+}
+
+// `build SCHEMA FILE...`: adds all contributions of all policy texts to an empty manifest, all or nothing, and writes the listing.
+fn build(count: usize) {
+    if !all_usable(2, count) {
+        return;
+    }
+    let mut schema = [0u64; SCHEMA];
+    if !load_schema(2, &mut schema) {
+        return;
+    }
+    let mut manifest = [0u64; WORDS];
+    let mut i = 3;
+    while i < count {
+        if !add_policy_file(i, &schema, &mut manifest) {
+            return;
+        }
+        i += 1;
+    }
+    print_listing(1, Kind::Manifest, &manifest);
+}
+
+// The id that an argument writes.
+fn id_argument(i: usize) -> Decimal
+    ensures { λ r. ⌜ ((n : ℕ) → r ≡ Value n → n ≤ 65535) ⌝ }
+{
+    let mut word = io::buffer();
+    let n = os::arg(i, &mut word);
+    Decimal::read(&word[..n])
+}
+
+// `steps P A R SCHEMA FILE`: analyses a step text and writes the contribution.
+fn steps(request: u64) {
+    if !all_usable(5, 7) {
+        return;
+    }
+    let mut schema = [0u64; SCHEMA];
+    if !load_schema(5, &mut schema) {
+        return;
+    }
+    let mut text = [0u8; 65_537];
+    let Loaded::Bytes(n) = load(6, &mut text) else {
+        return;
+    };
+    let mut contribution = [0u64; 1_026];
+    let reply = entity_manifest::analyse(&schema, request, &text[..n], &mut contribution);
+    match reply {
+        Reply::Done => print_listing(6, Kind::Contribution, &contribution),
+        Reply::Refused(number, place) => refuse(6, number, place),
+    }
+}
+
+// The request type of the arguments P A R, and then `steps`.
+fn steps_under() {
+    let Decimal::Value(principal) = id_argument(2) else {
+        say_cannot(b"P is an id from 0 to 65535", b"");
+        return;
+    };
+    let Decimal::Value(action) = id_argument(3) else {
+        say_cannot(b"A is an id from 0 to 65535", b"");
+        return;
+    };
+    let Decimal::Value(resource) = id_argument(4) else {
+        say_cannot(b"R is an id from 0 to 65535", b"");
+        return;
+    };
+    steps((principal * 0x1_0000 + action) * 0x1_0000 + resource);
 }
 
 fn main() {
@@ -204,6 +427,22 @@ fn main() {
             return;
         }
         say_cannot(b"list takes one file", b"");
+        return;
+    }
+    if check::same(command, b"build") {
+        if 3 < count {
+            build(count);
+            return;
+        }
+        say_cannot(b"build takes a schema and a file or more", b"");
+        return;
+    }
+    if check::same(command, b"steps") {
+        if count == 7 {
+            steps_under();
+            return;
+        }
+        say_cannot(b"steps takes P A R, a schema and a file", b"");
         return;
     }
     if check::same(command, b"merge") {

@@ -5,10 +5,10 @@ use Rattle.terbagyl.proofs.all_usable.Statement.{statement}
 use Rattle.terbagyl.proofs.all_usable.Tie as tie
 
 abbrev Inv-loop : tie.InvT-loop
-Inv-loop count i₀ i = Unit
+Inv-loop first count i₀ i = Unit
 
 abbrev μ-loop : tie.MeasureT-loop
-μ-loop count i₀ i = count - i
+μ-loop first count i₀ i = count - i
 
 loop-holds : tie.Need-loop-holds Inv-loop μ-loop
 loop-holds c = search needs
