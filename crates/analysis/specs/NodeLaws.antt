@@ -29,7 +29,7 @@ use Rattle.trie.specs.declared.Reply.the-variants.{Done, Refused}
 use Rattle.manifest.specs.Writes.{Wrote}
 use Rattle.manifest.specs.AddLaws.{taken-back, held-count}
 use Rattle.analysis.specs.Code.{pathAt, pathsAt, AllWithin}
-use Rattle.analysis.specs.Nodes.{nodeWord, belowWord, allNodes, allBelow, IsState, Became, leafOf, anyDeep, AllFit, chainWords, deeperWords}
+use Rattle.analysis.specs.Nodes.{nodeWord, belowWord, allNodes, allBelow, IsState, Became, leafOf, anyDeep, AllFit, chainWords, deeperWords, RunOf}
 
 -- ---- words of nodes
 
@@ -402,10 +402,10 @@ pub no-trie-test : (path below : List ℕ) (mark : Bool) → isNoTrie path (leaf
 no-trie-test path below mark = rw (length-map below rowOf)
 
 -- they give none
-pub no-trie : {trie : List ℕ} (path below : List ℕ) (mark : Bool) → IsState trie → isNoTrie path (leafOf mark below) ≡ true →
-    Became (addAccessPath (rowsIn trie) path (leafOf mark below)) trie true
-unfolding toRootAccessTrieWithLeaf
-no-trie {trie} path below mark state e = rw (e, union-nil-right (rowsIn trie)) (as-it-was state)
+pub no-run : (path below out : List ℕ) (mark : Bool) → isNoTrie path (leafOf mark below) ≡ true →
+    RunOf (toRootAccessTrieWithLeaf path (leafOf mark below)) out 0
+unfolding toRootAccessTrieWithLeaf allNodes
+no-run path below out mark e = rw e (record { inside = omega arith; packs = refl; nodes = refl })
 
 -- the words of a path with its leaf: its chain, and what is below it
 abbrev pub runWords : Path → List ℕ → Bool → List ℕ
@@ -449,6 +449,14 @@ module _ (path below : List ℕ) (mark : Bool) where
       (packed-nodes rows
       (packed-append (chain 1 mark path) (deeper (length path) (rowsOf below)) (chain-packed mark path good)
       (deeper-packed (length path) below (path-some good) fit)))
+
+  pub run-packs : {out : List ℕ} {end : ℕ} → IsPath path → allBelow (length path) below ≡ true → isNoTrie path (leafOf mark below) ≡ false →
+      end ≤ length out → take end out ≡ runWords path below mark → RunOf (toRootAccessTrieWithLeaf path (leafOf mark below)) out end
+  run-packs good fit e within written = record {
+    inside = within;
+    packs = ap rowsOf written ∙ run-nodes good fit e .0;
+    nodes = ap allNodes written ∙ run-nodes good fit e .1;
+  }
 
 -- ---- several paths
 

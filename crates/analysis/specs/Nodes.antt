@@ -4,7 +4,7 @@ use mathlib.Core.Path.{_≡_}
 use mathlib.Core.Bool.{Bool, true, false, _&&_, _||_}
 use mathlib.Core.List.{List, [], _∷_, map}
 use lib.Dec.{leb, ltb}
-use lib.ListN.{length, getD}
+use lib.ListN.{length, getD, take}
 use Rattle.rules.specs.Numbers.{mostSteps}
 use Rattle.rules.specs.Tries.{Row, isStep}
 use Rattle.rules.specs.Paths.{Path, Leaf, chain, deeper}
@@ -59,3 +59,9 @@ anyDeep (path ∷ paths) below = ltb mostSteps (length path + below) || anyDeep 
 unfoldable pub AllFit : List Path → List ℕ → Type 0
 AllFit [] below = Unit
 AllFit (path ∷ paths) below = (allBelow (length path) below ≡ true) × AllFit paths below
+
+-- so many words of `out` pack the nodes of a trie
+pub record RunOf (trie : List Row) (out : List ℕ) (count : ℕ) : Type 0 where
+  pub inside : count ≤ length out
+  pub packs : rowsOf (take count out) ≡ trie
+  pub nodes : allNodes (take count out) ≡ true

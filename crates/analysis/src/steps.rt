@@ -7,7 +7,7 @@ ghost use lib.ListN.{length, drop, getD};
 ghost use Rattle.rules.specs.Paths.{emptyLeaf, addPaths};
 ghost use Rattle.rules.specs.Steps.{fromRoot, defaultResult, judged, attrStep, twoStep, unionResults, inResult, setStep, dropStep, recStep, fullStep, stepped as steppedBy};
 ghost use Rattle.rules.specs.StepLaws.{AllPaths};
-ghost use Rattle.rules.specs.TypeLaws.{typesIn, longest as longestOf};
+ghost use Rattle.rules.specs.TypeLaws.{typesIn, longest as longestOf, markedLeaf};
 ghost use Rattle.trie.specs.States.{rowsIn};
 ghost use Rattle.schema.specs.Items.{itemsOf, goodItems};
 ghost use Rattle.analysis.specs.Code.{AllWithin, pathsAt};
@@ -34,73 +34,189 @@ use crate::stack::put_trie;
 use crate::stack::trie_end;
 use crate::step::Step;
 use crate::tries::TRIE;
-use crate::tries::add_paths;
+use crate::tries::add_wrapped_access_paths;
 use crate::tries::is_too_deep;
 use crate::tries::longest;
 use crate::tries::union_into;
 
 const NODES: usize = 256;
 
-// `from_root`: a path that is its root.
-fn root_step(root: u64, code: &mut [u64], tries: &mut [u64], stack: Stack) -> Stepped
-    requires { ⌜ Holding (now code) (now tries) stack ⌝ }
-    ensures { λ r. ⌜ StepsBy (λ place results. judged place (fromRoot root) results) (now (code .entry)) (now (tries .entry)) stack (now (code .exit)) (now (tries .exit)) r ⌝ }
-{
-    let paths = [WrappedAccessPaths::AccessPath(1).word(), root];
-    push(&paths, code, tries, stack)
-}
-
-// The default result.
-fn none_step(code: &mut [u64], tries: &mut [u64], stack: Stack) -> Stepped
-    requires { ⌜ Holding (now code) (now tries) stack ⌝ }
-    ensures { λ r. ⌜ StepsBy (λ place results. judged place defaultResult results) (now (code .entry)) (now (tries .entry)) stack (now (code .exit)) (now (tries .exit)) r ⌝ }
-{
-    let paths = [WrappedAccessPaths::Empty.word()];
-    push(&paths, code, tries, stack)
-}
-
-// Merges the paths at some places into a trie, and answers whether it stays within the limit of nodes.
-fn add_grown(trie: &mut [u64], code: &[u64], places: &[u64]) -> bool
+// `to_ancestor_access_trie`: merges the paths at some places, each leaf marked, into a trie, and answers whether it stays within the limit of
+// nodes.
+fn to_ancestor_access_trie(code: &[u64], places: &[u64], trie: &mut [u64]) -> bool
     requires { ⌜ IsState (now trie) × (AllWithin (now code) (now places) × AllPaths (pathsAt (now code) (now places))) ⌝ }
-    ensures { λ r. ⌜ Became (addPaths (rowsIn (now (trie .entry))) (pathsAt (now (code .entry)) (now (places .entry))) emptyLeaf) (now (trie .exit)) r ⌝ }
+    ensures { λ r. ⌜ Became (addPaths (rowsIn (now (trie .entry))) (pathsAt (now (code .entry)) (now (places .entry))) markedLeaf) (now (trie .exit)) r ⌝ }
 {
-    add_paths(trie, code, places, false, &places[..0])
+    add_wrapped_access_paths(trie, code, places, true, &places[..0])
 }
 
-// `get_or_has_attr`, and `restore_global_trie_invariant` for the paths that gained the field: the others are in the trie.
-fn attr_step(name: u64, code: &mut [u64], tries: &mut [u64], stack: Stack) -> Stepped
-    requires { ⌜ Holding (now code) (now tries) stack × (name < 65536) ⌝ }
-    ensures { λ r. ⌜ StepsBy (λ place results. attrStep place name results) (now (code .entry)) (now (tries .entry)) stack (now (code .exit)) (now (tries .exit)) r ⌝ }
-{
-    if stack.results == 0 {
-        return Stepped::Refused(6);
+// `EntityManifestAnalysisResult`: what a step makes of the results on the stack.
+pub struct EntityManifestAnalysisResult {}
+
+impl EntityManifestAnalysisResult {
+    // `from_root`: a path that is its root.
+    pub fn from_root(root: u64, code: &mut [u64], tries: &mut [u64], stack: Stack) -> Stepped
+        requires { ⌜ Holding (now code) (now tries) stack ⌝ }
+        ensures { λ r. ⌜ StepsBy (λ place results. judged place (fromRoot root) results) (now (code .entry)) (now (tries .entry)) stack (now (code .exit)) (now (tries .exit)) r ⌝ }
+    {
+        let paths = [WrappedAccessPaths::AccessPath(1).word(), root];
+        push(&paths, code, tries, stack)
     }
-    let mut paths = [0u64; WrappedAccessPaths::WORDS];
-    let mut places = [0u64; NODES];
-    let Extended::Done(words, grown) = get_or_has_attr(
-        code,
-        stack.code,
-        name,
-        &mut paths,
-        &mut places,
-    ) else {
-        return Stepped::Refused(7);
-    };
-    if is_too_deep(&paths, &places[..grown], 0) {
-        return Stepped::Refused(3);
+
+    // The default result.
+    pub fn default(code: &mut [u64], tries: &mut [u64], stack: Stack) -> Stepped
+        requires { ⌜ Holding (now code) (now tries) stack ⌝ }
+        ensures { λ r. ⌜ StepsBy (λ place results. judged place defaultResult results) (now (code .entry)) (now (tries .entry)) stack (now (code .exit)) (now (tries .exit)) r ⌝ }
+    {
+        let paths = [WrappedAccessPaths::Empty.word()];
+        push(&paths, code, tries, stack)
     }
-    let mut trie = [0u64; TRIE];
-    copy_trie(tries, stack.tries, &mut trie);
-    if !add_grown(&mut trie, &paths, &places[..grown]) {
-        return Stepped::Refused(4);
+
+    // Merges the paths at some places into a trie, and answers whether it stays within the limit of nodes.
+    pub fn restore_global_trie_invariant(trie: &mut [u64], code: &[u64], places: &[u64]) -> bool
+        requires { ⌜ IsState (now trie) × (AllWithin (now code) (now places) × AllPaths (pathsAt (now code) (now places))) ⌝ }
+        ensures { λ r. ⌜ Became (addPaths (rowsIn (now (trie .entry))) (pathsAt (now (code .entry)) (now (places .entry))) emptyLeaf) (now (trie .exit)) r ⌝ }
+    {
+        add_wrapped_access_paths(trie, code, places, false, &places[..0])
     }
-    let code_end = measure(code, stack.code, 1).end;
-    let tries_end = trie_end(tries, stack.tries);
-    Stepped::Next(Stack {
-        code: put_before(&paths[..words], code, code_end),
-        tries: put_trie(&trie, tries, tries_end),
-        results: stack.results,
-    })
+
+    // `get_or_has_attr`, and `restore_global_trie_invariant` for the paths that gained the field: the others are in the trie.
+    pub fn get_or_has_attr(name: u64, code: &mut [u64], tries: &mut [u64], stack: Stack) -> Stepped
+        requires { ⌜ Holding (now code) (now tries) stack × (name < 65536) ⌝ }
+        ensures { λ r. ⌜ StepsBy (λ place results. attrStep place name results) (now (code .entry)) (now (tries .entry)) stack (now (code .exit)) (now (tries .exit)) r ⌝ }
+    {
+        if stack.results == 0 {
+            return Stepped::Refused(6);
+        }
+        let mut paths = [0u64; WrappedAccessPaths::WORDS];
+        let mut places = [0u64; NODES];
+        let Extended::Done(words, grown) = get_or_has_attr(
+            code,
+            stack.code,
+            name,
+            &mut paths,
+            &mut places,
+        ) else {
+            return Stepped::Refused(7);
+        };
+        if is_too_deep(&paths, &places[..grown], 0) {
+            return Stepped::Refused(3);
+        }
+        let mut trie = [0u64; TRIE];
+        copy_trie(tries, stack.tries, &mut trie);
+        if !EntityManifestAnalysisResult::restore_global_trie_invariant(
+            &mut trie,
+            &paths,
+            &places[..grown],
+        ) {
+            return Stepped::Refused(4);
+        }
+        let code_end = measure(code, stack.code, 1).end;
+        let tries_end = trie_end(tries, stack.tries);
+        Stepped::Next(Stack {
+            code: put_before(&paths[..words], code, code_end),
+            tries: put_trie(&trie, tries, tries_end),
+            results: stack.results,
+        })
+    }
+
+    // `union`: tries merged, paths joined.
+    pub fn union(code: &mut [u64], tries: &mut [u64], stack: Stack) -> Stepped
+        requires { ⌜ Holding (now code) (now tries) stack ⌝ }
+        ensures { λ r. ⌜ StepsBy (λ place results. twoStep unionResults place results) (now (code .entry)) (now (tries .entry)) stack (now (code .exit)) (now (tries .exit)) r ⌝ }
+    {
+        if stack.results < 2 {
+            return Stepped::Refused(6);
+        }
+        let head = [WrappedAccessPaths::Union.word()];
+        wrap(&head, 2, code, tries, stack)
+    }
+
+    // `empty_paths`
+    pub fn empty_paths(code: &mut [u64], tries: &mut [u64], stack: Stack) -> Stepped
+        requires { ⌜ Holding (now code) (now tries) stack ⌝ }
+        ensures { λ r. ⌜ StepsBy (λ place results. dropStep place results) (now (code .entry)) (now (tries .entry)) stack (now (code .exit)) (now (tries .exit)) r ⌝ }
+    {
+        if stack.results == 0 {
+            return Stepped::Refused(6);
+        }
+        let code_end = measure(code, stack.code, 1).end;
+        let empty = [WrappedAccessPaths::Empty.word()];
+        Stepped::Next(Stack {
+            code: put_before(&empty, code, code_end),
+            tries: stack.tries,
+            results: stack.results,
+        })
+    }
+
+    // `full_type_required`: every path takes the trie of its type as leaf.
+    pub fn full_type_required(
+        t: u64,
+        words: &[u64],
+        table: &[u64],
+        types: u64,
+        code: &mut [u64],
+        tries: &mut [u64],
+        stack: Stack,
+    ) -> Stepped
+        requires { ⌜ (goodItems (now words) ≡ true) × (Tabled (now words) (now table) types × (types ≡ typesIn (itemsOf (now words)))) ⌝ }
+        requires { ⌜ Holding (now code) (now tries) stack ⌝ }
+        ensures { λ r. ⌜ StepsBy (λ place results. fullStep (itemsOf (now (words .entry))) t place results) (now (code .entry)) (now (tries .entry)) stack (now (code .exit)) (now (tries .exit)) r ⌝ }
+    {
+        if types <= t {
+            return Stepped::Refused(1);
+        }
+        if stack.results == 0 {
+            return Stepped::Refused(6);
+        }
+        let mut pairs = [0u64; NODES];
+        let Required::Next(code_end, count) = full_type_required(
+            code,
+            stack.code,
+            words,
+            table,
+            t,
+            &mut pairs,
+            0,
+            WrappedAccessPaths::NODES,
+        ) else {
+            return Stepped::Refused(8);
+        };
+        if is_any_too_deep(code, table, &pairs[..count]) {
+            return Stepped::Refused(3);
+        }
+        let mut trie = [0u64; TRIE];
+        copy_trie(tries, stack.tries, &mut trie);
+        if !add_taken(&mut trie, code, words, table, &pairs[..count]) {
+            return Stepped::Refused(4);
+        }
+        let tries_end = trie_end(tries, stack.tries);
+        replace(&trie, code, code_end, tries, tries_end, stack.results)
+    }
+
+    // `with_ancestors_required`: merges the paths at some places, with the ancestor trie of the right side's paths below each, into a trie, and
+    // answers whether it stays within the limit of nodes.
+    pub fn with_ancestors_required(
+        trie: &mut [u64],
+        code: &[u64],
+        left: &[u64],
+        right: &[u64],
+    ) -> bool
+        requires { ⌜ IsState (now trie) × (AllWithin (now code) (now left) × AllPaths (pathsAt (now code) (now left))) ⌝ }
+        requires { ⌜ AllWithin (now code) (now right) × AllPaths (pathsAt (now code) (now right)) ⌝ }
+        requires { ⌜ anyDeep (pathsAt (now code) (now left)) (longestOf (pathsAt (now code) (now right))) ≡ false ⌝ }
+        ensures { λ r. ⌜ Became (ancestorsRequired (rowsIn (now (trie .entry))) (pathsAt (now (code .entry)) (now (left .entry))) (pathsAt (now (code .entry)) (now (right .entry)))) (now (trie .exit)) r ⌝ }
+    {
+        if left.len() == 0 {
+            return true;
+        }
+        let mut ancestors = [0u64; TRIE];
+        if !to_ancestor_access_trie(code, right, &mut ancestors) {
+            return false;
+        }
+        let end = ancestors[0] as usize + 1;
+        add_wrapped_access_paths(trie, code, left, false, &ancestors[1..end])
+    }
 }
 
 // Wraps the top results under a head: their tries are merged.
@@ -121,18 +237,6 @@ fn wrap(head: &[u64], count: u64, code: &mut [u64], tries: &mut [u64], stack: St
         tries: merged,
         results: stack.results - count + 1,
     })
-}
-
-// `union`: tries merged, paths joined.
-fn union_step(code: &mut [u64], tries: &mut [u64], stack: Stack) -> Stepped
-    requires { ⌜ Holding (now code) (now tries) stack ⌝ }
-    ensures { λ r. ⌜ StepsBy (λ place results. twoStep unionResults place results) (now (code .entry)) (now (tries .entry)) stack (now (code .exit)) (now (tries .exit)) r ⌝ }
-{
-    if stack.results < 2 {
-        return Stepped::Refused(6);
-    }
-    let head = [WrappedAccessPaths::Union.word()];
-    wrap(&head, 2, code, tries, stack)
 }
 
 fn set_step(code: &mut [u64], tries: &mut [u64], stack: Stack) -> Stepped
@@ -192,87 +296,6 @@ fn replace(
     })
 }
 
-// `empty_paths`
-fn drop_step(code: &mut [u64], tries: &mut [u64], stack: Stack) -> Stepped
-    requires { ⌜ Holding (now code) (now tries) stack ⌝ }
-    ensures { λ r. ⌜ StepsBy (λ place results. dropStep place results) (now (code .entry)) (now (tries .entry)) stack (now (code .exit)) (now (tries .exit)) r ⌝ }
-{
-    if stack.results == 0 {
-        return Stepped::Refused(6);
-    }
-    let code_end = measure(code, stack.code, 1).end;
-    let empty = [WrappedAccessPaths::Empty.word()];
-    Stepped::Next(Stack {
-        code: put_before(&empty, code, code_end),
-        tries: stack.tries,
-        results: stack.results,
-    })
-}
-
-// `full_type_required`: every path takes the trie of its type as leaf.
-fn full_step(
-    t: u64,
-    words: &[u64],
-    table: &[u64],
-    types: u64,
-    code: &mut [u64],
-    tries: &mut [u64],
-    stack: Stack,
-) -> Stepped
-    requires { ⌜ (goodItems (now words) ≡ true) × (Tabled (now words) (now table) types × (types ≡ typesIn (itemsOf (now words)))) ⌝ }
-    requires { ⌜ Holding (now code) (now tries) stack ⌝ }
-    ensures { λ r. ⌜ StepsBy (λ place results. fullStep (itemsOf (now (words .entry))) t place results) (now (code .entry)) (now (tries .entry)) stack (now (code .exit)) (now (tries .exit)) r ⌝ }
-{
-    if types <= t {
-        return Stepped::Refused(1);
-    }
-    if stack.results == 0 {
-        return Stepped::Refused(6);
-    }
-    let mut pairs = [0u64; NODES];
-    let Required::Next(code_end, count) = full_type_required(
-        code,
-        stack.code,
-        words,
-        table,
-        t,
-        &mut pairs,
-        0,
-        WrappedAccessPaths::NODES,
-    ) else {
-        return Stepped::Refused(8);
-    };
-    if is_any_too_deep(code, table, &pairs[..count]) {
-        return Stepped::Refused(3);
-    }
-    let mut trie = [0u64; TRIE];
-    copy_trie(tries, stack.tries, &mut trie);
-    if !add_taken(&mut trie, code, words, table, &pairs[..count]) {
-        return Stepped::Refused(4);
-    }
-    let tries_end = trie_end(tries, stack.tries);
-    replace(&trie, code, code_end, tries, tries_end, stack.results)
-}
-
-// `with_ancestors_required`: merges the paths at some places, with the ancestor trie of the right side's paths below each, into a trie, and
-// answers whether it stays within the limit of nodes.
-fn with_ancestors_required(trie: &mut [u64], code: &[u64], left: &[u64], right: &[u64]) -> bool
-    requires { ⌜ IsState (now trie) × (AllWithin (now code) (now left) × AllPaths (pathsAt (now code) (now left))) ⌝ }
-    requires { ⌜ AllWithin (now code) (now right) × AllPaths (pathsAt (now code) (now right)) ⌝ }
-    requires { ⌜ anyDeep (pathsAt (now code) (now left)) (longestOf (pathsAt (now code) (now right))) ≡ false ⌝ }
-    ensures { λ r. ⌜ Became (ancestorsRequired (rowsIn (now (trie .entry))) (pathsAt (now (code .entry)) (now (left .entry))) (pathsAt (now (code .entry)) (now (right .entry)))) (now (trie .exit)) r ⌝ }
-{
-    if left.len() == 0 {
-        return true;
-    }
-    let mut ancestors = [0u64; TRIE];
-    if !add_paths(&mut ancestors, code, right, true, &right[..0]) {
-        return false;
-    }
-    let end = ancestors[0] as usize + 1;
-    add_paths(trie, code, left, false, &ancestors[1..end])
-}
-
 // `in`: the left side with the right side's ancestor trie, then both tries merged; no paths are left.
 fn in_step(code: &mut [u64], tries: &mut [u64], stack: Stack) -> Stepped
     requires { ⌜ Holding (now code) (now tries) stack ⌝ }
@@ -297,7 +320,12 @@ fn in_step(code: &mut [u64], tries: &mut [u64], stack: Stack) -> Stepped
     let left_tries = trie_end(tries, right_tries);
     let mut trie = [0u64; TRIE];
     copy_trie(tries, left_tries, &mut trie);
-    if !with_ancestors_required(&mut trie, code, &left[..left_paths], &right[..right_paths]) {
+    if !EntityManifestAnalysisResult::with_ancestors_required(
+        &mut trie,
+        code,
+        &left[..left_paths],
+        &right[..right_paths],
+    ) {
         return Stepped::Refused(4);
     }
     if !union_into(&mut trie, &tries[right_tries + 1..left_tries]) {
@@ -325,12 +353,20 @@ pub fn apply(
     ensures { λ r. ⌜ StepsBy (λ place results. steppedBy (itemsOf (now (words .entry))) place (stepRead step (now (names .entry))) results) (now (code .entry)) (now (tries .entry)) stack (now (code .exit)) (now (tries .exit)) r ⌝ }
 {
     match step {
-        Step::Root(root) => root_step(root, code, tries, stack),
-        Step::None => none_step(code, tries, stack),
-        Step::Attr(name) => attr_step(name, code, tries, stack),
-        Step::Union => union_step(code, tries, stack),
-        Step::Drop => drop_step(code, tries, stack),
-        Step::Full(t) => full_step(t, words, table, types, code, tries, stack),
+        Step::Root(root) => EntityManifestAnalysisResult::from_root(root, code, tries, stack),
+        Step::None => EntityManifestAnalysisResult::default(code, tries, stack),
+        Step::Attr(name) => EntityManifestAnalysisResult::get_or_has_attr(name, code, tries, stack),
+        Step::Union => EntityManifestAnalysisResult::union(code, tries, stack),
+        Step::Drop => EntityManifestAnalysisResult::empty_paths(code, tries, stack),
+        Step::Full(t) => EntityManifestAnalysisResult::full_type_required(
+            t,
+            words,
+            table,
+            types,
+            code,
+            tries,
+            stack,
+        ),
         Step::In => in_step(code, tries, stack),
         Step::Set => set_step(code, tries, stack),
         Step::Rec(count) => rec_step(count, names, code, tries, stack),

@@ -6,13 +6,13 @@ ghost use Prim.Native.Nat.{_+_, _≤_};
 ghost use lib.Dec.{eqb};
 ghost use lib.ListN.{length};
 ghost use Rattle.rules.specs.Tries.{union};
-ghost use Rattle.rules.specs.Paths.{addAccessPath, addPaths};
+ghost use Rattle.rules.specs.Paths.{toRootAccessTrieWithLeaf, addAccessPath, addPaths};
 ghost use Rattle.rules.specs.StepLaws.{IsPath, AllPaths};
 ghost use Rattle.rules.specs.TypeLaws.{longest as longestOf};
 ghost use Rattle.trie.specs.States.{rowsOf, rowsIn};
 ghost use Rattle.manifest.specs.Writes.{Wrote};
 ghost use Rattle.analysis.specs.Code.{pathAt, pathsAt, AllWithin};
-ghost use Rattle.analysis.specs.Nodes.{allNodes, allBelow, IsState, Became, leafOf, anyDeep, AllFit, chainWords, deeperWords};
+ghost use Rattle.analysis.specs.Nodes.{allNodes, allBelow, IsState, Became, leafOf, anyDeep, AllFit, chainWords, deeperWords, RunOf};
 use crate::types::larger;
 use trie::Kind;
 use trie::Reply;
@@ -81,19 +81,33 @@ fn is_no_trie(steps: usize, marked: bool, below: usize) -> bool
     below == 0
 }
 
-// `add_access_path`: merges a path with its leaf into a trie: a mark, and the nodes below it. A path without fields and with an empty leaf
-// adds nothing.
+// `to_root_access_trie_with_leaf`: writes a path with its leaf, a mark and the nodes below it, and answers how many nodes that is. A path
+// without fields and with an empty leaf gives none.
+fn to_root_access_trie_with_leaf(
+    path: &[u64],
+    marked: bool,
+    below: &[u64],
+    out: &mut [u64],
+) -> usize
+    requires { ⌜ IsPath (now path) × (length (now out) ≡ 1048) ⌝ }
+    requires { ⌜ (length (now below) ≤ 1024) × (allBelow (length (now path)) (now below) ≡ true) ⌝ }
+    ensures { λ r. ⌜ RunOf (toRootAccessTrieWithLeaf (now (path .entry)) (leafOf marked (now (below .entry)))) (now (out .exit)) r ⌝ }
+{
+    if is_no_trie(path.len(), marked, below.len()) {
+        return 0;
+    }
+    let leaf = write_chain(path, marked, out);
+    write_deeper(below, path.len(), out, leaf)
+}
+
+// `add_access_path`: merges a path with its leaf into a trie, and answers whether it stays within the limit of nodes.
 pub fn add_access_path(trie: &mut [u64], path: &[u64], marked: bool, below: &[u64]) -> bool
     requires { ⌜ IsState (now trie) × IsPath (now path) ⌝ }
     requires { ⌜ (length (now below) ≤ 1024) × (allBelow (length (now path)) (now below) ≡ true) ⌝ }
     ensures { λ r. ⌜ Became (addAccessPath (rowsIn (now (trie .entry))) (now (path .entry)) (leafOf marked (now (below .entry)))) (now (trie .exit)) r ⌝ }
 {
-    if is_no_trie(path.len(), marked, below.len()) {
-        return true;
-    }
     let mut run = [0u64; RUN];
-    let leaf = write_chain(path, marked, &mut run);
-    let end = write_deeper(below, path.len(), &mut run, leaf);
+    let end = to_root_access_trie_with_leaf(path, marked, below, &mut run);
     union_into(trie, &run[..end])
 }
 
@@ -108,7 +122,7 @@ pub fn path_at(code: &[u64], at: usize) -> &[u64]
 }
 
 // `add_wrapped_access_paths`: merges the paths at some places with one leaf into a trie, and answers whether it stays within the limit.
-pub fn add_paths(
+pub fn add_wrapped_access_paths(
     trie: &mut [u64],
     code: &[u64],
     places: &[u64],

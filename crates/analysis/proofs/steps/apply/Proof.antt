@@ -13,40 +13,40 @@ use Rattle.analysis.proofs.steps.apply.Tie as tie
 enum-known-step : tie.Need-enum-known-step
 enum-known-step c = search needs
 
-root-step-requires : tie.Need-root-step-requires
-root-step-requires c κs = search needs
+from-root-requires : tie.Need-from-root-requires
+from-root-requires c κs = search needs
 
 enum-told : tie.Need-enum-told
 enum-told c = search needs
 
-none-step-requires : tie.Need-none-step-requires
-none-step-requires c κs = search needs
+default-requires : tie.Need-default-requires
+default-requires c κs = search needs
 
 enum-known-step-2 : tie.Need-enum-known-step-2
 enum-known-step-2 c = search needs
 
-attr-step-requires : tie.Need-attr-step-requires
-attr-step-requires c κs =
+get-or-has-attr-requires : tie.Need-get-or-has-attr-requires
+get-or-has-attr-requires c κs =
     let start = c .before .before .before .before .before .before .before .before .before .before in
     (start .pre .1 .1, rw (c .before .before .before .step2 .given .1) at (start .pre .1 .0 .1 .1))
 
 enum-told-2 : tie.Need-enum-told-2
 enum-told-2 c = search needs
 
-union-step-requires : tie.Need-union-step-requires
-union-step-requires c κs = search needs
+union-requires : tie.Need-union-requires
+union-requires c κs = search needs
 
 enum-told-3 : tie.Need-enum-told-3
 enum-told-3 c = search needs
 
-drop-step-requires : tie.Need-drop-step-requires
-drop-step-requires c κs = search needs
+empty-paths-requires : tie.Need-empty-paths-requires
+empty-paths-requires c κs = search needs
 
 enum-known-step-3 : tie.Need-enum-known-step-3
 enum-known-step-3 c = search needs
 
-full-step-requires : tie.Need-full-step-requires
-full-step-requires c κs = search needs
+full-type-required-requires : tie.Need-full-type-required-requires
+full-type-required-requires c κs = search needs
 
 enum-told-4 : tie.Need-enum-told-4
 enum-told-4 c = search needs
@@ -81,7 +81,7 @@ returns : tie.Need-returns
 unfolding applied
 returns c results held =
     let start = c .before .before .before .before .before .before .before .before .before .before .before .before .before .before .before in
-    let call = c .before .before .before .before .root-step in
+    let call = c .before .before .before .before .from-root in
     step-is (itemsOf (start .args .words .now)) (start .args .names .now) results (call .last .1 .0) (call .last .1 .1 .0) (call .result) (start .args .step) (Root (c .before .before .before .before .before .before .before .before .step .given .0 .0))
     (c .before .before .before .before .before .before .before .before .step .given .1)
     (call .ensures results held)
@@ -96,7 +96,7 @@ returns-2 : tie.Need-returns-2
 unfolding applied
 returns-2 c results held =
     let start = c .before .before .before .before .before .before .before .before .before .before .before .before .before .before in
-    let call = c .before .before .before .before .none-step in
+    let call = c .before .before .before .before .default in
     step-is (itemsOf (start .args .words .now)) (start .args .names .now) results (call .last .0) (call .last .1 .0) (call .result) (start .args .step) None
     (c .before .before .before .before .before .before .before .enum-told .given .1)
     (call .ensures results held)
@@ -111,7 +111,7 @@ returns-3 : tie.Need-returns-3
 unfolding applied
 returns-3 c results held =
     let start = c .before .before .before .before .before .before .before .before .before .before .before .before .before .before .before in
-    let call = c .before .before .before .before .attr-step in
+    let call = c .before .before .before .before .get-or-has-attr in
     step-is (itemsOf (start .args .words .now)) (start .args .names .now) results (call .last .1 .0) (call .last .1 .1 .0) (call .result) (start .args .step) (Attr (c .before .before .before .before .before .before .before .before .step2 .given .0 .0))
     (c .before .before .before .before .before .before .before .before .step2 .given .1)
     (call .ensures results held)
@@ -126,7 +126,7 @@ returns-4 : tie.Need-returns-4
 unfolding applied
 returns-4 c results held =
     let start = c .before .before .before .before .before .before .before .before .before .before .before .before .before .before in
-    let call = c .before .before .before .before .union-step in
+    let call = c .before .before .before .before .union in
     step-is (itemsOf (start .args .words .now)) (start .args .names .now) results (call .last .0) (call .last .1 .0) (call .result) (start .args .step) Union
     (c .before .before .before .before .before .before .before .enum-told2 .given .1)
     (call .ensures results held)
@@ -141,7 +141,7 @@ returns-5 : tie.Need-returns-5
 unfolding applied
 returns-5 c results held =
     let start = c .before .before .before .before .before .before .before .before .before .before .before .before .before .before in
-    let call = c .before .before .before .before .drop-step in
+    let call = c .before .before .before .before .empty-paths in
     step-is (itemsOf (start .args .words .now)) (start .args .names .now) results (call .last .0) (call .last .1 .0) (call .result) (start .args .step) Drop
     (c .before .before .before .before .before .before .before .enum-told3 .given .1)
     (call .ensures results held)
@@ -156,7 +156,7 @@ returns-6 : tie.Need-returns-6
 unfolding applied
 returns-6 c results held =
     let start = c .before .before .before .before .before .before .before .before .before .before .before .before .before .before .before in
-    let call = c .before .before .before .before .full-step in
+    let call = c .before .before .before .before .full-type-required in
     step-is (itemsOf (start .args .words .now)) (start .args .names .now) results (call .last .1 .1 .1 .1 .0) (call .last .1 .1 .1 .1 .1 .0) (call .result) (start .args .step) (Full (c .before .before .before .before .before .before .before .before .step3 .given .0 .0))
     (c .before .before .before .before .before .before .before .before .step3 .given .1)
     (call .ensures results held)
@@ -218,17 +218,17 @@ apply-spec =
     tie.close
     (tie.spec
     enum-known-step
-    root-step-requires
+    from-root-requires
     enum-told
-    none-step-requires
+    default-requires
     enum-known-step-2
-    attr-step-requires
+    get-or-has-attr-requires
     enum-told-2
-    union-step-requires
+    union-requires
     enum-told-3
-    drop-step-requires
+    empty-paths-requires
     enum-known-step-3
-    full-step-requires
+    full-type-required-requires
     enum-told-4
     in-step-requires
     enum-told-5

@@ -1,11 +1,11 @@
--- `analysis::steps::none_step` meets its contract: empty paths are pushed.
+-- `analysis::steps::EntityManifestAnalysisResult::default` meets its contract: empty paths are pushed.
 -- Assumes nothing.
 use mathlib.Core.Path.{refl}
 use Rattle.rules.specs.Paths.{Empty, nodesOf}
 use Rattle.analysis.specs.Code.{code}
 use borrow.Author.Needs.{needs}
-use Rattle.analysis.proofs.steps.none_step.Statement.{statement}
-use Rattle.analysis.proofs.steps.none_step.Tie as tie
+use Rattle.analysis.proofs.steps.EntityManifestAnalysisResult.default.Statement.{statement}
+use Rattle.analysis.proofs.steps.EntityManifestAnalysisResult.default.Tie as tie
 
 word-requires : tie.Need-word-requires
 word-requires c κs = search needs
@@ -26,7 +26,7 @@ returns : tie.Need-returns
 unfolding code nodesOf
 returns c results held = c .before .before .before .before .push .ensures Empty results (rw (c .before .before .before .before .before .before .before .before .word .ensures)) refl held
 
-pub none-step-spec : {M : Type 1} → statement M
-none-step-spec =
+pub default-spec : {M : Type 1} → statement M
+default-spec =
     tie.close
     (tie.spec word-requires slice-aggregate-push push-requires same-length same-length-2 returns)

@@ -1,4 +1,4 @@
--- `analysis::tries::add_paths` meets its contract: the paths that are left to be added lead to what all of them give.
+-- `analysis::tries::add_wrapped_access_paths` meets its contract: the paths that are left to be added lead to what all of them give.
 -- Assumes nothing.
 use Prim.Native.Nat.{_-_, _≤_}
 use native.Mathlib.Omega.{arith}
@@ -11,8 +11,8 @@ use Rattle.trie.specs.States.{rowsIn}
 use Rattle.analysis.specs.Nodes.{Became, leafOf}
 use Rattle.analysis.specs.Code.{AllWithin, pathAt}
 use Rattle.analysis.specs.NodeLaws.{Adding, adding-within, adding-path, adding-fit, adding-next, adding-over, adding-all}
-use Rattle.analysis.proofs.tries.add_paths.Statement.{statement}
-use Rattle.analysis.proofs.tries.add_paths.Tie as tie
+use Rattle.analysis.proofs.tries.add_wrapped_access_paths.Statement.{statement}
+use Rattle.analysis.proofs.tries.add_wrapped_access_paths.Tie as tie
 
 abbrev Inv-loop : tie.InvT-loop
 Inv-loop trie₀ code places marked below i₀ trie i = (i ≤ length places) × Adding code places below marked trie₀ trie i
@@ -70,8 +70,8 @@ same-length-2 c = search needs
 returns-2 : tie.Need-returns-2 Inv-loop μ-loop
 returns-2 c = adding-all (c .before .loop .inv .1) (omega arith)
 
-pub add-paths-spec : {M : Type 1} → statement M
-add-paths-spec =
+pub add-wrapped-access-paths-spec : {M : Type 1} → statement M
+add-wrapped-access-paths-spec =
     tie.close
     (tie.spec
     Inv-loop

@@ -1,12 +1,12 @@
--- `analysis::steps::root_step` meets its contract: a path that is its root is pushed, and its trie is empty.
+-- `analysis::steps::EntityManifestAnalysisResult::from_root` meets its contract: a path that is its root is pushed, and its trie is empty.
 -- Assumes nothing.
 use mathlib.Core.Path.{refl}
 use mathlib.Core.List.{[], _∷_}
 use Rattle.rules.specs.Paths.{AccessPath, nodesOf, toRootAccessTrieWithLeaf}
 use Rattle.analysis.specs.Code.{code}
 use borrow.Author.Needs.{needs}
-use Rattle.analysis.proofs.steps.root_step.Statement.{statement}
-use Rattle.analysis.proofs.steps.root_step.Tie as tie
+use Rattle.analysis.proofs.steps.EntityManifestAnalysisResult.from_root.Statement.{statement}
+use Rattle.analysis.proofs.steps.EntityManifestAnalysisResult.from_root.Tie as tie
 
 word-requires : tie.Need-word-requires
 word-requires c κs = search needs
@@ -27,7 +27,7 @@ returns : tie.Need-returns
 unfolding code nodesOf toRootAccessTrieWithLeaf
 returns c results held = c .before .before .before .before .push .ensures (AccessPath (c .before .before .before .before .before .before .before .before .before .before .before .args .root ∷ [])) results (rw (c .before .before .before .before .before .before .before .before .word .ensures)) refl held
 
-pub root-step-spec : {M : Type 1} → statement M
-root-step-spec =
+pub from-root-spec : {M : Type 1} → statement M
+from-root-spec =
     tie.close
     (tie.spec word-requires slice-aggregate-push push-requires same-length same-length-2 returns)

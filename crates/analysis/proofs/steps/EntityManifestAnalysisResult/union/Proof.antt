@@ -1,11 +1,11 @@
--- `analysis::steps::union_step` meets its contract: the two results on top are wrapped under the head of a union.
+-- `analysis::steps::EntityManifestAnalysisResult::union` meets its contract: the two results on top are wrapped under the head of a union.
 -- Assumes nothing.
 use native.Mathlib.Omega.{arith}
 use Rattle.rules.specs.Steps.{unionResults}
 use Rattle.analysis.specs.StackLaws.{two-few, union-done}
 use borrow.Author.Needs.{needs}
-use Rattle.analysis.proofs.steps.union_step.Statement.{statement}
-use Rattle.analysis.proofs.steps.union_step.Tie as tie
+use Rattle.analysis.proofs.steps.EntityManifestAnalysisResult.union.Statement.{statement}
+use Rattle.analysis.proofs.steps.EntityManifestAnalysisResult.union.Tie as tie
 
 returns : tie.Need-returns
 returns c results held place = two-few results held unionResults (c .if1 .taken) place
@@ -30,8 +30,8 @@ returns-2 c results held =
     let wrap = c .before .before .before .before .wrap in
     union-done results held (wrap .last .1 .1 .0) (wrap .last .1 .1 .1 .0) (wrap .result) (omega (arith, c .before .before .before .before .before .before .before .before .before .if1 .left)) (rw (c .before .before .before .before .before .before .before .before .word .ensures) at (wrap .ensures))
 
-pub union-step-spec : {M : Type 1} → statement M
-union-step-spec =
+pub union-spec : {M : Type 1} → statement M
+union-spec =
     tie.close
     (tie.spec
     returns

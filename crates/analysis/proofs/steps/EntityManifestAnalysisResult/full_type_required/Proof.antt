@@ -1,4 +1,4 @@
--- `analysis::steps::full_step` meets its contract: every path of the top takes the trie of its type, and all go into the top's trie.
+-- `analysis::steps::EntityManifestAnalysisResult::full_type_required` meets its contract: every path of the top takes the trie of its type, and all go into the top's trie.
 -- Assumes nothing.
 use Prim.Native.Nat.{_<_}
 use mathlib.Core.Path.{_≡_, refl, sym, _∙_}
@@ -15,8 +15,8 @@ use Rattle.analysis.specs.Tables.{Tabled, Took}
 use Rattle.analysis.specs.Stacks.{pathsOf, Held}
 use Rattle.analysis.specs.StackLaws.{held-top, top-code, top-at, code-end-room, tries-end, tries-end-room, copied-top, full-missing, full-few, full-walk, full-mismatch, full-pairs, full-places, full-paths, full-too-deep, full-rows, full-done}
 use borrow.Author.Needs.{needs}
-use Rattle.analysis.proofs.steps.full_step.Statement.{statement}
-use Rattle.analysis.proofs.steps.full_step.Tie as tie
+use Rattle.analysis.proofs.steps.EntityManifestAnalysisResult.full_type_required.Statement.{statement}
+use Rattle.analysis.proofs.steps.EntityManifestAnalysisResult.full_type_required.Tie as tie
 
 -- the type is one of the schema, and the table says its sizes
 known : (c : tie.Else1) → c .before .before .before .before .before .args .t < typesIn (itemsOf (c .before .before .before .before .before .args .words .now))
@@ -266,8 +266,8 @@ returns-6 c results held =
     (at-end .trie-end .ensures .0)
     (replace .ensures))
 
-pub full-step-spec : {M : Type 1} → statement M
-full-step-spec =
+pub full-type-required-spec : {M : Type 1} → statement M
+full-type-required-spec =
     tie.close
     (tie.spec
     returns

@@ -1,10 +1,10 @@
--- `analysis::steps::drop_step` meets its contract: empty paths take the place of the top's paths.
+-- `analysis::steps::EntityManifestAnalysisResult::empty_paths` meets its contract: empty paths take the place of the top's paths.
 -- Assumes nothing.
 use native.Mathlib.Omega.{arith}
 use Rattle.analysis.specs.StackLaws.{held-top, top-standing, code-end, code-end-room, drop-few, drop-done}
 use borrow.Author.Needs.{needs}
-use Rattle.analysis.proofs.steps.drop_step.Statement.{statement}
-use Rattle.analysis.proofs.steps.drop_step.Tie as tie
+use Rattle.analysis.proofs.steps.EntityManifestAnalysisResult.empty_paths.Statement.{statement}
+use Rattle.analysis.proofs.steps.EntityManifestAnalysisResult.empty_paths.Tie as tie
 
 returns : tie.Need-returns
 returns c results held place = drop-few results held (c .if1 .taken) place
@@ -35,8 +35,8 @@ returns-2 : tie.Need-returns-2
 returns-2 c results held =
     drop-done results held (omega (arith, c .before .before .before .before .before .before .before .before .if1 .left)) (c .before .before .before .before .before .before .measure .ensures) (rw (c .before .before .before .before .before .word .ensures) at (c .before .before .put-before .ensures))
 
-pub drop-step-spec : {M : Type 1} → statement M
-drop-step-spec =
+pub empty-paths-spec : {M : Type 1} → statement M
+empty-paths-spec =
     tie.close
     (tie.spec
     returns

@@ -1,4 +1,4 @@
--- `analysis::steps::attr_step` meets its contract: the paths that gained the field go into the top's trie.
+-- `analysis::steps::EntityManifestAnalysisResult::get_or_has_attr` meets its contract: the paths that gained the field go into the top's trie.
 -- Assumes nothing.
 use mathlib.Core.Path.{_≡_, refl, sym, _∙_}
 use mathlib.Core.List.{List, _∷_}
@@ -11,8 +11,8 @@ use Rattle.analysis.specs.Code.{codes, Grew}
 use Rattle.analysis.specs.Stacks.{pathsOf, Held}
 use Rattle.analysis.specs.StackLaws.{held-top, top-code, top-stands, top-standing, top-at, code-end, code-end-room, tries-end, tries-end-room, copied-top, attr-few, attr-set, attr-too-deep, attr-paths, attr-rows, attr-done}
 use borrow.Author.Needs.{needs}
-use Rattle.analysis.proofs.steps.attr_step.Statement.{statement}
-use Rattle.analysis.proofs.steps.attr_step.Tie as tie
+use Rattle.analysis.proofs.steps.EntityManifestAnalysisResult.get_or_has_attr.Statement.{statement}
+use Rattle.analysis.proofs.steps.EntityManifestAnalysisResult.get_or_has_attr.Tie as tie
 
 -- the result on top
 topped :
@@ -120,11 +120,11 @@ copy-trie-requires c κs =
     let (top, rest, same, held) = topped some-there (start .pre .0 .results) (start .pre .0 .held) in
     (top-at held, refl)
 
-slice-aggregate-add-grown : tie.Need-slice-aggregate-add-grown
-slice-aggregate-add-grown c = search needs
+slice-aggregate-restore-global-trie-invariant : tie.Need-slice-aggregate-restore-global-trie-invariant
+slice-aggregate-restore-global-trie-invariant c = search needs
 
-slice-aggregate-add-grown-2 : tie.Need-slice-aggregate-add-grown-2
-slice-aggregate-add-grown-2 c = search needs
+slice-aggregate-restore-global-trie-invariant-2 : tie.Need-slice-aggregate-restore-global-trie-invariant-2
+slice-aggregate-restore-global-trie-invariant-2 c = search needs
 
 array-share-prefix-places-2 : tie.Need-array-share-prefix-places-2
 array-share-prefix-places-2 c =
@@ -134,8 +134,8 @@ array-share-prefix-places-2 c =
     let (top, rest, same, held) = topped some-there (start .pre .0 .results) (start .pre .0 .held) in
     (grew at-words top rest held) .in-places
 
-slice-aggregate-add-grown-3 : tie.Need-slice-aggregate-add-grown-3
-slice-aggregate-add-grown-3 c =
+slice-aggregate-restore-global-trie-invariant-3 : tie.Need-slice-aggregate-restore-global-trie-invariant-3
+slice-aggregate-restore-global-trie-invariant-3 c =
     let at-words = c .before .before .before .before .before .before .before .before .before .before .before .before in
     let at-attr = at-words .before .before .before .before in
     let some-there = at-attr .before .before .before .before in
@@ -143,8 +143,8 @@ slice-aggregate-add-grown-3 c =
     let (top, rest, same, held) = topped some-there (start .pre .0 .results) (start .pre .0 .held) in
     sym (length-take-le (at-words .words .given .0 .1 .0) (at-attr .get-or-has-attr .last .1 .1 .1 .1 .0) ((grew at-words top rest held) .in-places))
 
-add-grown-requires : tie.Need-add-grown-requires
-add-grown-requires c κs =
+restore-global-trie-invariant-requires : tie.Need-restore-global-trie-invariant-requires
+restore-global-trie-invariant-requires c κs =
     let at-copy = c .before .before .before .before in
     let deep-test = at-copy .before .before .before in
     let at-deep = deep-test .before in
@@ -174,8 +174,8 @@ returns-4 c results held place =
     (attr-rows h (start .args .name) (start .pre .1) (grew at-words top rest h)
     (sym (at-deep .is-too-deep .ensures) ∙ deep-test .if2 .left)
     (at-copy .copy-trie .last .1 .1 .0)
-    (copied-top h (at-copy .copy-trie .ensures)) (at-add .add-grown .ensures)
-    (not-true (at-add .add-grown .result) (c .if3 .taken)) place)
+    (copied-top h (at-copy .copy-trie .ensures)) (at-add .restore-global-trie-invariant .ensures)
+    (not-true (at-add .restore-global-trie-invariant .result) (c .if3 .taken)) place)
 
 measure-requires : tie.Need-measure-requires
 measure-requires c κs =
@@ -230,7 +230,7 @@ put-trie-requires c κs =
     let some-there = at-add .before .before .before .before .before .before .before .before .before .before .before .before .before .before .before .before .before .before .before .before .before in
     let start = some-there .before .before .before .before in
     let (top, rest, same, held) = topped some-there (start .pre .0 .results) (start .pre .0 .held) in
-    let still = at-add .add-grown .ensures .still in
+    let still = at-add .restore-global-trie-invariant .ensures .still in
     let room = tries-end-room held (tries-end held (at-end .trie-end .ensures .0)) in
     (still, (omega (arith, still .few-rows, room .0), omega (arith, room .1, held .layout .tries-length)))
 
@@ -259,12 +259,12 @@ returns-5 c results held =
     (attr-done h (start .args .name) (start .pre .1) (grew at-words top rest h)
     (sym (at-deep .is-too-deep .ensures) ∙ deep-test .if2 .left)
     (at-copy .copy-trie .last .1 .1 .0)
-    (copied-top h (at-copy .copy-trie .ensures)) (at-add .add-grown .ensures)
-    (not-false (at-add .add-grown .result) (add-test .if3 .left)) (at-measure .measure .ensures) (at-end .trie-end .ensures .0)
+    (copied-top h (at-copy .copy-trie .ensures)) (at-add .restore-global-trie-invariant .ensures)
+    (not-false (at-add .restore-global-trie-invariant .result) (add-test .if3 .left)) (at-measure .measure .ensures) (at-end .trie-end .ensures .0)
     (at-put .put-before .ensures) (at-put-trie .put-trie .ensures))
 
-pub attr-step-spec : {M : Type 1} → statement M
-attr-step-spec =
+pub get-or-has-attr-spec : {M : Type 1} → statement M
+get-or-has-attr-spec =
     tie.close
     (tie.spec
     returns
@@ -283,11 +283,11 @@ attr-step-spec =
     returns-3
     slice-aggregate-copy-trie
     copy-trie-requires
-    slice-aggregate-add-grown
-    slice-aggregate-add-grown-2
+    slice-aggregate-restore-global-trie-invariant
+    slice-aggregate-restore-global-trie-invariant-2
     array-share-prefix-places-2
-    slice-aggregate-add-grown-3
-    add-grown-requires
+    slice-aggregate-restore-global-trie-invariant-3
+    restore-global-trie-invariant-requires
     same-length-3
     same-length-4
     returns-4
