@@ -1,0 +1,3 @@
+//! Stand-in for thiserror.
+
+pub use derives::Error;
