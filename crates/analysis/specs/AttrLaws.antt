@@ -45,7 +45,7 @@ use Rattle.rules.specs.Paths.{
   fieldOr,
   getOrHasAttr,
 }
-use Rattle.rules.specs.StepLaws.{AllPaths, Each, IsPath, grownIn}
+use Rattle.rules.specs.StepLaws.{AllPaths, Each, IsPath, grownIn, each-split}
 use Rattle.manifest.specs.Writes.{Wrote}
 use Rattle.analysis.specs.declared.paths.Moved.{Moved}
 use Rattle.analysis.specs.declared.paths.Turn.the-variants.{Next, SetDereferenced}
@@ -73,7 +73,7 @@ use Rattle.analysis.specs.Turns.{
   Room,
   Turned,
 }
-use Rattle.analysis.specs.CodeLaws.{pathsOf, headFor, codes-append, codes-fields, names-many, paths-many, code-turn, nodes-turn, Ahead, next-within, next-room, next-word, next-head, stands-short, pathsInAll, many-nodes, many-words, next-of, nodes-append, paths-at-append, within-append, places-few}
+use Rattle.analysis.specs.CodeLaws.{pathsOf, headFor, codes-append, codes-fields, names-many, paths-many, code-turn, nodes-turn, Ahead, next-within, next-room, next-word, next-head, behind-word, stands-short, pathsInAll, many-nodes, many-words, next-of, nodes-append, paths-at-append, within-append, places-few}
 
 -- ---- one stands there
 
@@ -86,10 +86,10 @@ cut : (words xs rest : List ℕ) (at end : ℕ) → drop at words ≡ xs ++ rest
 cut words xs rest at end e f = rw (f, add-sub-cancel-left, e) (take-append-seam xs rest)
 
 -- what stands behind it
-behind-it : (words xs rest : List ℕ) (at : ℕ) → drop at words ≡ xs ++ rest → drop (at + length xs) words ≡ rest
+pub behind-it : (words xs rest : List ℕ) (at : ℕ) → drop at words ≡ xs ++ rest → drop (at + length xs) words ≡ rest
 behind-it words xs rest at e = sym (drop-drop (length xs) at words) ∙ rw e (drop-append-seam xs rest)
 
-within-it : (words xs rest : List ℕ) (at : ℕ) → drop at words ≡ xs ++ rest → 0 < length xs → at + length xs ≤ length words
+pub within-it : (words xs rest : List ℕ) (at : ℕ) → drop at words ≡ xs ++ rest → 0 < length xs → at + length xs ≤ length words
 within-it words xs rest at e h = omega (arith, ap length e, length-drop at words, length-append xs rest)
 
 -- ---- a path that gains a field
@@ -102,7 +102,7 @@ pub path-gained :
     → Took at (code (AccessPath path)) out to (code (AccessPath (path ++ (f ∷ [])))) (set out₁ last f) (record { from = at + 1 + steps; to = last + 1 })
 unfolding code
 path-gained words rest path out out₁ at steps f to last many e w =
-    let behind : drop (at + 1) words ≡ path ++ rest = sym (drop-drop 1 at words) ∙ ap (λ (l : List ℕ). drop 1 l) e in
+    let behind : drop (at + 1) words ≡ path ++ rest = behind-word words at e in
     let copied : take (at + 1 + steps - (at + 1)) (drop (at + 1) words) ≡ path = cut words path rest (at + 1) (at + 1 + steps) behind (rw many) in
     let more : length (path ++ (f ∷ [])) ≡ steps + 1 = length-append path (f ∷ []) ∙ rw many in
     let after : last ≡ to + 1 + length path = w .after ∙ rw copied in
@@ -178,11 +178,9 @@ module _ {words rest : List ℕ} {fields : Fields} {at n : ℕ} (l : LiteralAt w
   literal-within = within-it words (code (RecordLiteral fields)) rest at (l .coded) (omega (arith, literal-length))
 
   -- its names, and its fields behind them
-  behind-head : drop (at + 1) words ≡ namesIn fields ++ (codes (pathsOf fields) ++ rest)
+  pub behind-head : drop (at + 1) words ≡ namesIn fields ++ (codes (pathsOf fields) ++ rest)
   unfolding code
-  behind-head =
-      sym (drop-drop 1 at words) ∙ ap (λ (l : List ℕ). drop 1 l) (l .coded)
-      ∙ append-assoc (namesIn fields) (codeFields fields) rest ∙ rw (codes-fields fields)
+  behind-head = behind-word words at (l .coded) ∙ append-assoc (namesIn fields) (codeFields fields) rest ∙ rw (codes-fields fields)
 
   pub literal-names : take (at + 1 + n - (at + 1)) (drop (at + 1) words) ≡ namesIn fields
   literal-names =
@@ -295,19 +293,14 @@ record-of (Union left right) n e = absurd (let z : _≡_ {A = ℕ} 0 1 = cc in o
 record-of (RecordLiteral fields) n e = (fields, refl, cc)
 record-of (SetLiteral elements) n e = absurd (let z : _≡_ {A = ℕ} 0 1 = cc in omega arith)
 
-pub set-of : (q : Paths) → headFor q ≡ SetHead → isSet q ≡ true
+pub set-of : (q : Paths) → headFor q ≡ SetHead → (elements : Paths) × (q ≡ SetLiteral elements)
 set-of Empty e = absurd (let z : _≡_ {A = ℕ} 0 1 = cc in omega arith)
 set-of (AccessPath path) e = absurd (let z : _≡_ {A = ℕ} 0 1 = cc in omega arith)
 set-of (Union left right) e = absurd (let z : _≡_ {A = ℕ} 0 1 = cc in omega arith)
 set-of (RecordLiteral fields) e = absurd (let z : _≡_ {A = ℕ} 0 1 = cc in omega arith)
-set-of (SetLiteral elements) e = refl
+set-of (SetLiteral elements) e = (elements, refl)
 
 -- ---- words enough
-
-each-append : {A : Type 0} (P : A → Type 0) (xs ys : List A) → Each P (xs ++ ys) → Each P xs × Each P ys
-unfolding Each
-each-append P [] ys h = (tt, h)
-each-append P (x ∷ xs) ys h = let (a, b) = each-append P xs ys (h .1) in ((h .0, a), b)
 
 -- a path has a word for each step, its head and a name; any other node a head and a name
 mutual
@@ -317,7 +310,7 @@ mutual
   words-few Empty h = omega arith
   words-few (AccessPath path) h = omega (arith, h .0 .short)
   words-few (Union left right) h =
-      let (r, l) = each-append IsPath (pathsIn right) (pathsIn left) h in
+      let (r, l) = each-split IsPath (pathsIn right) (pathsIn left) h in
       omega (arith, words-few right r, words-few left l, length-append (code right) (code left))
   words-few (RecordLiteral fields) h =
       omega (arith, fields-few fields h, length-append (namesIn fields) (codeFields fields), names-many fields)
@@ -326,7 +319,7 @@ mutual
   fields-few : (fields : Fields) → AllPaths (pathsInFields fields) → countIn fields + length (codeFields fields) ≤ 26 * nodesOfFields fields
   fields-few noField h = omega arith
   fields-few (field name paths fields) h =
-      let (a, b) = each-append IsPath (pathsIn paths) (pathsInFields fields) h in
+      let (a, b) = each-split IsPath (pathsIn paths) (pathsInFields fields) h in
       omega (arith, words-few paths a, fields-few fields b, length-append (code paths) (codeFields fields))
 
 -- a field has no more words than the literal may have
@@ -334,7 +327,7 @@ field-few : (f : ℕ) (fields : Fields) (q : Paths) → fieldOf f fields ≡ som
 unfolding fieldOf pathsInFields nodesOfFields
 field-few f noField q e h = absurd (let z : _≡_ {A = ℕ} 0 1 = cc in omega arith)
 field-few f (field name paths fields) q e h =
-    let (a, b) = each-append IsPath (pathsIn paths) (pathsInFields fields) h in
+    let (a, b) = each-split IsPath (pathsIn paths) (pathsInFields fields) h in
     go (eqb name f) (λ k. field-few f fields q k b) a e
   where
     go :
@@ -358,7 +351,7 @@ module _ (words rest : List ℕ) (q : Paths) (at : ℕ) (e : drop at words ≡ c
   word-here : getD words at 0 ≡ wordFor (headFor q)
   word-here = next-word (stands-alone words rest q at e)
 
-  head-here : headOf (getD words at 0) ≡ headFor q
+  pub head-here : headOf (getD words at 0) ≡ headFor q
   head-here = next-head (stands-alone words rest q at e)
 
 module _ {words out : List ℕ} {at to : ℕ} (r : Room words at out to) where
@@ -428,7 +421,7 @@ module _ (words out out′ : List ℕ) (at f to : ℕ) (moved : Moved) where
       rw same (refl, taken fields rest many (rw same at e))
 
 pub turned-set : (words out out′ : List ℕ) (at f to : ℕ) → headOf (getD words at 0) ≡ SetHead → Turned words at f out to out′ SetDereferenced
-turned-set words out out′ at f to said q rest e = set-of q (sym (head-here words rest q at e) ∙ said)
+turned-set words out out′ at f to said q rest e = ap isSet (set-of q (sym (head-here words rest q at e) ∙ said) .1)
 
 -- ---- along the unions
 
@@ -561,9 +554,9 @@ unfolding pathsInAll pathsIn Each
 spine-good Empty qs h = (tt, h)
 spine-good (AccessPath path) qs h = ((h .0, tt), h .1)
 spine-good (Union left right) qs h =
-    (each-append IsPath (pathsIn right ++ pathsIn left) (pathsInAll qs) h .0, rw (append-assoc (pathsIn right) (pathsIn left) (pathsInAll qs)) at h)
-spine-good (RecordLiteral fields) qs h = each-append IsPath (pathsInFields fields) (pathsInAll qs) h
-spine-good (SetLiteral elements) qs h = each-append IsPath (pathsIn elements) (pathsInAll qs) h
+    (each-split IsPath (pathsIn right ++ pathsIn left) (pathsInAll qs) h .0, rw (append-assoc (pathsIn right) (pathsIn left) (pathsInAll qs)) at h)
+spine-good (RecordLiteral fields) qs h = each-split IsPath (pathsInFields fields) (pathsInAll qs) h
+spine-good (SetLiteral elements) qs h = each-split IsPath (pathsIn elements) (pathsInAll qs) h
 
 spine-nodes : (q : Paths) (qs : List Paths) → suc (nodesOfAll (spine q ++ qs)) ≤ nodesOfAll (q ∷ qs)
 unfolding nodesOfAll nodesOf

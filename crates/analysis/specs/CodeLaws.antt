@@ -206,6 +206,14 @@ many-words (q ∷ qs) = omega (arith, nodes-words q, many-words qs, length-appen
 pub stands-short : (words xs rest : List ℕ) (at : ℕ) → drop at words ≡ xs ++ rest → length xs ≤ length words
 stands-short words xs rest at e = omega (arith, ap length e, length-drop at words, length-append xs rest)
 
+-- the word at a place, and what stands behind it
+module _ (words : List ℕ) (at : ℕ) {w : ℕ} {xs : List ℕ} (e : drop at words ≡ w ∷ xs) where
+  pub first-word : getD words at 0 ≡ w
+  first-word = sym (getD-drop at words 0 0 ∙ rw add-zero) ∙ ap (λ (l : List ℕ). getD l 0 0) e
+
+  pub behind-word : drop (at + 1) words ≡ xs
+  behind-word = sym (drop-drop 1 at words) ∙ ap (λ (l : List ℕ). drop 1 l) e
+
 -- ---- what is ahead
 
 -- so many wrapped paths stand ahead
@@ -236,13 +244,13 @@ module _ {words rest : List ℕ} {q : Paths} {qs : List Paths} {from left : ℕ}
   next-room = omega (arith, opened-length)
 
   pub next-word : getD words from 0 ≡ wordFor (headFor q)
-  next-word = sym (getD-drop from words 0 0 ∙ rw add-zero) ∙ ap (λ (l : List ℕ). getD l 0 0) opened
+  next-word = first-word words from opened
 
   pub next-head : headOf (getD words from 0) ≡ headFor q
   next-head = ap headOf next-word ∙ head-word (headFor q)
 
   behind : drop (from + 1) words ≡ payload q ++ (codes (unwrapped q ++ qs) ++ rest)
-  behind = sym (drop-drop 1 from words) ∙ ap (λ (l : List ℕ). drop 1 l) opened
+  behind = behind-word words from opened
 
   pub next-payload : take (sizeOf (headFor q)) (drop (from + 1) words) ≡ payload q
   next-payload = rw (behind, ← payload-many q) (take-append-seam (payload q) (codes (unwrapped q ++ qs) ++ rest))

@@ -1,23 +1,24 @@
 -- Laws of which path takes which type, and of adding them (Tables). No contract cites this file.
 use Prim.Native.Nat.{ℕ, zero, suc, _+_, _-_, _*_, _/_, _%_, _^_, _≤_, _<_}
-use native.Mathlib.Nat.{le-refl}
+use native.Mathlib.Nat.{le-refl, add-sub-cancel-left}
 use native.Mathlib.Numerals.{add-one}
 use native.Mathlib.Omega.{arith}
-use mathlib.Core.Bool.{Bool, true, false, _&&_, _||_, and-eq-true-iff, and-false, false≢true, true≢false}
+use mathlib.Core.Bool.{Bool, true, false, _&&_, _||_, and-eq-true-iff, and-false, false≢true}
 use mathlib.Core.List.{List, [], _∷_, _++_, map, map-append, append-assoc, append-nil}
 use mathlib.Core.Option.{Option, none, some, Option·none-ne-some}
 use mathlib.Core.Path.{_≡_, refl, sym, ap, _∙_}
 use borrow.Author.Tests.{ltb-true, ltb-false, leb-true, leb-false, lt-ltb, le-ltb, le-leb, lt-leb, eq-eqb, ne-eqb}
 use lib.Dec.{ltb, leb, eqb}
 use lib.ListN.{length, set, length-set, take, drop, getD, length-drop, length-take, length-map, length-append, drop-of-length-le, List·getD-append}
-use lib.Seq.{length-take-le, drop-cons, drop-drop, drop-at, take-at, sets-eq, take-suc-set, take-set-le, take-take, getD-take, getD-drop}
-use Rattle.rules.specs.Facts.{by-test, compared, cond-true, cond-some}
+use lib.Seq.{length-take-le, drop-cons, take-at, take-suc-set, take-set-le, take-take, getD-take, getD-drop}
+use Rattle.rules.specs.Facts.{by-test, cond-true, cond-some}
 use Rattle.rules.specs.Listing.{read, _>>=_}
 use Rattle.rules.specs.Tries.{Row}
-use Rattle.rules.specs.TrieLaws.{union-left-length, union-right-length}
+use Rattle.rules.specs.TrieLaws.{union-right-length}
 use Rattle.rules.specs.Schema.{Item, fromType, lastType, setType, recordType, attributesOf, attributeLine}
 use Rattle.rules.specs.Paths.{Taken, deeper, childrenOf, typeBelow, attributesAt, toRootAccessTrieWithLeaf, typeToAccessTrie, addAccessPath, addTaken, Paths, Empty, AccessPath, Union, RecordLiteral, SetLiteral, Fields, noField, field, fieldOf, isThere, hasAll, nodesOf, nodesOfFields, kindAt, elementAt, attributeType, fullTypeRequired, fieldsRequired}
-use Rattle.rules.specs.StepLaws.{Each, IsPath}
+use Rattle.rules.specs.ListingLaws.{bind-some}
+use Rattle.rules.specs.StepLaws.{Each, IsPath, AllKeys, each-append, or-neither, add-taken-length}
 use Rattle.rules.specs.TypeLaws.{Ascends, TypeLines, type-known, below-at, attributes-first, attribute-past, attribute-stands, typesIn, deepest, larger-max, capped-min, capped-sum-above, deeper-none, deeper-length, path-length}
 use Rattle.trie.specs.Words.{wordOf, rowOf, depthIn, stepIn, markIn, typeIn}
 use Rattle.trie.specs.States.{rowsOf, wordsIn, rowsIn}
@@ -26,21 +27,20 @@ use Rattle.schema.specs.Keys.{later, searched}
 use Rattle.schema.specs.declared.search.Search.{Search}
 use Rattle.schema.specs.declared.search.Search.the-variants.{Found, Missing}
 use Rattle.manifest.specs.Writes.{Wrote}
-use Rattle.analysis.specs.Code.{pathAt, placeOf, namesIn, countIn, code, codeFields, codes, Standing, Measures, headOf, wordFor}
-use Rattle.analysis.specs.declared.paths.WrappedAccessPaths.{WrappedAccessPaths}
+use Rattle.manifest.specs.AddLaws.{taken-back}
+use Rattle.manifest.specs.WriteLaws.{wrote-length}
+use Rattle.analysis.specs.Code.{pathAt, placeOf, namesIn, countIn, code, codeFields, codes, sizeOf, Standing, Measures, headOf}
 use Rattle.analysis.specs.declared.paths.WrappedAccessPaths.the-variants.{Empty as EmptyHead, AccessPath as PathHead, Union as UnionHead, RecordLiteral as RecordHead, SetLiteral as SetHead}
 use Rattle.analysis.specs.declared.full.Required.{Required}
 use Rattle.analysis.specs.declared.full.Required.the-variants.{Next, Mismatch}
-use Rattle.analysis.specs.TypeTableLaws.{wrote-length, items-at, good-lawful, Stands, stands}
+use Rattle.analysis.specs.CodeLaws.{pathsOf, names-many, codes-fields, nodes-turn, first-word, behind-word, next-within, next-room, next-head}
+use Rattle.analysis.specs.AttrLaws.{stands-alone, head-here, behind-it, within-it, behind-head, LiteralAt, literal-length, literal-names, literal-fields, empty-of, path-of, union-of, record-of, set-of}
+use Rattle.analysis.specs.NodeLaws.{path-steps}
+use Rattle.analysis.specs.TypeTableLaws.{items-at, good-lawful, Stands, stands}
 use Rattle.analysis.specs.Nodes.{belowWord, allBelow, IsState, Became, leafOf}
 use Rattle.analysis.specs.Tables.{typeRows, depthIn as sizeDepth, nodesIn as sizeNodes, Sized, Tabled, takenAt, AllPairs, anyTakenDeep, AllTakenPaths, Took, RequiredBy, RequiredAt, Walk, Fielded, fieldRequired, Added, FieldTook, FieldBy, FieldAt}
 
 -- Pairs of a path and a type.
-
-path-length-at :
-    (words : List ℕ) (at : ℕ) → at + 1 + getD words at 0 / 8 ≤ length words → length (pathAt words at) ≡ getD words at 0 / 8
-unfolding pathAt
-path-length-at words at h = length-take-le _ _ (rw length-drop (omega arith))
 
 -- what each says
 pub pair-at :
@@ -67,7 +67,7 @@ deep-here :
     → ltb 24 (length (pathAt words (pair / 1024)) + deepest (typeRows items (pair % 1024)))
     ≡ ltb 24 (getD words (pair / 1024) 0 / 8 + sizeDepth (getD table (pair % 1024) 0))
 deep-here words table items types pair tabled within less =
-    rw (path-length-at words (pair / 1024) within, tabled .1 (pair % 1024) less .depth)
+    rw (path-steps words (pair / 1024) within, tabled .1 (pair % 1024) less .depth)
     (sym (capped-sum-above 24 (getD words (pair / 1024) 0 / 8) (deepest (typeRows items (pair % 1024)))))
 
 -- i pairs are passed, and the others say what is answered
@@ -132,11 +132,6 @@ record FieldRow (row : Row) : Type 0 where
   field : row .step ≤ 65535
   plain : row ≡ read (row .depth) (row .step) false
 
-each-append : (xs ys : List Row) → Each FieldRow xs → Each FieldRow ys → Each FieldRow (xs ++ ys)
-unfolding Each
-each-append [] ys px py = py
-each-append (x ∷ xs) ys px py = (px .0, each-append xs ys (px .1) py)
-
 each-deeper : (n : ℕ) (rows : List Row) → Each FieldRow rows → Each FieldRow (deeper n rows)
 unfolding Each deeper
 each-deeper n [] all = tt
@@ -150,22 +145,18 @@ each-deeper n (row ∷ rows) all =
       each-deeper n rows (all .1),
     )
 
--- items whose keys are ids
-abbrev Keys : List Item → Type 0
-Keys = Each (λ it. it .key ≤ 65535)
-
 children-rows :
-    (g : ℕ → List Row) → ((u : ℕ) → Each FieldRow (g u)) → (attributes : List Item) → Keys attributes → Each FieldRow (childrenOf g attributes)
+    (g : ℕ → List Row) → ((u : ℕ) → Each FieldRow (g u)) → (attributes : List Item) → AllKeys attributes → Each FieldRow (childrenOf g attributes)
 unfolding Each childrenOf
 children-rows g rows [] keys = tt
 children-rows g rows (a ∷ more) keys = (
   record { below = omega arith; field = keys .0; plain = refl },
-  each-append (deeper 1 (g (a .value))) (childrenOf g more)
+  each-append FieldRow (deeper 1 (g (a .value))) (childrenOf g more)
       (each-deeper 1 (g (a .value)) (rows (a .value)))
       (children-rows g rows more (keys .1)),
 )
 
-attributes-keys : (items : List Item) → Keys items → Keys (attributesOf items)
+attributes-keys : (items : List Item) → AllKeys items → AllKeys (attributesOf items)
 unfolding Each attributesOf
 attributes-keys [] keys = tt
 attributes-keys (it ∷ items) keys =
@@ -173,7 +164,7 @@ attributes-keys (it ∷ items) keys =
     (λ e. rw e (keys .0, attributes-keys items (keys .1)))
     (λ e. rw e tt)
 
-from-keys : (t : ℕ) (items : List Item) (it : Item) (more : List Item) → Keys items → fromType t items ≡ some (it ∷ more) → Keys more
+from-keys : (t : ℕ) (items : List Item) (it : Item) (more : List Item) → AllKeys items → fromType t items ≡ some (it ∷ more) → AllKeys more
 unfolding Each fromType
 from-keys t [] it more keys found = absurd (Option·none-ne-some _ found)
 from-keys t (x ∷ items) it more keys found =
@@ -185,16 +176,16 @@ from-keys t (x ∷ items) it more keys found =
     rw others at (keys .1))
     (λ e. later (rw e at found))
 
-attributes-at-keys : (t : ℕ) (items : List Item) → Keys items → Keys (attributesAt items t)
+attributes-at-keys : (t : ℕ) (items : List Item) → AllKeys items → AllKeys (attributesAt items t)
 unfolding Each
 attributes-at-keys t items keys = go (fromType t items) refl
   where
-    go : (found : Option (List Item)) → fromType t items ≡ found → Keys (attributesAt items t)
+    go : (found : Option (List Item)) → fromType t items ≡ found → AllKeys (attributesAt items t)
     go none e = rw (e, attributesAt) tt
     go (some []) e = rw (e, attributesAt) tt
     go (some (it ∷ more)) e = rw (e, attributesAt) (attributes-keys more (from-keys t items it more keys e))
 
-type-rows : (n : ℕ) (items : List Item) (t : ℕ) → Keys items → Each FieldRow (typeBelow n items t)
+type-rows : (n : ℕ) (items : List Item) (t : ℕ) → AllKeys items → Each FieldRow (typeBelow n items t)
 unfolding Each typeBelow
 type-rows zero items t keys = tt
 type-rows (suc n) items t keys =
@@ -202,7 +193,7 @@ type-rows (suc n) items t keys =
     (λ e. rw e (children-rows (typeBelow n items) (λ u. type-rows n items u keys) (attributesAt items t) (attributes-at-keys t items keys)))
     (λ e. rw e (type-rows n items t keys))
 
-item-keys : (words : List ℕ) → allItems words ≡ true → Keys (itemsOf words)
+pub item-keys : (words : List ℕ) → allItems words ≡ true → AllKeys (itemsOf words)
 unfolding Each allItems isItem
 item-keys [] all = tt
 item-keys (w ∷ words) all =
@@ -289,12 +280,6 @@ too-many-sized {words} {t} sized h = omega (arith, sized .nodes, capped-min 1025
 pub few-sized : {words : List ℕ} {t w : ℕ} → Sized words t w → sizeNodes w ≤ 1024 → length (typeRows words t) ≤ 1024
 few-sized {words} {t} sized h = omega (arith, sized .nodes, capped-min 1025 (length (typeRows words t)))
 
--- what was written in front
-written-first :
-    (out xs out′ : List ℕ) (end : ℕ) → Wrote out 0 xs out′ end → length xs ≤ length out → take end out′ ≡ xs
-written-first out xs out′ end w h =
-    rw (w .text, sets-eq xs out 0 (omega arith)) (take-at xs (drop (0 + length xs) out) end (omega (arith, w .after)))
-
 module _
     (words : List ℕ)
     (all : allItems words ≡ true)
@@ -315,8 +300,8 @@ module _
     -- the words of its trie are the leaf
     leaf-words : take end out′ ≡ map wordOf (typeRows words t)
     leaf-words =
-        let same : deeper 0 (typeRows words t) ≡ typeRows words t = deeper-none (typeRows words t) in
-        written-first out (map wordOf (typeRows words t)) out′ end (rw same at wrote) (rw length-map room)
+        let many : end ≡ length (map wordOf (typeRows words t)) = leaf-end ∙ sym (length-map (typeRows words t) wordOf) in
+        rw (many, wrote .text, deeper-none (typeRows words t)) (taken-back out (map wordOf (typeRows words t)) (rw length-map room))
 
     pub leaf-below : allBelow steps (take end out′) ≡ true
     leaf-below = rw leaf-words (type-words words all t steps near .1)
@@ -325,22 +310,6 @@ module _
     leaf-is = ap (λ (rows : List Row). record { mark = false; below = rows }) (ap rowsOf leaf-words ∙ type-words words all t steps near .0)
 
 -- All of them.
-
--- adding makes no trie shorter
-added-length : (items : List Item) (trie : List Row) (taken : List Taken) → length trie ≤ length (addTaken items trie taken)
-unfolding addTaken
-added-length items trie [] = omega arith
-added-length items trie (first ∷ more) =
-    omega (
-      arith,
-      union-left-length trie (toRootAccessTrieWithLeaf (first .path) (typeToAccessTrie items (first .type))),
-      added-length items (addAccessPath trie (first .path) (typeToAccessTrie items (first .type))) more,
-    )
-
--- of two tests none is true
-neither : (t u : Bool) → (t || u) ≡ false → (t ≡ false) × (u ≡ false)
-neither true u e = absurd (true≢false e)
-neither false u e = (refl, e)
 
 -- the paths of pairs are paths, and none with its type goes too deep
 pub taken-path :
@@ -362,9 +331,9 @@ unfolding anyTakenDeep
 taken-near items words [] i none-deep h = absurd (omega arith)
 taken-near items words (pair ∷ pairs) zero none-deep h =
     ltb-false 24 _
-    (neither (ltb 24 (length (pathAt words (pair / 1024)) + deepest (typeRows items (pair % 1024)))) (anyTakenDeep items (map (takenAt words) pairs)) none-deep .0)
+    (or-neither (ltb 24 (length (pathAt words (pair / 1024)) + deepest (typeRows items (pair % 1024)))) (anyTakenDeep items (map (takenAt words) pairs)) none-deep .0)
 taken-near items words (pair ∷ pairs) (suc i) none-deep h =
-    taken-near items words pairs i (neither (ltb 24 (length (pathAt words (pair / 1024)) + deepest (typeRows items (pair % 1024)))) (anyTakenDeep items (map (takenAt words) pairs)) none-deep .1) (omega arith)
+    taken-near items words pairs i (or-neither (ltb 24 (length (pathAt words (pair / 1024)) + deepest (typeRows items (pair % 1024)))) (anyTakenDeep items (map (takenAt words) pairs)) none-deep .1) (omega arith)
 
 -- i pairs are added, and the others lead to all
 pub record Adding (items : List Item) (words pairs start : List ℕ) (i : ℕ) (trie : List ℕ) : Type 0 where
@@ -422,7 +391,7 @@ module _ {items : List Item} {words pairs start : List ℕ} {i : ℕ} {trie : Li
                 let one : List Row =
                 addAccessPath (rowsIn trie) (pathAt words (getD pairs i 0 / 1024)) (typeToAccessTrie items (getD pairs i 0 % 1024)) in
                 let longer : 1024 < length one = leb-false (length one) 1024 (sym (became .judged) ∙ e) in
-                rw (← next-added) (omega (arith, added-length items one (map (takenAt words) (drop (i + 1) pairs))))
+                rw (← next-added) (omega (arith, add-taken-length items one (map (takenAt words) (drop (i + 1) pairs))))
 
         -- the next fits
         pub adding-next : fits ≡ true → Adding items words pairs start (i + 1) trie′
@@ -496,14 +465,6 @@ module _ {attributes names : List ℕ} {i : ℕ} (checking : Checking attributes
     }
 
 -- Options.
-
-bind-some :
-    {A B : Type 0} (o : Option A) (next : A → Option B) (b : B) {P : Type 0}
-    → (o >>= next) ≡ some b
-    → ((a : A) → o ≡ some a → next a ≡ some b → P)
-    → P
-bind-some none next b e then = absurd (Option·none-ne-some b e)
-bind-some (some a) next b e then = then a refl e
 
 bind-same : (o : Option (List Taken)) → o ≡ (o >>= (λ more. some ([] ++ more)))
 bind-same none = refl
@@ -582,86 +543,15 @@ few-field items paths name attributes taken e =
 
 -- Wrapped paths at a place.
 
--- the head of wrapped paths
-abbrev headFor : Paths → WrappedAccessPaths
-headFor Empty = EmptyHead
-headFor (AccessPath path) = PathHead (length path)
-headFor (Union left right) = UnionHead
-headFor (RecordLiteral fields) = RecordHead (countIn fields)
-headFor (SetLiteral elements) = SetHead
-
--- and what follows it
-abbrev tailOf : Paths → List ℕ
-tailOf Empty = []
-tailOf (AccessPath path) = path
-tailOf (Union left right) = code right ++ code left
-tailOf (RecordLiteral fields) = namesIn fields ++ codeFields fields
-tailOf (SetLiteral elements) = code elements
-
-code-parts : (paths : Paths) → code paths ≡ wordFor (headFor paths) ∷ tailOf paths
-unfolding code
-code-parts Empty = refl
-code-parts (AccessPath path) = refl
-code-parts (Union left right) = refl
-code-parts (RecordLiteral fields) = refl
-code-parts (SetLiteral elements) = refl
-
-head-read : (paths : Paths) → headOf (wordFor (headFor paths)) ≡ headFor paths
-unfolding headOf
-head-read Empty = refl
-head-read (AccessPath path) =
-    let kind : (1 + 8 * length path) % 8 ≡ 1 = omega arith in
-    let steps : (1 + 8 * length path) / 8 ≡ length path = omega arith in
-    rw (kind, steps)
-head-read (Union left right) = refl
-head-read (RecordLiteral fields) =
-    let kind : (4 + 8 * countIn fields) % 8 ≡ 4 = omega arith in
-    let count : (4 + 8 * countIn fields) / 8 ≡ countIn fields = omega arith in
-    rw (kind, count)
-head-read (SetLiteral elements) = refl
-
-record Begins (words : List ℕ) (at w : ℕ) (xs : List ℕ) : Type 0 where
-  inside : at < length words
-  first : getD words at 0 ≡ w
-  next : drop (at + 1) words ≡ xs
-
-begins : (words : List ℕ) (at w : ℕ) (xs : List ℕ) → drop at words ≡ w ∷ xs → Begins words at w xs
-begins words at w xs e =
-    compared at (length words)
-    (λ inside.
-    let parts : getD words at 0 ∷ drop (suc at) words ≡ w ∷ xs = sym (drop-cons words at 0 inside) ∙ e in
-    record { inside = inside; first = cc; next = rw add-one (cc) })
-    (λ past. let z : _≡_ {A = ℕ} 0 1 = cc (drop-of-length-le words past) in absurd (omega arith))
-
-module _ (words : List ℕ) (at : ℕ) (paths : Paths) (rest : List ℕ) (coded : drop at words ≡ code paths ++ rest) where
-  begins-paths : Begins words at (wordFor (headFor paths)) (tailOf paths ++ rest)
-  begins-paths = begins words at _ _ (coded ∙ rw (code-parts paths))
-
-  head-at : headOf (getD words at 0) ≡ headFor paths
-  head-at = rw (begins-paths .first) (head-read paths)
-
-  -- they stand within the words
-  coded-inside : at + length (code paths) ≤ length words
-  coded-inside =
-      omega (arith, begins-paths .inside, simp (length-drop, length-append) at (ap length coded))
-
 -- what stands behind the first of two
 coded-behind :
     (words : List ℕ) (at : ℕ) (xs ys : List ℕ) (end : ℕ) → drop at words ≡ xs ++ ys → end ≡ at + length xs → drop end words ≡ ys
 coded-behind words at xs ys end coded e =
-    rw (e, ← drop-drop (length xs) at words, coded) (drop-at xs ys (length xs) refl)
-
-some-node : (paths : Paths) → 1 ≤ nodesOf paths
-unfolding nodesOf
-some-node Empty = omega arith
-some-node (AccessPath path) = omega arith
-some-node (Union left right) = omega arith
-some-node (RecordLiteral fields) = omega arith
-some-node (SetLiteral elements) = omega arith
+    rw e (behind-it words xs ys at coded)
 
 pub walk-some : {words : List ℕ} {at left : ℕ} → Walk words at left → (1 ≤ left) × (at < length words)
 walk-some {words} {at} walk =
-    (omega (arith, walk .few-nodes, some-node (walk .paths)), begins-paths words at (walk .paths) (walk .rest) (walk .coded) .inside)
+    (omega (arith, walk .few-nodes, nodes-turn (walk .paths)), next-within (stands-alone words (walk .rest) (walk .paths) at (walk .coded)))
 
 -- Wrapped paths against a type, by their head.
 
@@ -671,37 +561,22 @@ unfolding AllPairs
 all-pairs-append words types [] ys px py = py
 all-pairs-append words types (x ∷ xs) ys px py = (px .0, (px .1 .0, all-pairs-append words types xs ys (px .1 .1) py))
 
--- heads that differ
-abbrev number : WrappedAccessPaths → ℕ
-number EmptyHead = 0
-number (PathHead steps) = 1
-number UnionHead = 2
-number (RecordHead fields) = 3
-number SetHead = 4
-
 module _ (words : List ℕ) (items : List Item) (t at : ℕ) (before : List ℕ) (count : ℕ) where
   -- the empty one
   pub empty-required :
       headOf (getD words at 0) ≡ EmptyHead → count ≤ length before → RequiredAt words items t at before count before (Next (at + 1) count)
   unfolding fullTypeRequired code AllPairs
-  empty-required head inside paths rest coded = go paths (sym (head-at words at paths rest coded) ∙ head)
-    where
-      go : (paths : Paths) → headFor paths ≡ EmptyHead → Took words items paths t at before count before (at + 1) count
-      go Empty e = record {
-        taken = [];
-        required = refl;
-        ends = refl;
-        in-pairs = inside;
-        kept = refl;
-        new = [];
-        added = sym (append-nil (take count before));
-        there = refl;
-        all-pairs = tt;
-      }
-      go (AccessPath path) e = absurd (omega (arith, ap number e))
-      go (Union left right) e = absurd (omega (arith, ap number e))
-      go (RecordLiteral fields) e = absurd (omega (arith, ap number e))
-      go (SetLiteral elements) e = absurd (omega (arith, ap number e))
+  empty-required head inside paths rest coded = rw (empty-of paths (sym (head-here words rest paths at coded) ∙ head)) (record {
+    taken = [];
+    required = refl;
+    ends = refl;
+    in-pairs = inside;
+    kept = refl;
+    new = [];
+    added = sym (append-nil (take count before));
+    there = refl;
+    all-pairs = tt;
+  })
 
   -- a path
   pub path-required :
@@ -713,49 +588,32 @@ module _ (words : List ℕ) (items : List Item) (t at : ℕ) (before : List ℕ)
       → pair ≡ at * 1024 + t
       → RequiredAt words items t at before count (set before count pair) (Next (at + 1 + steps) (count + 1))
   unfolding fullTypeRequired code AllPairs pathAt
-  path-required {steps} {pair} head inside small less is-pair paths rest coded = go paths (sym (head-at words at paths rest coded) ∙ head) coded
-    where
-      go :
-          (paths : Paths)
-          → headFor paths ≡ PathHead steps
-          → drop at words ≡ code paths ++ rest
-          → Took words items paths t at before count (set before count pair) (at + 1 + steps) (count + 1)
-      go Empty e coded = absurd (omega (arith, ap number e))
-      go (AccessPath path) e coded =
-          let b = begins-paths words at (AccessPath path) rest coded in
-          let long : steps ≡ length path = cc in
-          let place : pair / 1024 ≡ at = omega arith in
-          let type : pair % 1024 ≡ t = omega arith in
-          let length-is : getD words at 0 / 8 ≡ length path = omega (arith, b .first) in
-          let there : pathAt words at ≡ path = rw (length-is, b .next) (take-at path rest (length path) refl) in
-          let whole = coded-inside words at (AccessPath path) rest coded in
-          record {
-            taken = record { path = path; type = t } ∷ [];
-            required = refl;
-            ends = omega arith;
-            in-pairs = rw length-set (omega arith);
-            kept = take-set-le count before count pair (le-refl count);
-            new = pair ∷ [];
-            added = rw add-one (take-suc-set before count pair inside);
-            there = λ i. record { path = (ap (pathAt words) place ∙ there) i; type = type i } ∷ [];
-            all-pairs = rw (place, type, length-is) (omega (arith, whole), (less, tt));
-          }
-      go (Union left right) e coded = absurd (omega (arith, ap number e))
-      go (RecordLiteral fields) e coded = absurd (omega (arith, ap number e))
-      go (SetLiteral elements) e coded = absurd (omega (arith, ap number e))
+  path-required {steps} {pair} head inside small less is-pair paths rest coded =
+      let (path, same, long) = path-of paths steps (sym (head-here words rest paths at coded) ∙ head) in
+      let coded : drop at words ≡ code (AccessPath path) ++ rest = rw same at coded in
+      let place : pair / 1024 ≡ at = omega arith in
+      let type : pair % 1024 ≡ t = omega arith in
+      let length-is : getD words at 0 / 8 ≡ length path = omega (arith, first-word words at coded) in
+      let there : pathAt words at ≡ path = rw (length-is, behind-word words at coded) (take-at path rest (length path) refl) in
+      let whole = within-it words (code (AccessPath path)) rest at coded (omega arith) in
+      rw same (record {
+        taken = record { path = path; type = t } ∷ [];
+        required = refl;
+        ends = omega arith;
+        in-pairs = rw length-set (omega arith);
+        kept = take-set-le count before count pair (le-refl count);
+        new = pair ∷ [];
+        added = rw add-one (take-suc-set before count pair inside);
+        there = λ i. record { path = (ap (pathAt words) place ∙ there) i; type = type i } ∷ [];
+        all-pairs = rw (place, type, length-is) (omega (arith, whole), (less, tt));
+      })
 
   -- a set literal against another type
   pub set-none :
       headOf (getD words at 0) ≡ SetHead → (kindAt items t ≡ setType → ⊥) → RequiredAt words items t at before count before Mismatch
   unfolding fullTypeRequired
-  set-none head other paths rest coded = go paths (sym (head-at words at paths rest coded) ∙ head)
-    where
-      go : (paths : Paths) → headFor paths ≡ SetHead → fullTypeRequired items paths t ≡ none
-      go Empty e = absurd (omega (arith, ap number e))
-      go (AccessPath path) e = absurd (omega (arith, ap number e))
-      go (Union left right) e = absurd (omega (arith, ap number e))
-      go (RecordLiteral fields) e = absurd (omega (arith, ap number e))
-      go (SetLiteral elements) e = rw (ne-eqb (kindAt items t) setType other)
+  set-none head other paths rest coded =
+      rw (set-of paths (sym (head-here words rest paths at coded) ∙ head) .1, ne-eqb (kindAt items t) setType other)
 
   -- and a record literal
   pub record-none :
@@ -764,14 +622,8 @@ module _ (words : List ℕ) (items : List Item) (t at : ℕ) (before : List ℕ)
       → (kindAt items t ≡ recordType → ⊥)
       → RequiredAt words items t at before count before Mismatch
   unfolding fullTypeRequired
-  record-none {n} head other paths rest coded = go paths (sym (head-at words at paths rest coded) ∙ head)
-    where
-      go : (paths : Paths) → headFor paths ≡ RecordHead n → fullTypeRequired items paths t ≡ none
-      go Empty e = absurd (omega (arith, ap number e))
-      go (AccessPath path) e = absurd (omega (arith, ap number e))
-      go (Union left right) e = absurd (omega (arith, ap number e))
-      go (RecordLiteral fields) e = rw (ne-eqb (kindAt items t) recordType other)
-      go (SetLiteral elements) e = absurd (omega (arith, ap number e))
+  record-none {n} head other paths rest coded =
+      rw (record-of paths n (sym (head-here words rest paths at coded) ∙ head) .1, ne-eqb (kindAt items t) recordType other)
 
 -- what is said of some wrapped paths, of others that give the same and end there
 required-as :
@@ -796,20 +648,15 @@ required-as words items paths paths′ t t′ at at′ before count pairs Mismat
 -- a set literal against a set type is its elements against the element type
 module _ (words : List ℕ) (at : ℕ) (head : headOf (getD words at 0) ≡ SetHead) where
   pub set-walk : {left : ℕ} → Walk words at left → Walk words (at + 1) (left - 1)
-  unfolding nodesOf
-  set-walk {left} walk = go (walk .paths) (sym (head-at words at (walk .paths) (walk .rest) (walk .coded)) ∙ head) (walk .coded) (walk .few-nodes)
-    where
-      go :
-          (paths : Paths) → headFor paths ≡ SetHead → drop at words ≡ code paths ++ walk .rest → nodesOf paths ≤ left → Walk words (at + 1) (left - 1)
-      go Empty e coded few = absurd (omega (arith, ap number e))
-      go (AccessPath path) e coded few = absurd (omega (arith, ap number e))
-      go (Union l r) e coded few = absurd (omega (arith, ap number e))
-      go (RecordLiteral fields) e coded few = absurd (omega (arith, ap number e))
-      go (SetLiteral elements) e coded few = record {
+  unfolding nodesOf code
+  set-walk walk =
+      let (elements, same) = set-of (walk .paths) (sym (head-here words (walk .rest) (walk .paths) at (walk .coded)) ∙ head) in
+      let coded : drop at words ≡ code (SetLiteral elements) ++ walk .rest = rw same at (walk .coded) in
+      record {
         paths = elements;
         rest = walk .rest;
-        coded = begins-paths words at (SetLiteral elements) (walk .rest) coded .next;
-        few-nodes = omega arith;
+        coded = behind-word words at coded;
+        few-nodes = omega (arith, walk .few-nodes, ap nodesOf same);
       }
 
   pub set-required :
@@ -819,18 +666,13 @@ module _ (words : List ℕ) (at : ℕ) (head : headOf (getD words at 0) ≡ SetH
       → RequiredAt words items t at before count pairs r
   unfolding fullTypeRequired code
   set-required items t before count pairs r kind given paths rest coded =
-      go paths (sym (head-at words at paths rest coded) ∙ head) coded
-    where
-      go : (paths : Paths) → headFor paths ≡ SetHead → drop at words ≡ code paths ++ rest → RequiredBy words items paths t at before count pairs r
-      go Empty e coded = absurd (omega (arith, ap number e))
-      go (AccessPath path) e coded = absurd (omega (arith, ap number e))
-      go (Union l r) e coded = absurd (omega (arith, ap number e))
-      go (RecordLiteral fields) e coded = absurd (omega (arith, ap number e))
-      go (SetLiteral elements) e coded =
-          required-as words items elements (SetLiteral elements) (elementAt items t) t (at + 1) at before count pairs r
-          (rw (eq-eqb (kindAt items t) setType kind))
-          (omega arith)
-          (given elements rest (begins-paths words at (SetLiteral elements) rest coded .next))
+      let (elements, same) = set-of paths (sym (head-here words rest paths at coded) ∙ head) in
+      let coded : drop at words ≡ code (SetLiteral elements) ++ rest = rw same at coded in
+      rw same
+      (required-as words items elements (SetLiteral elements) (elementAt items t) t (at + 1) at before count pairs r
+      (rw (eq-eqb (kindAt items t) setType kind))
+      (omega arith)
+      (given elements rest (behind-word words at coded)))
 
 -- Pairs after pairs.
 
@@ -895,36 +737,30 @@ added-more words types taken taken′ before count pairs more pairs′ more′ i
 
 -- A union.
 module _ (words : List ℕ) (at : ℕ) (head : headOf (getD words at 0) ≡ UnionHead) where
+  -- its sides
+  sides :
+      (paths : Paths) (rest : List ℕ)
+      → drop at words ≡ code paths ++ rest
+      → (l : Paths) × (r : Paths) × (paths ≡ Union l r) × (drop (at + 1) words ≡ code r ++ (code l ++ rest))
+  unfolding code
+  sides paths rest coded =
+      let (l, r, same) = union-of paths (sym (head-here words rest paths at coded) ∙ head) in
+      let coded : drop at words ≡ code (Union l r) ++ rest = rw same at coded in
+      (l, r, same, behind-word words at coded ∙ append-assoc (code r) (code l) rest)
+
   pub union-walk : {left : ℕ} → Walk words at left → Walk words (at + 1) (left - 1)
   unfolding nodesOf
-  union-walk {left} walk = go (walk .paths) (sym (head-at words at (walk .paths) (walk .rest) (walk .coded)) ∙ head) (walk .coded) (walk .few-nodes)
-    where
-      go :
-          (paths : Paths) → headFor paths ≡ UnionHead → drop at words ≡ code paths ++ walk .rest → nodesOf paths ≤ left → Walk words (at + 1) (left - 1)
-      go Empty e coded few = absurd (omega (arith, ap number e))
-      go (AccessPath path) e coded few = absurd (omega (arith, ap number e))
-      go (Union l r) e coded few = record {
-        paths = r;
-        rest = code l ++ walk .rest;
-        coded = begins-paths words at (Union l r) (walk .rest) coded .next ∙ append-assoc (code r) (code l) (walk .rest);
-        few-nodes = omega arith;
-      }
-      go (RecordLiteral fields) e coded few = absurd (omega (arith, ap number e))
-      go (SetLiteral elements) e coded few = absurd (omega (arith, ap number e))
+  union-walk walk =
+      let (l, r, same, next) = sides (walk .paths) (walk .rest) (walk .coded) in
+      record { paths = r; rest = code l ++ walk .rest; coded = next; few-nodes = omega (arith, walk .few-nodes, ap nodesOf same) }
 
   module _ (items : List Item) (t : ℕ) (before : List ℕ) (count : ℕ) (pairs : List ℕ) where
     -- its right side does not fit
     pub union-none : RequiredAt words items t (at + 1) before count pairs Mismatch → RequiredAt words items t at before count pairs Mismatch
     unfolding fullTypeRequired
-    union-none given paths rest coded = go paths (sym (head-at words at paths rest coded) ∙ head) coded
-      where
-        go : (paths : Paths) → headFor paths ≡ UnionHead → drop at words ≡ code paths ++ rest → fullTypeRequired items paths t ≡ none
-        go Empty e coded = absurd (omega (arith, ap number e))
-        go (AccessPath path) e coded = absurd (omega (arith, ap number e))
-        go (Union l r) e coded =
-            rw (given r (code l ++ rest) (begins-paths words at (Union l r) rest coded .next ∙ append-assoc (code r) (code l) rest))
-        go (RecordLiteral fields) e coded = absurd (omega (arith, ap number e))
-        go (SetLiteral elements) e coded = absurd (omega (arith, ap number e))
+    union-none given paths rest coded =
+        let (l, r, same, next) = sides paths rest coded in
+        rw (same, given r (code l ++ rest) next)
 
     module _ (end more : ℕ) (inside : count ≤ length before) (first : RequiredAt words items t (at + 1) before count pairs (Next end more)) where
       -- it fits, and the left side is left, with the nodes that are left
@@ -933,35 +769,25 @@ module _ (words : List ℕ) (at : ℕ) (head : headOf (getD words at 0) ≡ Unio
           → Walk words at left
           → (count ≤ more) × ((more - count ≤ left - 1) × Walk words end (left - 1 - (more - count)))
       unfolding nodesOf
-      union-left {left} walk = go (walk .paths) (sym (head-at words at (walk .paths) (walk .rest) (walk .coded)) ∙ head) (walk .coded) (walk .few-nodes)
-        where
-          go :
-              (paths : Paths)
-              → headFor paths ≡ UnionHead
-              → drop at words ≡ code paths ++ walk .rest
-              → nodesOf paths ≤ left
-              → (count ≤ more) × ((more - count ≤ left - 1) × Walk words end (left - 1 - (more - count)))
-          go Empty e coded few = absurd (omega (arith, ap number e))
-          go (AccessPath path) e coded few = absurd (omega (arith, ap number e))
-          go (Union l r) e coded few =
-              let next = begins-paths words at (Union l r) (walk .rest) coded .next ∙ append-assoc (code r) (code l) (walk .rest) in
-              let took = first r (code l ++ walk .rest) next in
-              let counted = added-count inside (took-added took) in
-              let fewer = few-taken items r t (took .taken) (took .required) in
-              let some-left = some-node l in (
-                omega arith,
-                (
-                  omega arith,
-                  record {
-                    paths = l;
-                    rest = walk .rest;
-                    coded = coded-behind words (at + 1) (code r) (code l ++ walk .rest) end next (took .ends);
-                    few-nodes = omega arith;
-                  },
-                ),
-              )
-          go (RecordLiteral fields) e coded few = absurd (omega (arith, ap number e))
-          go (SetLiteral elements) e coded few = absurd (omega (arith, ap number e))
+      union-left walk =
+          let (l, r, same, next) = sides (walk .paths) (walk .rest) (walk .coded) in
+          let took = first r (code l ++ walk .rest) next in
+          let counted = added-count inside (took-added took) in
+          let fewer = few-taken items r t (took .taken) (took .required) in
+          let few = walk .few-nodes in
+          let nodes = ap nodesOf same in
+          let some-left = nodes-turn l in (
+            omega arith,
+            (
+              omega arith,
+              record {
+                paths = l;
+                rest = walk .rest;
+                coded = coded-behind words (at + 1) (code r) (code l ++ walk .rest) end next (took .ends);
+                few-nodes = omega arith;
+              },
+            ),
+          )
 
       -- both sides
       pub union-required :
@@ -970,7 +796,9 @@ module _ (words : List ℕ) (at : ℕ) (head : headOf (getD words at 0) ≡ Unio
           → RequiredAt words items t at before count pairs′ r
       unfolding fullTypeRequired code
       union-required pairs′ result second paths rest coded =
-          go paths (sym (head-at words at paths rest coded) ∙ head) coded
+          let (l, r, same, next) = sides paths rest coded in
+          let took = first r (code l ++ rest) next in
+          rw same (both l r took result (second l rest (coded-behind words (at + 1) (code r) (code l ++ rest) end next (took .ends))))
         where
           both :
               (l r : Paths)
@@ -992,16 +820,6 @@ module _ (words : List ℕ) (at : ℕ) (head : headOf (getD words at 0) ≡ Unio
                 all-pairs = all .all-pairs;
               }
           both l r took Mismatch left = rw (took .required, left)
-
-          go : (paths : Paths) → headFor paths ≡ UnionHead → drop at words ≡ code paths ++ rest → RequiredBy words items paths t at before count pairs′ result
-          go Empty e coded = absurd (omega (arith, ap number e))
-          go (AccessPath path) e coded = absurd (omega (arith, ap number e))
-          go (Union l r) e coded =
-              let next = begins-paths words at (Union l r) rest coded .next ∙ append-assoc (code r) (code l) rest in
-              let took = first r (code l ++ rest) next in
-              both l r took result (second l rest (coded-behind words (at + 1) (code r) (code l ++ rest) end next (took .ends)))
-          go (RecordLiteral fields) e coded = absurd (omega (arith, ap number e))
-          go (SetLiteral elements) e coded = absurd (omega (arith, ap number e))
 
 -- The type of a field, by a search among the attributes.
 
@@ -1215,11 +1033,6 @@ unfolding countIn
 no-field noField h = refl
 no-field (field name paths fields) h = absurd (omega arith)
 
-names-length : (fields : Fields) → length (namesIn fields) ≡ countIn fields
-unfolding namesIn countIn
-names-length noField = refl
-names-length (field name paths fields) = ap suc (names-length fields)
-
 -- the parts of a field and those after it
 field-count : (name : ℕ) (paths : Paths) (fields : Fields) → countIn (field name paths fields) ≡ suc (countIn fields)
 unfolding countIn
@@ -1256,18 +1069,12 @@ module _
         fielding .coded
         ∙ rw (f .is, field-code (f .name) (f .paths) (f .later)) (append-assoc (code (f .paths)) (codeFields (f .later)) rest)
 
-    -- with its name
-    next-name : getD (namesIn fields) i 0 ≡ f .name
-    next-name =
-        let split : drop i (namesIn fields) ≡ f .name ∷ namesIn (f .later) =
-        fielding .names ∙ rw (f .is) (field-names (f .name) (f .paths) (f .later)) in
-        begins (namesIn fields) i (f .name) (namesIn (f .later)) split .first
+    -- with its name, and the others behind it
+    named : drop i (namesIn fields) ≡ f .name ∷ namesIn (f .later)
+    named = fielding .names ∙ rw (f .is) (field-names (f .name) (f .paths) (f .later))
 
-    next-names : drop (i + 1) (namesIn fields) ≡ namesIn (f .later)
-    next-names =
-        let split : drop i (namesIn fields) ≡ f .name ∷ namesIn (f .later) =
-        fielding .names ∙ rw (f .is) (field-names (f .name) (f .paths) (f .later)) in
-        begins (namesIn fields) i (f .name) (namesIn (f .later)) split .next
+    next-name : getD (namesIn fields) i 0 ≡ f .name
+    next-name = first-word (namesIn fields) i named
 
     next-bind :
         fieldsRequired items fields attributes
@@ -1289,7 +1096,7 @@ module _
     field-passes {pairs′} {next} {found} inside took = record {
       left = f .later;
       passed = omega (arith, fielding .passed, ap countIn (f .is), field-count (f .name) (f .paths) (f .later));
-      names = next-names;
+      names = behind-word (namesIn fields) i named;
       coded = coded-behind words from (code (f .paths)) (codeFields (f .later) ++ rest) next next-coded (took .ends);
       ends =
           omega (
@@ -1317,18 +1124,6 @@ module _
 
 -- A record literal of n fields at a place.
 
-record AsRecord (paths : Paths) (n : ℕ) : Type 0 where
-  fields : Fields
-  is : paths ≡ RecordLiteral fields
-  many : countIn fields ≡ n
-
-as-record : (paths : Paths) (n : ℕ) → headFor paths ≡ RecordHead n → AsRecord paths n
-as-record Empty n e = absurd (omega (arith, ap number e))
-as-record (AccessPath path) n e = absurd (omega (arith, ap number e))
-as-record (Union left right) n e = absurd (omega (arith, ap number e))
-as-record (RecordLiteral fields) n e = record { fields = fields; is = refl; many = cc }
-as-record (SetLiteral elements) n e = absurd (omega (arith, ap number e))
-
 module _
     (words : List ℕ)
     (at n : ℕ)
@@ -1337,35 +1132,23 @@ module _
     (many : countIn fields ≡ n)
     (coded : drop at words ≡ code (RecordLiteral fields) ++ rest)
   where
-    names-coded : drop (at + 1) words ≡ namesIn fields ++ (codeFields fields ++ rest)
-    names-coded = begins-paths words at (RecordLiteral fields) rest coded .next ∙ append-assoc (namesIn fields) (codeFields fields) rest
+    literal : LiteralAt words rest fields at n
+    literal = record { as-many = many; coded = coded }
 
     fields-coded : drop (at + 1 + n) words ≡ codeFields fields ++ rest
-    fields-coded =
-        coded-behind words (at + 1) (namesIn fields) (codeFields fields ++ rest) (at + 1 + n) names-coded
-        (omega (arith, names-length fields))
+    fields-coded = rw (codes-fields fields) (literal-fields literal)
 
     -- its names
     names-first : take n (drop (at + 1) words) ≡ namesIn fields
-    names-first = rw names-coded (take-at (namesIn fields) (codeFields fields ++ rest) n (names-length fields ∙ many))
+    names-first = rw add-sub-cancel-left at (literal-names literal)
 
     name-at : (i : ℕ) → i < n → getD words (at + 1 + i) 0 ≡ getD (namesIn fields) i 0
     name-at i h =
-        rw (← getD-drop (at + 1) words i 0, names-coded)
-        (List·getD-append (namesIn fields) (codeFields fields ++ rest) 0 i (omega (arith, names-length fields)))
-
-    names-inside : at + 1 + n ≤ length words
-    names-inside =
-        omega (
-          arith,
-          coded-inside words at (RecordLiteral fields) rest coded,
-          ap length (code-parts (RecordLiteral fields)),
-          length-append (namesIn fields) (codeFields fields),
-          names-length fields,
-        )
+        rw (← getD-drop (at + 1) words i 0, behind-head literal)
+        (List·getD-append (namesIn fields) (codes (pathsOf fields) ++ rest) 0 i (omega (arith, names-many fields)))
 
     record-length : length (code (RecordLiteral fields)) ≡ 1 + n + length (codeFields fields)
-    record-length = ap length (code-parts (RecordLiteral fields)) ∙ simp length-append (omega (arith, names-length fields))
+    record-length = rw (codes-fields fields) (literal-length literal)
 
 -- What is so once i fields are passed, whatever record literal stands there.
 pub record Going (words : List ℕ) (items attributes : List Item) (at n : ℕ) (before : List ℕ) (count : ℕ) (pairs : List ℕ) (from more i : ℕ) : Type 0 where
@@ -1379,13 +1162,13 @@ pub record Going (words : List ℕ) (items attributes : List Item) (at n : ℕ) 
 module _ (words : List ℕ) (at n : ℕ) (head : headOf (getD words at 0) ≡ RecordHead n) where
   many-fields : (fields : Fields) (rest : List ℕ) → drop at words ≡ code (RecordLiteral fields) ++ rest → countIn fields ≡ n
   many-fields fields rest coded =
-      let same : RecordHead (countIn fields) ≡ RecordHead n = sym (head-at words at (RecordLiteral fields) rest coded) ∙ head in cc
+      let same : RecordHead (countIn fields) ≡ RecordHead n = sym (head-here words rest (RecordLiteral fields) at coded) ∙ head in cc
 
   -- all names stand there
   pub record-inside : {left : ℕ} → Walk words at left → at + 1 + n ≤ length words
   record-inside walk =
-      let r = as-record (walk .paths) n (sym (head-at words at (walk .paths) (walk .rest) (walk .coded)) ∙ head) in
-      names-inside words at n (r .fields) (walk .rest) (r .many) (rw (r .is) at (walk .coded))
+      let a = stands-alone words (walk .rest) (walk .paths) at (walk .coded) in
+      omega (arith, next-room a, ap sizeOf (sym (next-head a) ∙ head))
 
   -- some attribute is not named
   pub record-lacks :
@@ -1395,10 +1178,10 @@ module _ (words : List ℕ) (at n : ℕ) (head : headOf (getD words at 0) ≡ Re
       → RequiredAt words items t at before count before Mismatch
   unfolding fullTypeRequired
   record-lacks items t attributes before count is lacks paths rest coded =
-      let r = as-record paths n (sym (head-at words at paths rest coded) ∙ head) in
-      let given : drop at words ≡ code (RecordLiteral (r .fields)) ++ rest = rw (r .is) at coded in
-      let test = sym (lacks (r .fields) (names-first words at n (r .fields) rest (r .many) given)) in
-      rw (r .is) (rw (is, test, and-false (eqb (kindAt items t) recordType)))
+      let r = record-of paths n (sym (head-here words rest paths at coded) ∙ head) in
+      let given : drop at words ≡ code (RecordLiteral (r .0)) ++ rest = rw (r .1) at coded in
+      let test = sym (lacks (r .0) (names-first words at n (r .0) rest (r .2) given)) in
+      rw (r .1) (rw (is, test, and-false (eqb (kindAt items t) recordType)))
 
   module _ (items attributes : List Item) (before : List ℕ) (count : ℕ) (fits : count ≤ length before) where
     pub going-none : Going words items attributes at n before count before (at + 1 + n) count 0
@@ -1425,12 +1208,12 @@ module _ (words : List ℕ) (at n : ℕ) (head : headOf (getD words at 0) ≡ Re
           → (count ≤ more) × ((more - count ≤ left) × Walk words from (left - (more - count)))
       unfolding nodesOf
       going-walk {left} walk h =
-          let r = as-record (walk .paths) n (sym (head-at words at (walk .paths) (walk .rest) (walk .coded)) ∙ head) in
-          let coded : drop at words ≡ code (RecordLiteral (r .fields)) ++ walk .rest = rw (r .is) at (walk .coded) in
-          let g = going .all (r .fields) (walk .rest) coded in
-          let f = next-field (r .fields) (walk .rest) coded h in
+          let r = record-of (walk .paths) n (sym (head-here words (walk .rest) (walk .paths) at (walk .coded)) ∙ head) in
+          let coded : drop at words ≡ code (RecordLiteral (r .0)) ++ walk .rest = rw (r .1) at (walk .coded) in
+          let g = going .all (r .0) (walk .rest) coded in
+          let f = next-field (r .0) (walk .rest) coded h in
           let counted = added-count fits (g .pairs-added) in
-          let nodes : nodesOf (walk .paths) ≡ suc (nodesOfFields (r .fields)) = ap nodesOf (r .is) in
+          let nodes : nodesOf (walk .paths) ≡ suc (nodesOfFields (r .0)) = ap nodesOf (r .1) in
           let next = ap nodesOfFields (f .is) ∙ field-nodes (f .name) (f .paths) (f .later) in
           let fewer = g .few in
           let few = walk .few-nodes in (
@@ -1472,15 +1255,15 @@ module _ (words : List ℕ) (at n : ℕ) (head : headOf (getD words at 0) ≡ Re
             → RequiredAt words items t at before count pairs′ Mismatch
         unfolding fullTypeRequired
         going-stops t is given paths rest coded =
-            let r = as-record paths n (sym (head-at words at paths rest coded) ∙ head) in
-            let coded : drop at words ≡ code (RecordLiteral (r .fields)) ++ rest = rw (r .is) at coded in
-            let g = going .all (r .fields) rest coded in
-            let f = next-field (r .fields) rest coded h in
-            let name = name-at words at n (r .fields) rest (r .many) coded i h ∙ next-name g f in
+            let r = record-of paths n (sym (head-here words rest paths at coded) ∙ head) in
+            let coded : drop at words ≡ code (RecordLiteral (r .0)) ++ rest = rw (r .1) at coded in
+            let g = going .all (r .0) rest coded in
+            let f = next-field (r .0) rest coded h in
+            let name = name-at words at n (r .0) rest (r .2) coded i h ∙ next-name g f in
             let stops = field-stops g f (rw name at (given (f .paths) (codeFields (f .later) ++ rest) (next-coded g f))) in
-            rw (r .is)
+            rw (r .1)
             (rw (is, stops)
-            (by-test (eqb (kindAt items t) recordType && hasAll (r .fields) attributes) (λ e. rw e) (λ e. rw e)))
+            (by-test (eqb (kindAt items t) recordType && hasAll (r .0) attributes) (λ e. rw e) (λ e. rw e)))
 
       -- all fields fit
       pub going-all :
@@ -1492,15 +1275,15 @@ module _ (words : List ℕ) (at n : ℕ) (head : headOf (getD words at 0) ≡ Re
           → RequiredAt words items t at before count pairs (Next from more)
       unfolding fullTypeRequired fieldsRequired codeFields
       going-all t last kind is has paths rest coded =
-          let r = as-record paths n (sym (head-at words at paths rest coded) ∙ head) in
-          let coded : drop at words ≡ code (RecordLiteral (r .fields)) ++ rest = rw (r .is) at coded in
-          let g = going .all (r .fields) rest coded in
-          let end : g .left ≡ noField = no-field (g .left) (omega (arith, g .passed, going .inside, r .many)) in
-          let test = sym (has (r .fields) (names-first words at n (r .fields) rest (r .many) coded)) in
-          let all : fieldsRequired items (r .fields) attributes ≡ some (g .done) = g .required ∙ rw (end, append-nil) in
-          let size = record-length words at n (r .fields) rest (r .many) coded in
-          let ends : from + 0 ≡ at + 1 + n + length (codeFields (r .fields)) = rw end at (g .ends) in
-          rw (r .is) (record {
+          let r = record-of paths n (sym (head-here words rest paths at coded) ∙ head) in
+          let coded : drop at words ≡ code (RecordLiteral (r .0)) ++ rest = rw (r .1) at coded in
+          let g = going .all (r .0) rest coded in
+          let end : g .left ≡ noField = no-field (g .left) (omega (arith, g .passed, going .inside, r .2)) in
+          let test = sym (has (r .0) (names-first words at n (r .0) rest (r .2) coded)) in
+          let all : fieldsRequired items (r .0) attributes ≡ some (g .done) = g .required ∙ rw (end, append-nil) in
+          let size = record-length words at n (r .0) rest (r .2) coded in
+          let ends : from + 0 ≡ at + 1 + n + length (codeFields (r .0)) = rw end at (g .ends) in
+          rw (r .1) (record {
             taken = g .done;
             required = rw (eq-eqb (kindAt items t) recordType kind, is, test, all);
             ends = omega arith;
@@ -1514,13 +1297,6 @@ module _ (words : List ℕ) (at n : ℕ) (head : headOf (getD words at 0) ≡ Re
 
 -- the steps of a path stand there
 pub path-inside : {words : List ℕ} {at left steps : ℕ} → Walk words at left → headOf (getD words at 0) ≡ PathHead steps → at + 1 + steps ≤ length words
-path-inside {words} {at} {steps} walk head = go (walk .paths) (sym (head-at words at (walk .paths) (walk .rest) (walk .coded)) ∙ head) (walk .coded)
-  where
-    go : (paths : Paths) → headFor paths ≡ PathHead steps → drop at words ≡ code paths ++ walk .rest → at + 1 + steps ≤ length words
-    go Empty e coded = absurd (omega (arith, ap number e))
-    go (AccessPath path) e coded =
-        let long : length path ≡ steps = cc in
-        omega (arith, coded-inside words at (AccessPath path) (walk .rest) coded, ap length (code-parts (AccessPath path)))
-    go (Union left right) e coded = absurd (omega (arith, ap number e))
-    go (RecordLiteral fields) e coded = absurd (omega (arith, ap number e))
-    go (SetLiteral elements) e coded = absurd (omega (arith, ap number e))
+path-inside {words} {at} walk head =
+    let a = stands-alone words (walk .rest) (walk .paths) at (walk .coded) in
+    omega (arith, next-room a, ap sizeOf (sym (next-head a) ∙ head))

@@ -10,13 +10,14 @@ use borrow.Author.Tests.{le-leb, lt-leb}
 use lib.Dec.{leb}
 use lib.ListN.{length, take, drop, set, length-set, length-drop, drop-of-length-le}
 use lib.Seq.{append-snoc, drop-cons, drop-set-lt, getD-set-same, take-length}
-use Rattle.rules.specs.Facts.{by-test, same-test, by-option}
+use Rattle.rules.specs.Facts.{by-test, same-test, by-option, compared}
 use Rattle.rules.specs.Text.{bytes, fieldsOf, decimalOf, TAB}
 use Rattle.rules.specs.TextLaws.{parted-some}
 use Rattle.rules.specs.Tries.{sameList}
 use Rattle.rules.specs.PlaceLaws.{same-list}
 use Rattle.rules.specs.Listing.{_>>=_}
 use Rattle.rules.specs.Schema.{ascending}
+use Rattle.schema.specs.LineLaws.{ascending-bad, ascending-low, ascending-next}
 use Rattle.rules.specs.Steps.{Step, rec, reversed, isText, recOf, bareStep, stepWith, stepFrom}
 
 -- ---- the word of a line
@@ -79,17 +80,17 @@ rec-none fields = go (ascending 0 fields)
 module _ (least : ℕ) (done field : List ℕ) (fields : List (List ℕ)) where
   -- a name that is none, or is too small
   rec-bad : decimalOf field ≡ none → recFrom least done (field ∷ fields) ≡ none
-  unfolding recFrom ascending
-  rec-bad e = rw e
+  unfolding recFrom
+  rec-bad e = rw (ascending-bad least field fields e)
 
   rec-small : (n : ℕ) → decimalOf field ≡ some n → n < least → recFrom least done (field ∷ fields) ≡ none
-  unfolding recFrom ascending
-  rec-small n e h = rw (e, lt-leb least n h)
+  unfolding recFrom
+  rec-small n e h = rw (ascending-low least field fields e h)
 
   -- a name
   rec-next : (n : ℕ) → decimalOf field ≡ some n → least ≤ n → recFrom least done (field ∷ fields) ≡ recFrom (n + 1) (n ∷ done) fields
-  unfolding recFrom ascending
-  rec-next n e h = rw (e, le-leb least n h) (go (ascending (n + 1) fields))
+  unfolding recFrom
+  rec-next n e h = rw (ascending-next least field fields e h) (go (ascending (n + 1) fields))
     where
       go : (o : Option (List ℕ)) →
           ((o >>= (λ ns. some (n ∷ ns))) >>= (λ ns. cond (leb (length ns + length done) 32) (some (rec (reversed ns ++ done))) none))
@@ -101,14 +102,14 @@ module _ (least : ℕ) (done field : List ℕ) (fields : List (List ℕ)) where
 
   -- a name past the last
   rec-over : 32 ≤ length done → recFrom least done (field ∷ fields) ≡ none
-  unfolding recFrom ascending
+  unfolding recFrom
   rec-over h =
       by-option (decimalOf field)
-      (λ e. rw e)
+      rec-bad
       (λ n e.
-      by-test (leb least n)
-      (λ f. rw (e, f) (go n (ascending (n + 1) fields)))
-      (λ f. rw (e, f)))
+      compared n least
+      (rec-small n e)
+      (λ l. rw (ascending-next least field fields e l) (go n (ascending (n + 1) fields))))
     where
       go : (n : ℕ) (o : Option (List ℕ)) →
           ((o >>= (λ ns. some (n ∷ ns))) >>= (λ ns. cond (leb (length ns + length done) 32) (some (rec (reversed ns ++ done))) none)) ≡ none

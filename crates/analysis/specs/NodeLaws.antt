@@ -1,13 +1,13 @@
 -- Laws of tries in words (Nodes): nodes and their words, the chain of a path and what is below it, and merging them into a state.
 -- No contract cites this file.
 use Prim.Native.Nat.{ℕ, zero, suc, _+_, _*_, _/_, _%_, _^_, _≤_, _<_}
-use native.Mathlib.Nat.{add-zero, add-suc, suc-add}
+use native.Mathlib.Nat.{add-zero, add-suc}
 use native.Mathlib.Numerals.{add-one}
 use native.Mathlib.Omega.{arith}
 use mathlib.Core.Path.{_≡_, refl, sym, ap, ap₂, _∙_}
-use mathlib.Core.Bool.{Bool, true, false, cond, not, _&&_, _||_, and-eq-true-iff, or-true, false≢true}
+use mathlib.Core.Bool.{Bool, true, false, cond, not, _&&_, _||_, and-eq-true-iff, false≢true}
 use mathlib.Core.List.{List, [], _∷_, _++_, map, map-append}
-use mathlib.Core.Option.{none, some, Option·some-ne-none}
+use mathlib.Core.Option.{none, Option·some-ne-none}
 use borrow.Author.Tests.{ltb-true, leb-true, leb-false, eqb-true, eqb-false, lt-ltb, le-ltb, le-leb, lt-leb, ne-eqb}
 use lib.Dec.{leb, ltb, eqb}
 use lib.ListN.{length, take, drop, getD, set, length-map, length-append, length-take, length-drop, drop-of-length-le}
@@ -15,11 +15,11 @@ use lib.Seq.{sets, sets-eq, length-sets, drop-cons, take-at, length-take-le}
 use Rattle.rules.specs.Facts.{by-test, compared}
 use Rattle.rules.specs.Numbers.{accepted, refused, mostSteps}
 use Rattle.rules.specs.Tries.{Row, isStep, isRoot, isRow, contribution, count, entriesIn, nodesIn, union, unionWithin}
-use Rattle.rules.specs.TrieLaws.{Turns, no-left, no-right, left, right, both, union-turns, union-nil-right, union-left-length}
+use Rattle.rules.specs.TrieLaws.{union-turns, union-nil-right}
 use Rattle.rules.specs.Listing.{read}
-use Rattle.rules.specs.Paths.{Path, Leaf, deeper, chain, toRootAccessTrieWithLeaf, addAccessPath, addPaths}
+use Rattle.rules.specs.Paths.{Path, deeper, chain, toRootAccessTrieWithLeaf, addAccessPath, addPaths}
 use Rattle.rules.specs.TypeLaws.{chain-length, deeper-length, isNoTrie, larger, larger-max, longest}
-use Rattle.rules.specs.StepLaws.{Each, Stepped, IsPath, AllPaths, Plain}
+use Rattle.rules.specs.StepLaws.{Each, Stepped, IsPath, AllPaths, Plain, each-append, turns-plain, field-step, stepped-some, add-paths-length}
 use Rattle.trie.specs.Words.{depthIn, markIn, stepIn, typeFrom, typeIn, rowOf, wordOf, isWord, unionWords}
 use Rattle.trie.specs.WordLaws.{node-low, all-words-cons, union-words, words-rows, row-word}
 use Rattle.trie.specs.States.{allWords, rowsOf, wordsIn, rowsIn, holding, unionInto}
@@ -27,6 +27,7 @@ use Rattle.trie.specs.StateLaws.{all-rows}
 use Rattle.trie.specs.declared.Kind.the-variants.{Contribution}
 use Rattle.trie.specs.declared.Reply.the-variants.{Done, Refused}
 use Rattle.manifest.specs.Writes.{Wrote}
+use Rattle.manifest.specs.WriteLaws.{wrote-length, wrote-more}
 use Rattle.manifest.specs.AddLaws.{taken-back, held-count}
 use Rattle.analysis.specs.Code.{pathAt, pathsAt, AllWithin}
 use Rattle.analysis.specs.Nodes.{nodeWord, belowWord, allNodes, allBelow, IsState, Became, leafOf, anyDeep, AllFit, chainWords, deeperWords, RunOf}
@@ -47,7 +48,7 @@ no-number : (n : ℕ) → typeFrom n ≡ none → n ≡ 0
 no-number zero e = refl
 no-number (suc t) e = absurd (Option·some-ne-none t e)
 
-plain-node : (w : ℕ) → isWord w ≡ true → Plain (rowOf w) → nodeWord w ≡ true
+pub plain-node : (w : ℕ) → isWord w ≡ true → Plain (rowOf w) → nodeWord w ≡ true
 unfolding nodeWord
 plain-node w word plain =
     let no-type = no-number (w / 2 ^ 25 % 2 ^ 11) (rw (plain .node) at (plain .untyped)) in
@@ -74,16 +75,7 @@ plain-all-nodes (w ∷ ws) words plains =
 
 -- ---- rows that are nodes without types
 
--- so are those of a union
-turns-plain : {a b c : List Row} → Turns a b c → Each Plain a → Each Plain b → Each Plain c
-unfolding Each
-turns-plain no-left pa pb = pb
-turns-plain no-right pa pb = pa
-turns-plain (left h more) pa pb = (pa .0, turns-plain more (pa .1) pb)
-turns-plain (right h more) pa pb = (pb .0, turns-plain more pa (pb .1))
-turns-plain (both h more) pa pb = (record { node = pa .0 .node; untyped = pa .0 .untyped }, turns-plain more (pa .1) (pb .1))
-
--- they have no entry
+-- they are no entries
 no-entries : (rows : List Row) → Each Plain rows → entriesIn rows ≡ 0
 unfolding Each count
 no-entries [] plains = refl
@@ -184,18 +176,7 @@ packed-nodes (row ∷ rows) good =
       and-eq-true-iff (nodeWord (wordOf row)) _ .1 (plain-node (wordOf row) word (rw back (good .0 .plain)), nodes),
     )
 
-packed-append : (xs ys : List Row) → Each Packed xs → Each Packed ys → Each Packed (xs ++ ys)
-unfolding Each
-packed-append [] ys hx hy = hy
-packed-append (x ∷ xs) ys hx hy = (hx .0, packed-append xs ys (hx .1) hy)
-
 -- ---- the chain of a path
-
--- a field is a step
-field-step : (f : ℕ) → f < 65536 → isStep f ≡ true
-field-step f h =
-    let none-above : f / 65536 ≡ 0 = omega arith in
-    rw none-above (or-true (eqb (f % 65536) 0))
 
 -- a step below the first is a node
 field-packed : (depth step : ℕ) (mark : Bool) → 1 < depth → depth ≤ 24 → step < 65536 → Packed (read depth step mark)
@@ -232,12 +213,7 @@ chain-packed mark path good = go path (good .steps) (good .short)
 
 -- a path has a step, and its steps are small
 pub path-some : {path : Path} → IsPath path → 0 < length path
-unfolding Stepped
-path-some {path} good = go path (good .steps)
-  where
-    go : (path : Path) → Stepped path → 0 < length path
-    go [] steps = absurd steps
-    go (first ∷ fields) steps = omega arith
+path-some {path} good = stepped-some path (good .steps)
 
 root-small : (step : ℕ) → isRoot step ≡ true → step < 2 ^ 19
 root-small step root =
@@ -392,11 +368,6 @@ state-few {trie} state = simp (length-map, length-take) (omega (arith, state .fe
 pub as-it-was : {trie : List ℕ} → IsState trie → Became (rowsIn trie) trie true
 as-it-was {trie} state = record { judged = sym (le-leb (length (rowsIn trie)) 1024 (state-few state)); still = state; there = λ _. refl }
 
--- a second run goes to the place after the first
-sets-append : (l : List ℕ) (i : ℕ) (xs ys : List ℕ) → sets (sets l i xs) (i + length xs) ys ≡ sets l i (xs ++ ys)
-sets-append l i [] ys = rw add-zero
-sets-append l i (x ∷ xs) ys = rw (add-suc, ← suc-add) (sets-append (set l i x) (suc i) xs ys)
-
 -- whether a path and its leaf give no node, by counts
 pub no-trie-test : (path below : List ℕ) (mark : Bool) → isNoTrie path (leafOf mark below) ≡ (eqb (length path) 1 && (not mark && eqb (length below) 0))
 no-trie-test path below mark = rw (length-map below rowOf)
@@ -421,23 +392,23 @@ module _ (path below : List ℕ) (mark : Bool) where
   module _ {out out₁ : List ℕ} {leaf : ℕ} (good : IsPath path) (few : length below ≤ 1024) (room : length out ≡ 1048) (first : Wrote out 0 (chainWords path mark) out₁ leaf) where
     -- there is room for what is below
     pub leaf-room : leaf + length below ≤ length out₁
-    leaf-room = omega (arith, first .after, lengths, good .short, ap length (first .text) ∙ length-sets out 0 (chainWords path mark))
+    leaf-room = omega (arith, first .after, lengths, good .short, wrote-length first)
 
     module _ {out₂ : List ℕ} {end : ℕ} (second : Wrote out₁ leaf (deeperWords (length path) below) out₂ end) where
-      whole : out₂ ≡ sets out 0 (runWords path below mark)
-      whole = second .text ∙ rw (first .text, first .after) (sets-append out 0 (chainWords path mark) (deeperWords (length path) below))
+      whole : Wrote out 0 (runWords path below mark) out₂ end
+      whole = wrote-more first second
 
       enough : length (runWords path below mark) ≤ length out
       enough = omega (arith, length-append (chainWords path mark) (deeperWords (length path) below), lengths, good .short)
 
       pub run-within : end ≤ length out₂
-      run-within = rw whole (omega (arith, length-sets out 0 (runWords path below mark), first .after, second .after, enough, length-append (chainWords path mark) (deeperWords (length path) below)))
+      run-within = omega (arith, wrote-length whole, whole .after, enough)
 
       -- what was written
       pub run-written : take end out₂ ≡ runWords path below mark
       run-written =
-          let all : end ≡ length (runWords path below mark) = omega (arith, first .after, second .after, length-append (chainWords path mark) (deeperWords (length path) below)) in
-          rw (all, whole) (taken-back out (runWords path below mark) enough)
+          let all : end ≡ length (runWords path below mark) = omega (arith, whole .after) in
+          rw (all, whole .text) (taken-back out (runWords path below mark) enough)
 
   -- it packs the nodes of the path with its leaf
   pub run-nodes : IsPath path → allBelow (length path) below ≡ true → isNoTrie path (leafOf mark below) ≡ false →
@@ -447,7 +418,7 @@ module _ (path below : List ℕ) (mark : Bool) where
       let rows = chain 1 mark path ++ deeper (length path) (rowsOf below) in
       rw (e, ← map-append wordOf (chain 1 mark path) (deeper (length path) (rowsOf below)))
       (packed-nodes rows
-      (packed-append (chain 1 mark path) (deeper (length path) (rowsOf below)) (chain-packed mark path good)
+      (each-append Packed (chain 1 mark path) (deeper (length path) (rowsOf below)) (chain-packed mark path good)
       (deeper-packed (length path) below (path-some good) fit)))
 
   pub run-packs : {out : List ℕ} {end : ℕ} → IsPath path → allBelow (length path) below ≡ true → isNoTrie path (leafOf mark below) ≡ false →
@@ -474,13 +445,6 @@ next-within code places i h within = rw (drop-cons places i 0 h) at within
 pub path-steps : (code : List ℕ) (at : ℕ) → at + 1 + getD code at 0 / 8 ≤ length code → length (pathAt code at) ≡ getD code at 0 / 8
 unfolding pathAt
 path-steps code at h = length-take-le (getD code at 0 / 8) (drop (at + 1) code) (omega (arith, length-drop (at + 1) code))
-
--- a trie does not get shorter
-added-longer : (trie : List Row) (paths : List Path) (leaf : Leaf) → length trie ≤ length (addPaths trie paths leaf)
-unfolding addPaths
-added-longer trie [] leaf = omega arith
-added-longer trie (path ∷ paths) leaf =
-    omega (arith, union-left-length trie (toRootAccessTrieWithLeaf path leaf), added-longer (addAccessPath trie path leaf) paths leaf)
 
 -- The paths from i on are left to be added, and lead to what all of them give.
 pub record Adding (code places below : List ℕ) (mark : Bool) (start trie : List ℕ) (i : ℕ) : Type 0 where
@@ -529,7 +493,7 @@ module _ {code places below : List ℕ} {mark : Bool} {start trie : List ℕ} {i
     pub adding-over : {trie′ : List ℕ} → Became (addAccessPath (rowsIn trie) path (leafOf mark below)) trie′ false → Became all-added trie′ false
     adding-over {trie′} became =
         let over = leb-false (length (addAccessPath (rowsIn trie) path (leafOf mark below))) 1024 (sym (became .judged)) in
-        let longer = added-longer (addAccessPath (rowsIn trie) path (leafOf mark below)) (pathsAt code (drop (suc i) places)) (leafOf mark below) in
+        let longer = add-paths-length (addAccessPath (rowsIn trie) path (leafOf mark below)) (pathsAt code (drop (suc i) places)) (leafOf mark below) in
         record {
           judged = sym (lt-leb (length all-added) 1024 (omega (arith, over, longer, ap length next-left)));
           still = became .still;

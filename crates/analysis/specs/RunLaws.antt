@@ -1,23 +1,24 @@
 -- Laws of running a step text line by line (Outcomes), and of what its stack comes to. No contract cites this file.
 use Prim.Native.Nat.{ℕ, suc, _+_, _-_, _≤_, _<_}
-use native.Mathlib.Nat.{add-zero, add-sub-cancel-left}
+use native.Mathlib.Nat.{add-sub-cancel-left}
 use native.Mathlib.Numerals.{add-one}
 use native.Mathlib.Omega.{arith}
-use mathlib.Core.Path.{_≡_, refl, sym, ap, _∙_, subst}
-use mathlib.Core.Bool.{true, false, and-eq-true-iff}
-use mathlib.Core.List.{List, [], _∷_, _++_, map}
+use mathlib.Core.Path.{_≡_, refl, sym, _∙_, subst}
+use mathlib.Core.Bool.{true, false}
+use mathlib.Core.List.{List, [], _∷_, _++_}
 use mathlib.Core.Option.{Option}
 use mathlib.Core.Logic.{_≢_}
-use borrow.Author.Tests.{lt-ltb, leb-true}
-use lib.ListN.{length, take, drop, getD, set, length-drop, length-map, length-set, drop-of-length-le, length-append}
-use lib.Seq.{getD-drop, drop-drop, take-append-seam, length-take-le}
+use borrow.Author.Tests.{lt-ltb}
+use lib.ListN.{length, take, drop, getD, set, length-drop, length-set, drop-of-length-le}
+use lib.Seq.{length-take-le}
 use Rattle.rules.specs.Numbers.{accepted, refused}
-use Rattle.rules.specs.Facts.{by-option, compared, cond-true}
+use Rattle.rules.specs.Facts.{by-option, compared}
 use Rattle.rules.specs.Text.{parted, linesOf, fieldsOf, LF}
 use Rattle.rules.specs.TextLaws.{parted-some}
 use Rattle.rules.specs.Tries.{Row}
 use Rattle.rules.specs.Listing.{read}
-use Rattle.rules.specs.Schema.{Item, unknown, lawfulItems, fromType}
+use Rattle.rules.specs.ListingLaws.{refused-not}
+use Rattle.rules.specs.Schema.{Item, fromType}
 use Rattle.rules.specs.Paths.{getOrHasAttr, fullTypeRequired, addTaken, RecordLiteral, SetLiteral}
 use Rattle.rules.specs.Steps.{
   Result,
@@ -51,10 +52,9 @@ use Rattle.rules.specs.Steps.{
   ended,
   analyse,
 }
-use Rattle.rules.specs.StepLaws.{Each, AllGood, AllKeys, GoodSchema, judged-accepted, step-good, apply-good}
-use Rattle.text.specs.Before.{before}
-use Rattle.text.specs.Answers.{lineAt, firstLine}
-use Rattle.text.proofs.Laws.{whole-within, parted-whole, parted-cut, drop-some}
+use Rattle.rules.specs.StepLaws.{Each, AllGood, GoodSchema, judged-accepted, step-good, apply-good}
+use Rattle.text.specs.Answers.{lineAt}
+use Rattle.text.proofs.Laws.{whole-within}
 use Rattle.text.specs.declared.Line.{Line}
 use Rattle.text.specs.declared.Line.the-variants.{Whole}
 use Rattle.trie.specs.Words.{wordOf}
@@ -62,11 +62,14 @@ use Rattle.trie.specs.States.{holding, storing}
 use Rattle.trie.specs.declared.Reply.{Reply}
 use Rattle.trie.specs.declared.Reply.the-variants.{Done, Refused}
 use Rattle.manifest.specs.Writes.{Wrote}
-use Rattle.manifest.specs.ReadLaws.{lines-whole}
-use Rattle.schema.specs.Items.{itemIn, isItem, allItems, itemsOf, goodItems}
+use Rattle.manifest.specs.ReadLaws.{lines-whole, lines-cut}
+use Rattle.schema.specs.Items.{itemsOf, goodItems}
 use Rattle.analysis.specs.Code.{codes}
 use Rattle.analysis.specs.Lines.{stepRead, GoodRead}
-use Rattle.analysis.specs.Stacks.{triesOf, trieWords, stacked, Held, Holding, Reached, TrieAt}
+use Rattle.analysis.specs.Stacks.{trieWords, stacked, Held, Holding, Reached, TrieAt}
+use Rattle.analysis.specs.TypeTableLaws.{good-all, good-lawful}
+use Rattle.analysis.specs.FullLaws.{item-keys}
+use Rattle.analysis.specs.StackLaws.{trie-count, trie-rows, at-within, at-few, top-trie, top-at}
 use Rattle.analysis.specs.Outcomes.{Finished}
 use Rattle.analysis.specs.declared.step.Step.{Step as StepRead}
 use Rattle.analysis.specs.declared.step.Step.the-variants.{Root, None, Attr, Union, Drop, Full, In, Set, Rec, Bad}
@@ -74,13 +77,10 @@ use Rattle.analysis.specs.declared.stack.Stack.{Stack}
 
 -- ---- a step that is accepted leaves at most 32 results
 
-stack-not : {A : Type 0} (number place : ℕ) (stack : List Result) → refused number place ≡ accepted stack → A
-stack-not number place stack e = let z : _≡_ {A = ℕ} 0 1 = cc in absurd (omega arith)
-
 judged-few : (place : ℕ) (top : Result) (stack after : List Result) → judged place top stack ≡ accepted after → length after ≤ 32
 judged-few place top stack after e =
     compared 32 (suc (length stack))
-    (λ many. stack-not 6 place after (rw (lt-ltb 32 (suc (length stack)) many) at e))
+    (λ many. refused-not 6 place after (rw (lt-ltb 32 (suc (length stack)) many) at e))
     (λ few. subst (λ (s : List Result). length s ≤ 32) (judged-accepted place top stack after e .1) few)
 
 pub apply-few :
@@ -90,36 +90,36 @@ pub apply-few :
 unfolding apply
 apply-few items place (root r) stack after e = judged-few place (fromRoot r) stack after e
 apply-few items place nothing stack after e = judged-few place defaultResult stack after e
-apply-few items place (attr f) [] after e = stack-not 6 place after e
+apply-few items place (attr f) [] after e = refused-not 6 place after e
 apply-few items place (attr f) (top ∷ stack) after e =
     by-option (getOrHasAttr f (top .paths))
-    (λ q. stack-not 7 place after (rw (q, attrStep) at e))
+    (λ q. refused-not 7 place after (rw (q, attrStep) at e))
     (λ paths q. judged-few place (restored (top .trie) paths) stack after (rw (q, attrStep) at e))
-apply-few items place both [] after e = stack-not 6 place after e
-apply-few items place both (y ∷ []) after e = stack-not 6 place after e
+apply-few items place both [] after e = refused-not 6 place after e
+apply-few items place both (y ∷ []) after e = refused-not 6 place after e
 apply-few items place both (y ∷ x ∷ stack) after e = judged-few place (unionResults x y) stack after e
-apply-few items place dropped [] after e = stack-not 6 place after e
+apply-few items place dropped [] after e = refused-not 6 place after e
 apply-few items place dropped (top ∷ stack) after e = judged-few place (emptyPaths (top .trie)) stack after e
 apply-few items place (full t) [] after e =
     by-option (fromType t items)
-    (λ q. stack-not 1 place after (rw (q, fullStep) at e))
-    (λ lines q. stack-not 6 place after (rw (q, fullStep) at e))
+    (λ q. refused-not 1 place after (rw (q, fullStep) at e))
+    (λ lines q. refused-not 6 place after (rw (q, fullStep) at e))
 apply-few items place (full t) (top ∷ stack) after e =
     by-option (fromType t items)
-    (λ q. stack-not 1 place after (rw (q, fullStep) at e))
+    (λ q. refused-not 1 place after (rw (q, fullStep) at e))
     (λ lines q.
     by-option (fullTypeRequired items (top .paths) t)
-    (λ p. stack-not 8 place after (rw (q, fullStep, p, fullStep) at e))
+    (λ p. refused-not 8 place after (rw (q, fullStep, p, fullStep) at e))
     (λ taken p. judged-few place (emptyPaths (addTaken items (top .trie) taken)) stack after (rw (q, fullStep, p, fullStep) at e)))
-apply-few items place inside [] after e = stack-not 6 place after e
-apply-few items place inside (y ∷ []) after e = stack-not 6 place after e
+apply-few items place inside [] after e = refused-not 6 place after e
+apply-few items place inside (y ∷ []) after e = refused-not 6 place after e
 apply-few items place inside (y ∷ x ∷ stack) after e = judged-few place (inResult x y) stack after e
-apply-few items place setOf [] after e = stack-not 6 place after e
+apply-few items place setOf [] after e = refused-not 6 place after e
 apply-few items place setOf (top ∷ stack) after e =
     judged-few place (result (top .trie) (SetLiteral (top .paths))) stack after e
 apply-few items place (rec names) stack after e =
     by-option (wrapped names stack)
-    (λ q. stack-not 6 place after (rw (q, recStep) at e))
+    (λ q. refused-not 6 place after (rw (q, recStep) at e))
     (λ w q. judged-few place (result (w .trie) (RecordLiteral (w .fields))) (w .left) after (rw (q, recStep) at e))
 
 -- ---- what a line is read as, and a schema's words, are good
@@ -136,17 +136,8 @@ read-good Set names fields e = tt
 read-good (Rec count) names fields e = tt
 read-good Bad names fields e = tt
 
-all-keys : (words : List ℕ) → allItems words ≡ true → AllKeys (itemsOf words)
-unfolding allItems isItem Each
-all-keys [] e = tt
-all-keys (w ∷ words) e =
-    let (own, others) = cond-true (isItem (itemIn w)) (allItems words) .0 e in
-    (leb-true (itemIn w .key) 65535 (and-eq-true-iff _ _ .0 own .0), all-keys words others)
-
 schema-good : (words : List ℕ) → goodItems words ≡ true → GoodSchema (itemsOf words)
-schema-good words e =
-    let (items, lawful) = and-eq-true-iff (allItems words) (lawfulItems unknown (itemsOf words)) .0 e in
-    (lawful, all-keys words items)
+schema-good words e = (good-lawful words e, item-keys words (good-all words e))
 
 -- a step that is accepted leaves results that a step may take
 stepped-held :
@@ -157,7 +148,7 @@ stepped-held :
     → (length after ≤ 32) × AllGood after
 stepped-held words place fields stack after good all e =
     by-option (stepFrom fields)
-    (λ q. stack-not 1 place after (rw (q, stepped) at e))
+    (λ q. refused-not 1 place after (rw (q, stepped) at e))
     (λ step q.
     let applied : apply (itemsOf words) place step stack ≡ accepted after = rw (q, stepped) at e in (
       apply-few (itemsOf words) place step stack after applied,
@@ -175,10 +166,7 @@ module _ (items : List Item) (place : ℕ) (stack : List Result) where
       → at < length text
       → runFrom items place (linesOf (drop at text)) stack ≡ refused 1 place
   unfolding runFrom
-  run-cut text at r ensured unended more =
-      compared (at + length (before LF (drop at text))) (length text)
-      (λ h. let (next, others, p) = parted-cut LF at text h in absurd (unended _ (ensured ∙ ap (firstLine at) p)))
-      (λ h. rw (parted-whole LF at text h, drop-some at text more))
+  run-cut text at r ensured unended more = let (alone, some-byte) = lines-cut text at r ensured unended more in rw (alone, some-byte)
 
   module _ (line rest : List ℕ) where
     -- a step that is accepted comes before those of the lines behind it
@@ -295,21 +283,9 @@ module _ {words text code tries : List ℕ} {stack : Stack} {at line : ℕ} (run
 -- ---- the contribution of a result
 
 module _ (words : List ℕ) (at : ℕ) where
-  module _ (trie : List Row) (rest : List ℕ) (there : drop at words ≡ trieWords trie ++ rest) where
-    -- a trie that stands at a place: its count, its end, and its words
-    trie-count : getD words at 0 ≡ length trie
-    trie-count = ap (λ (i : ℕ). getD words i 0) (sym (add-zero at)) ∙ sym (getD-drop at words 0 0) ∙ ap (λ (l : List ℕ). getD l 0 0) there
-
-    trie-end : at + 1 + length trie ≤ length words
-    trie-end = omega (arith, length-drop at words, ap length there, length-append (map wordOf trie) rest, length-map trie wordOf)
-
-    trie-taken : take (length trie) (drop (at + 1) words) ≡ map wordOf trie
-    trie-taken =
-        let behind : drop (at + 1) words ≡ map wordOf trie ++ rest = sym (drop-drop 1 at words) ∙ ap (drop 1) there in
-        rw (behind, ← length-map trie wordOf) (take-append-seam (map wordOf trie) rest)
-
+  -- a trie that stands at a place ends there, and is not too long
   pub trie-within : TrieAt words at → (getD words at 0 ≤ 1024) × (at + 1 + getD words at 0 ≤ length words)
-  trie-within t = rw (trie-count (t .trie) (t .rest) (t .there)) (t .few-rows, trie-end (t .trie) (t .rest) (t .there))
+  trie-within t = (at-few t, at-within t)
 
   -- its words fit behind the entry
   pub trie-fits :
@@ -331,7 +307,7 @@ module _ (words : List ℕ) (at : ℕ) where
       → drop at words ≡ trieWords trie ++ rest
       → out′ ≡ holding out (read 0 request false ∷ trie)
   trie-written out request e wrote trie rest there =
-      wrote .text ∙ rw (e, trie-count trie rest there, add-one (length trie), add-sub-cancel-left, trie-taken trie rest there)
+      wrote .text ∙ rw (e, add-sub-cancel-left, trie-rows words rest at trie there, trie-count words rest at trie there, add-one (length trie))
 
 -- ---- what analysing answers, by what the text gives
 
@@ -369,16 +345,16 @@ module _ {items : List Item} {text code tries : List ℕ} {stack : Stack} {lines
         go (top ∷ []) e = (top, refl)
         go (top ∷ next ∷ results) e = absurd (omega arith)
 
+    only-held : Held code tries stack (only .0 ∷ [])
+    only-held = rw (only .1) at (finished .held)
+
     only-there : drop (stack .tries) tries ≡ trieWords (only .0 .trie) ++ []
     unfolding stacked
-    only-there = finished .held .layout .tries-there ∙ ap (λ (results : List Result). stacked (triesOf results)) (only .1)
+    only-there = top-trie only-held
 
     -- its trie stands at the top
     pub only-trie : TrieAt tries (stack .tries)
-    unfolding Each
-    only-trie =
-        let good : AllGood (only .0 ∷ []) = subst AllGood (only .1) (finished .held .good) in
-        record { trie = only .0 .trie; rest = []; there = only-there; few-rows = good .0 .few-rows; good-trie = good .0 .good-trie }
+    only-trie = top-at only-held
 
     -- and is the contribution
     pub answered-one :

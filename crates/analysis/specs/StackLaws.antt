@@ -1,22 +1,21 @@
 -- Laws of the stack of results in words (Stacks): the room in its two runs, tries that are copied, put and merged, and what each step leaves.
 -- No contract cites this file.
-use Prim.Native.Nat.{ℕ, zero, suc, _+_, _*_, _-_, _/_, _%_, _^_, _≤_, _<_, max}
-use native.Mathlib.Nat.{add-zero}
+use Prim.Native.Nat.{ℕ, suc, _+_, _*_, _-_, _≤_, _<_, max}
 use native.Mathlib.Numerals.{add-one}
 use native.Mathlib.Omega.{arith}
 use mathlib.Core.Path.{_≡_, refl, sym, ap, ap₂, _∙_, subst}
 use mathlib.Core.Logic.{_⊎_, inl, inr}
-use mathlib.Core.Bool.{Bool, true, false, cond, _&&_, and-eq-true-iff, or-false, true≢false, false≢true}
-use mathlib.Core.List.{List, [], _∷_, _++_, map, append-assoc, append-nil}
-use mathlib.Core.Option.{Option, none, some, Option·none-ne-some, Option·some-ne-none, Option·some-injective}
-use borrow.Author.Tests.{ltb-true, ltb-false, leb-true, leb-false, lt-ltb, le-ltb, le-leb, lt-leb, eq-eqb, ne-eqb}
+use mathlib.Core.Bool.{Bool, true, false, and-eq-true-iff, or-false, false≢true}
+use mathlib.Core.List.{List, [], _∷_, _++_, map, map-append, append-assoc, append-nil}
+use mathlib.Core.Option.{Option, none, some, Option·none-ne-some, Option·some-injective}
+use borrow.Author.Tests.{ltb-true, ltb-false, leb-true, leb-false, lt-ltb, le-ltb, le-leb, lt-leb, ne-eqb}
 use lib.Dec.{ltb, eqb}
 use lib.ListN.{length, take, drop, getD, set, replicate, length-map, length-append, length-drop, length-set, length-replicate, take-append-drop}
-use lib.Seq.{sets-eq, length-sets, drop-drop, drop-cons, drop-at, take-at, getD-drop, drop-append-seam, length-take-le, set-split}
-use Rattle.rules.specs.Facts.{by-test, by-option, compared, cond-some}
+use lib.Seq.{sets-eq, length-sets, drop-drop, drop-cons, drop-at, take-at, drop-append-seam, length-take-le, set-split}
+use Rattle.rules.specs.Facts.{by-test, by-option}
 use Rattle.rules.specs.Numbers.{Answer, accepted, refused}
-use Rattle.rules.specs.Tries.{Row, isRow, isEntry, isStep, isRoot, isType, at, union}
-use Rattle.rules.specs.TrieLaws.{Ordered, ordered-true, union-nil-left, union-nil-right, union-left-length, union-right-length, union-sum-length}
+use Rattle.rules.specs.Tries.{Row, isStep, at, union}
+use Rattle.rules.specs.TrieLaws.{Ordered, ordered-true, node-step, union-nil-left, union-nil-right, union-left-length, union-right-length, union-sum-length}
 use Rattle.rules.specs.Paths.{
   Path,
   Paths,
@@ -31,7 +30,6 @@ use Rattle.rules.specs.Paths.{
   Leaf,
   emptyLeaf,
   pathsIn,
-  pathsInFields,
   nodesOf,
   nodesOfFields,
   fieldOf,
@@ -39,22 +37,16 @@ use Rattle.rules.specs.Paths.{
   getOrHasAttr,
   toRootAccessTrieWithLeaf,
   addPaths,
-  kindAt,
-  elementAt,
-  attributesAt,
-  attributeType,
-  hasAll,
   typeToAccessTrie,
   Taken,
   fullTypeRequired,
-  fieldsRequired,
   addTaken,
 }
-use Rattle.rules.specs.Schema.{Item, lawfulItems, unknown, recordType, setType}
+use Rattle.rules.specs.Schema.{Item}
 use Rattle.rules.specs.Steps.{Result, result, judged, isTooDeep, restored, attrStep, unionResults, twoStep, setStep, dropStep, emptyPaths, inResult, Wrapped, wrapped, recStep, fullStep, stepped}
-use Rattle.rules.specs.StepLaws.{triesOf as pathTries}
-use Rattle.rules.specs.StepLaws.{triesOfTaken}
 use Rattle.rules.specs.StepLaws.{
+  triesOf as pathTries,
+  triesOfTaken,
   anyTooDeep,
   grownIn,
   stepped-some,
@@ -65,7 +57,8 @@ use Rattle.rules.specs.StepLaws.{
   add-paths-length,
   add-paths-deep,
   add-taken-deep,
-  too-deep-union,
+  or-neither,
+  taken-each,
   Each,
   IsPath,
   AllPaths,
@@ -82,17 +75,20 @@ use Rattle.rules.specs.StepLaws.{
   trie-associative,
   trie-shallow,
 }
-use Rattle.rules.specs.Listing.{_>>=_}
-use Rattle.rules.specs.TypeLaws.{deepest, path-deep, path-length, longest, larger-max, markedLeaf, ancestor-deep, isNoTrie, typesIn, types-few, TypeAt, type-there, type-missing}
-use Rattle.trie.specs.Words.{depthIn, stepIn, typeFrom, rowOf, wordOf, isWord}
-use Rattle.trie.specs.WordLaws.{is-row, node-low, all-words-cons, words-rows, row-word}
-use Rattle.trie.specs.States.{allWords, rowsOf, wordsIn, rowsIn, holding}
-use Rattle.schema.specs.Items.{itemsOf, allItems, goodItems}
+use Rattle.rules.specs.ListingLaws.{bind-some}
+use Rattle.rules.specs.TypeLaws.{deepest, path-deep, union-too-deep, path-length, longest, larger-max, markedLeaf, ancestor-deep, isNoTrie, typesIn, types-few, TypeAt, type-there, type-missing}
+use Rattle.trie.specs.Words.{depthIn, stepIn, rowOf, wordOf, isWord}
+use Rattle.trie.specs.WordLaws.{is-row, words-rows, row-word}
+use Rattle.trie.specs.States.{rowsOf, wordsIn, rowsIn, holding}
+use Rattle.schema.specs.Items.{itemsOf, goodItems}
 use Rattle.manifest.specs.Writes.{Wrote}
 use Rattle.manifest.specs.AddLaws.{held-count}
-use Rattle.analysis.specs.Code.{countIn, namesIn, code, codeFields, codes, nodesOfAll, Standing, Measures, pathsAt, Grew}
-use Rattle.analysis.specs.Code.{Result as Stands}
+use Rattle.analysis.specs.Code.{countIn, namesIn, code, codeFields, codes, nodesOfAll, Standing, Measures, pathsAt, Grew, Result as Stands}
+use Rattle.analysis.specs.CodeLaws.{codes-append, first-word, behind-word}
+use Rattle.analysis.specs.AttrLaws.{words-few}
 use Rattle.analysis.specs.Nodes.{nodeWord, belowWord, allNodes, allBelow, IsState, Became, leafOf, anyDeep, AllFit}
+use Rattle.analysis.specs.NodeLaws.{plain-node, all-nodes-plain, held-words, as-it-was}
+use Rattle.analysis.specs.TypeTableLaws.{good-lawful}
 use Rattle.analysis.specs.Tables.{takenAt, AllPairs, Took, Walk, anyTakenDeep, AllTakenPaths}
 use Rattle.analysis.specs.Lines.{stepRead}
 use Rattle.analysis.specs.Stacks.{
@@ -156,21 +152,6 @@ module _ (place : ℕ) (top : Result) (stack : List Result) where
 
 -- ---- tries in words
 
-no-number : (n : ℕ) → typeFrom n ≡ none → n ≡ 0
-no-number zero e = refl
-no-number (suc t) e = absurd (Option·some-ne-none t e)
-
--- a word that packs a node without a type
-plain-word : (w : ℕ) → isWord w ≡ true → Plain (rowOf w) → nodeWord w ≡ true
-unfolding nodeWord
-plain-word w word plain =
-    let no-type = no-number (w / 2 ^ 25 % 2 ^ 11) (rw (plain .node) at (plain .untyped)) in
-    let low : w < 2 ^ 25 = omega (arith, node-low w word (plain .node), no-type) in
-    and-eq-true-iff (isWord w) _ .1 (word, and-eq-true-iff (ltb 0 (depthIn w)) _ .1 (lt-ltb 0 (depthIn w) deep, lt-ltb w (2 ^ 25) low))
-  where
-    deep : 0 < depthIn w
-    deep = compared 0 (depthIn w) (λ h. h) (λ h. absurd (true≢false (sym (eq-eqb (depthIn w) 0 (omega arith)) ∙ plain .node)))
-
 -- the words of a trie pack its rows, and those are nodes without types
 pub trie-words : (rows : List Row) → IsTrie rows → (rowsOf (map wordOf rows) ≡ rows) × (allNodes (map wordOf rows) ≡ true)
 unfolding Ordered Each allNodes
@@ -186,16 +167,8 @@ trie-words rows t = go (0 ∷ []) rows (ordered-true (0 ∷ []) rows (t .order))
         let (back, word) = row-word row (o .0) (o .2) in
         let (more, nodes) = go (at s row) rows (o .3) (p .1) in (
           ap₂ (λ x xs. x ∷ xs) back more,
-          and-eq-true-iff (nodeWord (wordOf row)) _ .1 (plain-word (wordOf row) word (rw back (p .0)), nodes),
+          and-eq-true-iff (nodeWord (wordOf row)) _ .1 (plain-node (wordOf row) word (rw back (p .0)), nodes),
         )
-
--- nodes are words
-nodes-words : (ws : List ℕ) → allNodes ws ≡ true → allWords ws ≡ true
-unfolding allNodes nodeWord allWords
-nodes-words [] h = refl
-nodes-words (w ∷ ws) h =
-    let (first, rest) = and-eq-true-iff (nodeWord w) (allNodes ws) .0 h in
-    all-words-cons w ws .1 (and-eq-true-iff (isWord w) _ .0 first .0, nodes-words ws rest)
 
 -- what stands where a trie does
 module _ (words rest : List ℕ) (place : ℕ) (trie : List Row) (there : drop place words ≡ trieWords trie ++ rest) where
@@ -210,10 +183,10 @@ module _ (words rest : List ℕ) (place : ℕ) (trie : List Row) (there : drop p
   trie-within = omega (arith, trie-room)
 
   pub trie-count : getD words place 0 ≡ length trie
-  trie-count = sym (getD-drop place words 0 0 ∙ rw add-zero) ∙ ap (λ (l : List ℕ). getD l 0 0) there
+  trie-count = first-word words place there
 
   trie-behind : drop (place + 1) words ≡ map wordOf trie ++ rest
-  trie-behind = sym (drop-drop 1 place words) ∙ ap (λ (l : List ℕ). drop 1 l) there
+  trie-behind = behind-word words place there
 
   pub trie-rows : take (getD words place 0) (drop (place + 1) words) ≡ map wordOf trie
   trie-rows = rw (trie-count, trie-behind) (take-at (map wordOf trie) rest (length trie) (length-map trie wordOf))
@@ -236,7 +209,7 @@ module _ {state : List ℕ} (is : IsState state) where
   state-words =
       let some-word : 0 < length state = omega (arith, is .state-length) in
       let split : state ≡ getD state 0 0 ∷ drop 1 state = drop-cons state 0 0 some-word in
-      rw (add-one, state-count, words-rows (wordsIn state) (nodes-words (wordsIn state) (is .nodes)))
+      rw (add-one, state-count, words-rows (wordsIn state) (all-nodes-plain (wordsIn state) (is .nodes) .0))
       (ap (λ (l : List ℕ). take (suc (getD state 0 0)) l) split)
 
 -- a buffer that holds a trie is a state of it
@@ -248,9 +221,7 @@ held-state :
     → IsState (holding out trie) × (wordsIn (holding out trie) ≡ map wordOf trie)
 held-state out trie long good few =
     let count : getD (holding out trie) 0 0 ≡ length trie = held-count out trie (omega arith) in
-    let rows : wordsIn (holding out trie) ≡ map wordOf trie =
-    rw (count, sets-eq (length trie ∷ map wordOf trie) out 0 (omega (arith, length-map trie wordOf)))
-    (take-at (map wordOf trie) _ (length trie) (length-map trie wordOf)) in (
+    let rows : wordsIn (holding out trie) ≡ map wordOf trie = held-words out trie (omega arith) in (
       record {
         state-length = length-sets out 0 (length trie ∷ map wordOf trie) ∙ long;
         few-rows = rw count few;
@@ -327,29 +298,7 @@ placed-one w out end some-place inside =
 
 -- ---- the room of results
 
-mutual
-  unfolding code codeFields nodesOf nodesOfFields pathsIn pathsInFields namesIn Each
-
-  code-short : (paths : Paths) → AllPaths (pathsIn paths) → length (code paths) + 1 ≤ 26 * nodesOf paths
-  code-short Empty good = omega arith
-  code-short (AccessPath path) good = omega (arith, good .0 .short)
-  code-short (Union left right) good =
-      let (of-right, of-left) = each-split IsPath (pathsIn right) (pathsIn left) good in
-      omega (arith, code-short right of-right, code-short left of-left, length-append (code right) (code left))
-  code-short (RecordLiteral fields) good =
-      omega (arith, fields-short fields good, length-append (namesIn fields) (codeFields fields))
-  code-short (SetLiteral elements) good = omega (arith, code-short elements good)
-
-  fields-short :
-      (fields : Fields)
-      → AllPaths (pathsInFields fields)
-      → length (namesIn fields) + length (codeFields fields) ≤ 26 * nodesOfFields fields
-  fields-short noField good = omega arith
-  fields-short (field name paths fields) good =
-      let (of-paths, of-fields) = each-split IsPath (pathsIn paths) (pathsInFields fields) good in
-      omega (arith, code-short paths of-paths, fields-short fields of-fields, length-append (code paths) (codeFields fields))
-
--- so are the words of several
+-- the words of several, as of one, are few
 codes-short :
     (results : List Result)
     → AllGood results
@@ -357,7 +306,7 @@ codes-short :
 unfolding codes nodesOfAll Each
 codes-short [] good = omega arith
 codes-short (r ∷ results) good =
-    omega (arith, code-short (r .paths) (good .0 .good-paths), codes-short results (good .1), length-append (code (r .paths)) (codes (pathsOf results)))
+    omega (arith, words-few (r .paths) (good .0 .good-paths), codes-short results (good .1), length-append (code (r .paths)) (codes (pathsOf results)))
 
 codes-room : (results : List Result) → AllGood results → length (codes (pathsOf results)) ≤ 6656 * length results
 unfolding codes Each
@@ -365,7 +314,7 @@ codes-room [] good = omega arith
 codes-room (r ∷ results) good =
     omega (
       arith,
-      code-short (r .paths) (good .0 .good-paths),
+      words-few (r .paths) (good .0 .good-paths),
       good .0 .few-nodes,
       codes-room results (good .1),
       length-append (code (r .paths)) (codes (pathsOf results)),
@@ -781,9 +730,7 @@ going-done {words} {state} {words′} {place} {count} {end} {i} {start} going al
 -- ---- results that are wrapped
 
 codes-split : (taken left : List Result) → codes (pathsOf (taken ++ left)) ≡ codes (pathsOf taken) ++ codes (pathsOf left)
-unfolding codes
-codes-split [] left = refl
-codes-split (r ∷ taken) left = rw (codes-split taken left) (sym (append-assoc (code (r .paths)) (codes (pathsOf taken)) (codes (pathsOf left))))
+codes-split taken left = ap codes (map-append (λ r. r .paths) taken left) ∙ codes-append (pathsOf taken) (pathsOf left)
 
 tries-split : (taken left : List Result) → stacked (triesOf (taken ++ left)) ≡ stacked (triesOf taken) ++ stacked (triesOf left)
 unfolding stacked
@@ -1180,9 +1127,8 @@ none-deep : (paths : List Path) (under : ℕ) → anyDeep paths under ≡ false 
 unfolding anyDeep Each
 none-deep [] under e = tt
 none-deep (path ∷ paths) under e =
-    by-test (ltb 24 (length path + under))
-    (λ deep. absurd (true≢false (rw deep at e)))
-    (λ short. (ltb-false 24 (length path + under) short, none-deep paths under (rw short at e)))
+    let (short, others) = or-neither (ltb 24 (length path + under)) _ e in
+    (ltb-false 24 (length path + under) short, none-deep paths under others)
 
 all-some : (paths : List Path) → AllPaths paths → Each (λ path. 0 < length path) paths
 all-some paths good = each-then IsPath (λ path. 0 < length path) (λ path p. stepped-some path (p .steps)) paths good
@@ -1196,14 +1142,6 @@ grown-some f (RecordLiteral fields) = tt
 grown-some f (SetLiteral elements) = tt
 
 -- no path nodes are added
-bound :
-    {A B P : Type 0} (o : Option A) (next : A → Option B) (b : B)
-    → (o >>= next) ≡ some b
-    → ((a : A) → o ≡ some a → next a ≡ some b → P)
-    → P
-bound none next b e then = absurd (Option·none-ne-some b e)
-bound (some a) next b e then = then a refl e
-
 field-nodes : (f : ℕ) (fields : Fields) (paths : Paths) → fieldOf f fields ≡ some paths → nodesOf paths ≤ nodesOfFields fields
 unfolding fieldOf nodesOfFields
 field-nodes f noField paths e = absurd (Option·none-ne-some paths e)
@@ -1217,8 +1155,8 @@ unfolding getOrHasAttr nodesOf
 attr-nodes f Empty after e = rw (← Option·some-injective Empty after e) (omega arith)
 attr-nodes f (AccessPath path) after e = rw (← Option·some-injective (AccessPath (path ++ (f ∷ []))) after e) (omega arith)
 attr-nodes f (Union a b) after e =
-    bound (getOrHasAttr f b) _ after e λ b′ eb e.
-    bound (getOrHasAttr f a) _ after e λ a′ ea e.
+    bind-some (getOrHasAttr f b) _ after e λ b′ eb e.
+    bind-some (getOrHasAttr f a) _ after e λ a′ ea e.
     rw (← Option·some-injective (Union a′ b′) after e) (omega (arith, attr-nodes f a a′ ea, attr-nodes f b b′ eb))
 attr-nodes f (RecordLiteral fields) after e =
     rw (← Option·some-injective (fieldOr (fieldOf f fields) (RecordLiteral fields)) after e)
@@ -1327,15 +1265,6 @@ longest-short [] good = omega arith
 longest-short (path ∷ paths) good = rw larger-max (omega (arith, good .0 .short, longest-short paths (good .1)))
 
 -- a word of a node may stand below another
-node-step : (row : Row) → isRow row ≡ true → isEntry row ≡ false → isStep (row .step) ≡ true
-node-step row whole e =
-    is-step (eqb (row .depth) 1)
-    (and-eq-true-iff (cond (eqb (row .depth) 1) (isRoot (row .step)) (isStep (row .step))) (isType (row .type)) .0 (rw e at whole) .0)
-  where
-    is-step : (top : Bool) → cond top (isRoot (row .step)) (isStep (row .step)) ≡ true → isStep (row .step) ≡ true
-    is-step true h = and-eq-true-iff (isStep (row .step)) _ .0 h .0
-    is-step false h = h
-
 below-word : (w : ℕ) → nodeWord w ≡ true → belowWord w ≡ true
 unfolding nodeWord belowWord
 below-word w h =
@@ -1364,14 +1293,6 @@ unfolding AllFit Each
 fit-below [] ws nodes near = tt
 fit-below (path ∷ paths) ws nodes near = (nodes-below (length path) ws nodes (near .0), fit-below paths ws nodes (near .1))
 
--- a state stays what it is
-pub became-same : {state : List ℕ} → IsState state → Became (rowsIn state) state true
-became-same {state} is = record {
-  judged = sym (le-leb (length (rowsIn state)) 1024 (omega (arith, state-count is, is .few-rows)));
-  still = is;
-  there = λ _. refl;
-}
-
 abbrev ancestorsLeaf : List Path → Leaf
 ancestorsLeaf right = record { mark = false; below = addPaths [] right markedLeaf }
 
@@ -1393,7 +1314,7 @@ pub ancestors-none :
     → left ≡ []
     → Became (ancestorsRequired (rowsIn state) left right) state true
 unfolding addPaths
-ancestors-none left right is e = rw e (became-same is)
+ancestors-none left right is e = rw e (as-it-was is)
 
 module _ (left right : List Path) {ancestors : List ℕ} {fits : Bool} (b : Became (addPaths (rowsIn (replicate 1026 0)) right markedLeaf) ancestors fits) where
   -- they have too many nodes, and so has what takes them
@@ -1495,7 +1416,7 @@ module _ {codeRun tries : List ℕ} {stack : Stack} {right left : Result} {rest 
   module _ {lefts rights : List Path} (l : lefts ≡ pathsIn (left .paths)) (r : rights ≡ pathsIn (right .paths)) where
     in-deep : isTooDeep (inResult left right .trie) ≡ anyDeep lefts (longest rights)
     in-deep =
-        too-deep-union (ancestorsRequired (left .trie) (pathsIn (left .paths)) (pathsIn (right .paths))) (right .trie)
+        union-too-deep (ancestorsRequired (left .trie) (pathsIn (left .paths)) (pathsIn (right .paths))) (right .trie)
         ∙ rw (
           trie-shallow (right .trie) (top-good held .good-trie),
           or-false,
@@ -1548,57 +1469,11 @@ module _ {codeRun tries : List ℕ} {stack : Stack} {right left : Result} {rest 
 
 -- ---- full types
 
--- what holds of all paths holds of those that take a type
-attribute-cases :
-    {P : Type 0} (o : Option ℕ) (own : ℕ → Option (List Taken)) (others : Option (List Taken)) (taken : List Taken)
-    → elim o [ none ↦ others | some t ↦ own t >>= (λ first. others >>= (λ more. some (first ++ more))) ] ≡ some taken
-    → (others ≡ some taken → P)
-    → ((t : ℕ) (first more : List Taken) → own t ≡ some first → others ≡ some more → first ++ more ≡ taken → P)
-    → P
-attribute-cases none own others taken e none-then some-then = none-then e
-attribute-cases (some t) own others taken e none-then some-then =
-    bound (own t) _ taken e λ first ep e.
-    bound others _ taken e λ more ef e. some-then t first more ep ef (Option·some-injective (first ++ more) taken e)
-
-taken-append : (xs ys : List Taken) → AllTakenPaths xs → AllTakenPaths ys → AllTakenPaths (xs ++ ys)
-unfolding AllTakenPaths
-taken-append [] ys h k = k
-taken-append (x ∷ xs) ys h k = (h .0, taken-append xs ys (h .1) k)
-
-mutual
-  unfolding fullTypeRequired fieldsRequired pathsIn pathsInFields Each AllTakenPaths
-
-  taken-paths :
-      (items : List Item) (paths : Paths) (t : ℕ) (taken : List Taken)
-      → AllPaths (pathsIn paths)
-      → fullTypeRequired items paths t ≡ some taken
-      → AllTakenPaths taken
-  taken-paths items Empty t taken h e = rw (← Option·some-injective [] taken e) tt
-  taken-paths items (AccessPath path) t taken h e = rw (← Option·some-injective (record { path = path; type = t } ∷ []) taken e) (h .0, tt)
-  taken-paths items (Union a b) t taken h e =
-      let (of-b, of-a) = each-split IsPath (pathsIn b) (pathsIn a) h in
-      bound (fullTypeRequired items b t) _ taken e λ tb eb e.
-      bound (fullTypeRequired items a t) _ taken e λ ta ea e.
-      rw (← Option·some-injective (tb ++ ta) taken e) (taken-append tb ta (taken-paths items b t tb of-b eb) (taken-paths items a t ta of-a ea))
-  taken-paths items (RecordLiteral fields) t taken h e =
-      let (_, e) = cond-some (eqb (kindAt items t) recordType && hasAll fields (attributesAt items t)) _ taken e in
-      taken-fields items fields (attributesAt items t) taken h e
-  taken-paths items (SetLiteral elements) t taken h e =
-      let (_, e) = cond-some (eqb (kindAt items t) setType) _ taken e in
-      taken-paths items elements (elementAt items t) taken h e
-
-  taken-fields :
-      (items : List Item) (fields : Fields) (attributes : List Item) (taken : List Taken)
-      → AllPaths (pathsInFields fields)
-      → fieldsRequired items fields attributes ≡ some taken
-      → AllTakenPaths taken
-  taken-fields items noField attributes taken h e = rw (← Option·some-injective [] taken e) tt
-  taken-fields items (field name paths fields) attributes taken h e =
-      let (of-paths, of-fields) = each-split IsPath (pathsIn paths) (pathsInFields fields) h in
-      attribute-cases (attributeType name attributes) (fullTypeRequired items paths) (fieldsRequired items fields attributes) taken e
-      (λ e. taken-fields items fields attributes taken of-fields e)
-      (λ t first more ep ef same.
-      rw (← same) (taken-append first more (taken-paths items paths t first of-paths ep) (taken-fields items fields attributes more of-fields ef)))
+-- paths that take a type are paths
+all-taken : (taken : List Taken) → Each (λ one. IsPath (one .path)) taken → AllTakenPaths taken
+unfolding Each AllTakenPaths
+all-taken [] paths = tt
+all-taken (one ∷ more) paths = (paths .0, all-taken more (paths .1))
 
 -- paths with the tries of their types are too deep exactly where one of them is
 taken-deep :
@@ -1619,20 +1494,17 @@ pairs-more words types more [] h all = tt
 pairs-more words types more (pair ∷ pairs) h all = (all .0, (omega (arith, all .1 .0), pairs-more words types more pairs h (all .1 .1)))
 
 module _ (words : List ℕ) (good : goodItems words ≡ true) where
-  lawful-items : lawfulItems unknown (itemsOf words) ≡ true
-  lawful-items = and-eq-true-iff (allItems words) _ .0 good .1
-
   pub full-missing :
       (t : ℕ) (results : List Result)
       → typesIn (itemsOf words) ≤ t
       → (place : ℕ)
       → fullStep (itemsOf words) t place results ≡ refused 1 place
-  full-missing t [] h place = rw (type-missing (itemsOf words) lawful-items t h, fullStep)
-  full-missing t (top ∷ rest) h place = rw (type-missing (itemsOf words) lawful-items t h, fullStep)
+  full-missing t [] h place = rw (type-missing (itemsOf words) (good-lawful words good) t h, fullStep)
+  full-missing t (top ∷ rest) h place = rw (type-missing (itemsOf words) (good-lawful words good) t h, fullStep)
 
   module _ (t : ℕ) (known : t < typesIn (itemsOf words)) where
     line : TypeAt (itemsOf words) t
-    line = type-there (itemsOf words) lawful-items t known
+    line = type-there (itemsOf words) (good-lawful words good) t known
 
     pub full-few :
         {codeRun tries : List ℕ} {stack : Stack} (results : List Result)
@@ -1669,10 +1541,10 @@ module _ (words : List ℕ) (good : goodItems words ≡ true) where
         full-pairs = rw (k .added) (k .all-pairs)
 
         pub full-places : AllPairs codeRun 1024 (take more pairs)
-        full-places = pairs-more codeRun (typesIn (itemsOf words)) 1024 (take more pairs) (types-few (itemsOf words) lawful-items) full-pairs
+        full-places = pairs-more codeRun (typesIn (itemsOf words)) 1024 (take more pairs) (types-few (itemsOf words) (good-lawful words good)) full-pairs
 
         pub full-paths : AllTakenPaths taken
-        full-paths = rw same-taken (taken-paths (itemsOf words) (top .paths) t (k .taken) (top-good held .good-paths) (k .required))
+        full-paths = rw same-taken (all-taken (k .taken) (taken-each IsPath (itemsOf words) (top .paths) t (k .taken) (top-good held .good-paths) (k .required)))
 
         full-depth : isTooDeep (addTaken (itemsOf words) (top .trie) taken) ≡ anyTakenDeep words taken
         full-depth =

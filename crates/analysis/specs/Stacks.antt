@@ -13,8 +13,7 @@ use Rattle.rules.specs.StepLaws.{Each, AllGood, IsTrie}
 use Rattle.rules.specs.TypeLaws.{markedLeaf}
 use Rattle.trie.specs.Words.{wordOf}
 use Rattle.trie.specs.States.{rowsIn}
-use Rattle.analysis.specs.Code.{codes, nodesOfAll}
-use Rattle.analysis.specs.Code.{code as codeOf}
+use Rattle.analysis.specs.Code.{codes, nodesOfAll, code as codeOf}
 use Rattle.analysis.specs.Nodes.{IsState}
 use Rattle.analysis.specs.declared.stack.Stack.{Stack}
 use Rattle.analysis.specs.declared.stack.Stepped.{Stepped}

@@ -1,7 +1,6 @@
 -- Laws of the table of types and of the trie of a type (Tables): a type's attributes are passed one after the other. No contract cites this
 -- file.
 use Prim.Native.Nat.{ℕ, zero, suc, _+_, _*_, _/_, _%_, _^_, _≤_, _<_}
-use native.Mathlib.Nat.{add-zero, add-suc, suc-add}
 use native.Mathlib.Numerals.{add-one}
 use native.Mathlib.Omega.{arith}
 use mathlib.Core.Bool.{true, false, and-eq-true-iff}
@@ -11,7 +10,7 @@ use mathlib.Core.Path.{_≡_, refl, sym, ap, _∙_}
 use borrow.Author.Tests.{ltb-true, leb-true, eqb-true, lt-ltb}
 use lib.Dec.{ltb, leb}
 use lib.ListN.{length, take, drop, getD, set, length-set, length-append, length-map, take-append-drop, drop-of-length-le}
-use lib.Seq.{sets, length-sets, drop-cons, take-suc, take-all, getD-set-same, getD-set-other}
+use lib.Seq.{drop-cons, take-suc, take-all, getD-set-same, getD-set-other}
 use Rattle.rules.specs.Facts.{compared, cond-true}
 use Rattle.rules.specs.Listing.{read}
 use Rattle.rules.specs.Tries.{Row}
@@ -21,6 +20,7 @@ use Rattle.rules.specs.TypeLaws.{TypeLines, Below, typesIn, deepest, capped, ca
 use Rattle.trie.specs.Words.{wordOf}
 use Rattle.schema.specs.Items.{itemIn, itemsOf, isItem, allItems, goodItems}
 use Rattle.manifest.specs.Writes.{Wrote}
+use Rattle.manifest.specs.WriteLaws.{wrote-length, wrote-more}
 use Rattle.analysis.specs.Tables.{typeRows, placeIn, depthIn, nodesIn, Sized, Tabled, attributeAt}
 
 -- Items.
@@ -272,24 +272,13 @@ module _ {words table : List ℕ} {types at : ℕ} (filling : Filling words tabl
 
 -- Writing the trie of a type.
 
--- a second run goes to the place after the first
-sets-append : (l : List ℕ) (i : ℕ) (xs ys : List ℕ) → sets (sets l i xs) (i + length xs) ys ≡ sets l i (xs ++ ys)
-sets-append l i [] ys = rw add-zero
-sets-append l i (x ∷ xs) ys = rw (add-suc, ← suc-add) (sets-append (set l i x) (suc i) xs ys)
-
-pub wrote-length : {out xs out′ : List ℕ} {at at′ : ℕ} → Wrote out at xs out′ at′ → length out′ ≡ length out
-wrote-length {out} {xs} {at} w = rw (w .text) (length-sets out at xs)
-
 -- a word after a run, and then another run
 wrote-on :
     {out xs ys out₁ out₂ : List ℕ} {at at₁ at₂ : ℕ} (w : ℕ)
     → Wrote out at xs out₁ at₁
     → Wrote (set out₁ at₁ w) (at₁ + 1) ys out₂ at₂
     → Wrote out at (xs ++ (w ∷ ys)) out₂ at₂
-wrote-on {out} {xs} {ys} {at} w first rest = record {
-  after = omega (arith, first .after, rest .after, length-append xs (w ∷ ys));
-  text = rest .text ∙ rw (first .text, first .after, add-one) (sets-append out at xs (w ∷ ys));
-}
+wrote-on w first rest = wrote-more first (record { after = omega (arith, rest .after); text = rw add-one at (rest .text) })
 
 -- the words of one attribute
 child-words :

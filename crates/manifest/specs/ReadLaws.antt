@@ -4,7 +4,7 @@ use native.Mathlib.Nat.{add-assoc, add-comm, add-sub-cancel-left}
 use native.Mathlib.Numerals.{add-one}
 use native.Mathlib.Omega.{arith}
 use mathlib.Core.Bool.{Bool, true, false, cond, not, _&&_, _||_, and-false, or-true}
-use mathlib.Core.List.{List, [], _∷_, _++_, map, append-nil, nil≢cons, tail-eq-of-cons-eq}
+use mathlib.Core.List.{List, [], _∷_, _++_, map, append-nil, nil≢cons}
 use mathlib.Core.Logic.{_≢_, _⊎_, inl, inr}
 use mathlib.Core.Option.{Option, none, some, Option·none-ne-some, Option·some-injective}
 use mathlib.Core.Path.{_≡_, refl, sym, ap, _∙_}
@@ -12,15 +12,17 @@ use borrow.Author.Tests.{eqb-true, eqb-false, eq-eqb, ne-eqb, le-leb, lt-leb, lt
 use lib.Dec.{eqb, ltb, leb}
 use lib.ListN.{length, getD, take, drop, set, length-drop, length-set, length-map, drop-of-length-le}
 use lib.Seq.{take-all, length-take-le, getD-take, getD-set-same, take-take, take-suc-set, drop-set-add, drop-drop, take-append-seam, drop-append-add, append-snoc, sets}
-use Rattle.rules.specs.Text.{parted, onto, linesOf, fieldsOf, decimalOf, LF, TAB}
+use Rattle.rules.specs.Text.{parted, linesOf, fieldsOf, decimalOf, LF, TAB}
 use Rattle.rules.specs.TextLaws.{parted-split, parted-some, decimal-written}
 use Rattle.rules.specs.Numbers.{Answer, accepted, refused, mostSteps}
-use Rattle.rules.specs.Facts.{by-test, compared}
+use Rattle.rules.specs.Facts.{by-test, compared, cond-some, cond-other, cond-none}
 use Rattle.rules.specs.Tries.{Row, Form, stepOf, requestOf, isEntry, isRow, at, follows}
 use Rattle.rules.specs.TrieLaws.{Follows, follows-true, true-follows}
-use Rattle.rules.specs.Listing.{Sofar, isLetter, placeIn, letters, markOf, read, ofForm, entryOf, nodeOf, rowOf, past, refusal, before, rowsFrom, enteredBy, _>>=_}
+use Rattle.rules.specs.Listing.{Sofar, isLetter, placeIn, letters, markOf, read, ofForm, entryOf, nodeOf, rowOf, past, refusal, before, rowsFrom, enteredBy}
+use Rattle.rules.specs.ListingLaws.{bind-some, place-read}
+use Rattle.text.specs.Before.{before as earlier}
 use Rattle.text.specs.Answers.{lineAt, firstLine, fieldAt, firstField}
-use Rattle.text.proofs.Laws.{more-within, whole-within, letter-none}
+use Rattle.text.proofs.Laws.{more-within, whole-within, parted-whole, parted-cut, drop-some, letter-none}
 use Rattle.text.specs.declared.Line.{Line}
 use Rattle.text.specs.declared.Line.the-variants.{End, Whole, Cut}
 use Rattle.text.specs.declared.Field.{Field}
@@ -49,21 +51,6 @@ parted-next b at s part next more e =
     ∙ drop-append-add part (b ∷ split .0) 1 in
     e ∙ sym (rw (first, behind, split .2))
 
--- a part that stands alone is the whole
-pub parted-one : (b : ℕ) (xs part : List ℕ) → parted b xs ≡ part ∷ [] → parted b xs ≡ xs ∷ []
-unfolding parted
-parted-one b [] part e = refl
-parted-one b (x ∷ xs) part e = go (eqb x b) (λ first h. parted-one b xs first h) (parted-some b xs) e
-  where
-    go : (same : Bool) → ((first : List ℕ) → parted b xs ≡ first ∷ [] → parted b xs ≡ xs ∷ []) →
-        (first : List ℕ) × (others : List (List ℕ)) × (parted b xs ≡ first ∷ others) →
-        cond same ([] ∷ parted b xs) (onto x (parted b xs)) ≡ part ∷ [] →
-        cond same ([] ∷ parted b xs) (onto x (parted b xs)) ≡ (x ∷ xs) ∷ []
-    go true whole some-part e = absurd (nil≢cons (sym (tail-eq-of-cons-eq e) ∙ some-part .2))
-    go false whole some-part e =
-        let alone : some-part .1 ≡ [] = tail-eq-of-cons-eq (rw (some-part .2) at e) in
-        rw (whole (some-part .0) (some-part .2 ∙ rw alone))
-
 -- a field that a tab ends stands in front of the fields behind the tab
 fields-more : (line : List ℕ) (at end : ℕ) (r : Field) → r ≡ fieldAt line at → r ≡ More end →
     fieldsOf (drop at line) ≡ take (end - at) (drop at line) ∷ fieldsOf (drop (end + 1) line)
@@ -90,15 +77,13 @@ field-ends line at end r ensured e =
 -- a last field is all that is left
 pub fields-last : (line : List ℕ) (at : ℕ) (r : Field) → r ≡ fieldAt line at → r ≡ Last →
     fieldsOf (drop at line) ≡ take (length line - at) (drop at line) ∷ []
-fields-last line at r ensured e = go (fieldsOf (drop at line)) refl (sym ensured ∙ e)
-  where
-    go : (fields : List (List ℕ)) → fieldsOf (drop at line) ≡ fields → firstField at fields ≡ Last →
-        fieldsOf (drop at line) ≡ take (length line - at) (drop at line) ∷ []
-    go [] q e = absurd (nil≢cons (sym q ∙ parted-some TAB (drop at line) .2))
-    go (field ∷ []) q e =
-        parted-one TAB (drop at line) field q
-        ∙ rw (take-all (length line - at) (drop at line) (omega (arith, length-drop at line)))
-    go (field ∷ next ∷ fields) q e = absurd (let z : _≡_ {A = ℕ} 0 1 = cc in omega arith)
+fields-last line at r ensured e =
+    compared (at + length (earlier TAB (drop at line))) (length line)
+    (λ h.
+    let (next, others, p) = parted-cut TAB at line h in
+    let other : Last ≡ More (at + length (earlier TAB (drop at line))) = sym e ∙ ensured ∙ ap (firstField at) p in
+    absurd (let z : _≡_ {A = ℕ} 0 1 = cc in omega arith))
+    (λ h. parted-whole TAB at line h ∙ rw (take-all (length line - at) (drop at line) (omega (arith, length-drop at line))))
 
 -- ---- the numbers of a row
 
@@ -120,15 +105,7 @@ place-one xs field h e = ap (placeIn xs) (one-byte field h) ∙ rw e
 
 -- a place among letters is one of theirs
 pub place-within : (xs field : List ℕ) (n : ℕ) → placeIn xs field ≡ some n → n < length xs
-unfolding placeIn
-place-within [] field n e = absurd (Option·none-ne-some n e)
-place-within (x ∷ xs) field n e = go (isLetter x field) (placeIn xs field) (place-within xs field) e
-  where
-    go : (here : Bool) (rest : Option ℕ) → ((m : ℕ) → rest ≡ some m → m < length xs) →
-        cond here (some 0) (rest >>= (λ m. some (m + 1))) ≡ some n → n < suc (length xs)
-    go true rest within e = let first : 0 ≡ n = Option·some-injective 0 n e in omega arith
-    go false none within e = absurd (Option·none-ne-some n e)
-    go false (some m) within e = let next : m + 1 ≡ n = Option·some-injective (m + 1) n e in omega (arith, within m refl)
+place-within xs field n e = place-read xs field n e .0
 
 -- ---- a node's row, by what was tested
 
@@ -242,11 +219,6 @@ module _ (form : Form) (sofar : Sofar) (row : Row) where
 
 -- ---- a row that is taken
 
--- where tests give no number, the first fails and the others give none
-untaken : (test : Bool) (number : ℕ) (rest : Option ℕ) → cond test (some number) rest ≡ none → (test ≡ false) × (rest ≡ none)
-untaken true number rest e = absurd (Option·none-ne-some number (sym e))
-untaken false number rest e = (refl, e)
-
 -- what is known of a row that is not refused
 pub record Allowed (form : Form) (sofar : Sofar) (row : Row) : Type 0 where
   pub near : row .depth ≤ length (sofar .place)
@@ -256,11 +228,11 @@ pub record Allowed (form : Form) (sofar : Sofar) (row : Row) : Type 0 where
 
 pub refusal-none : (form : Form) (sofar : Sofar) (row : Row) → refusal form sofar row ≡ none → Allowed form sofar row
 refusal-none form sofar row e =
-    let (_, unsecond) = untaken ((form .single && isEntry row) && ltb 0 (sofar .entries)) 1 _ e in
-    let (after, in-order) = untaken (not (follows (sofar .place) row)) 2 _ unsecond in
-    let (shallow, not-deep) = untaken (ltb mostSteps (row .depth)) 3 _ in-order in
-    let (entries, one-more) = untaken (isEntry row && leb (form .entries) (sofar .entries)) 5 _ not-deep in
-    let (nodes, _) = untaken (not (isEntry row) && leb (form .nodes) (sofar .nodes)) 4 _ one-more in
+    let (_, unsecond) = cond-none {A = ℕ} ((form .single && isEntry row) && ltb 0 (sofar .entries)) 1 _ .0 e in
+    let (after, in-order) = cond-none {A = ℕ} (not (follows (sofar .place) row)) 2 _ .0 unsecond in
+    let (shallow, not-deep) = cond-none {A = ℕ} (ltb mostSteps (row .depth)) 3 _ .0 in-order in
+    let (entries, one-more) = cond-none {A = ℕ} (isEntry row && leb (form .entries) (sofar .entries)) 5 _ .0 not-deep in
+    let (nodes, _) = cond-none {A = ℕ} (not (isEntry row) && leb (form .nodes) (sofar .nodes)) 4 _ .0 one-more in
     record {
       near = follows-true (sofar .place) row (not-false (follows (sofar .place) row) after) .near;
       shallow = ltb-false mostSteps (row .depth) shallow;
@@ -268,42 +240,28 @@ refusal-none form sofar row e =
       node-fits = λ z. leb-false (form .nodes) (sofar .nodes) (rw (ne-eqb (row .depth) 0 z) at nodes);
     }
 
--- a step that has a value has both
-pub bind-some : {A B : Type 0} (o : Option A) (then : A → Option B) (b : B) → (o >>= then) ≡ some b → (a : A) × (o ≡ some a) × (then a ≡ some b)
-bind-some none then b e = absurd (Option·none-ne-some b e)
-bind-some (some a) then b e = (a, refl, e)
-
 -- a line's row fits its word: an entry's request type has 48 bits and no mark, a node's step 19
 abbrev pub RowFits : Row → Type 0
 RowFits row = (row .step < cond (isEntry row) (2 ^ 48) (2 ^ 19)) × (row .depth ≡ 0 → row .mark ≡ false)
 
 entry-fits : (b c d : List ℕ) (row : Row) → entryOf b c d ≡ some row → RowFits row
 entry-fits b c d row e =
-    let (p, p-read, e₁) = bind-some (decimalOf b) _ row e in
-    let (a, a-read, e₂) = bind-some (decimalOf c) _ row e₁ in
-    let (r, r-read, e₃) = bind-some (decimalOf d) _ row e₂ in
+    bind-some (decimalOf b) _ row e λ p p-read e₁.
+    bind-some (decimalOf c) _ row e₁ λ a a-read e₂.
+    bind-some (decimalOf d) _ row e₂ λ r r-read e₃.
     let small : requestOf p a r < 2 ^ 48 = omega (arith, decimal-written b p p-read .1, decimal-written c a a-read .1, decimal-written d r r-read .1) in
     rw (← Option·some-injective (read 0 (requestOf p a r) false) row e₃) (small, λ z. refl)
 
 node-fits : (b c d f : List ℕ) (row : Row) → nodeOf b c d f ≡ some row → RowFits row
 node-fits b c d f row e =
-    let (n, n-read, e₁) = bind-some (decimalOf b) _ row e in
-    let (kind, kind-read, e₂) = bind-some (placeIn letters c) _ row e₁ in
-    let (id, id-read, e₃) = bind-some (decimalOf d) _ row e₂ in
-    let (m, m-read, e₄) = bind-some (markOf f) _ row e₃ in
+    bind-some (decimalOf b) _ row e λ n n-read e₁.
+    bind-some (placeIn letters c) _ row e₁ λ kind kind-read e₂.
+    bind-some (decimalOf d) _ row e₂ λ id id-read e₃.
+    bind-some (markOf f) _ row e₃ λ m m-read e₄.
     let small : stepOf kind id < 2 ^ 19 = omega (arith, place-within letters c kind kind-read, decimal-written d id id-read .1) in
-    go n kind id m small (eqb n 0) refl (isRow (read n (stepOf kind id) m)) e₄
-  where
-    go : (n kind id : ℕ) (m : Bool) → stepOf kind id < 2 ^ 19 → (flat : Bool) → eqb n 0 ≡ flat → (whole : Bool) →
-        cond flat none (cond whole (some (read n (stepOf kind id) m)) none) ≡ some row → RowFits row
-    go n kind id m small true q whole e = absurd (Option·none-ne-some row e)
-    go n kind id m small false q false e = absurd (Option·none-ne-some row e)
-    go n kind id m small false q true e = rw (← Option·some-injective (read n (stepOf kind id) m) row e, q) (small, λ z. absurd (eqb-false n 0 q z))
-
--- a test that gives a value holds, and what it guards gives that value
-cond-some : {A B : Type 0} (test : Bool) (o : Option A) (a : A) → cond test o none ≡ some a → (o ≡ some a → B) → B
-cond-some true o a e then = then e
-cond-some false o a e then = absurd (Option·none-ne-some a e)
+    let (deep, e₅) = cond-other (eqb n 0) _ row e₄ in
+    let (_, e₆) = cond-some (isRow (read n (stepOf kind id) m)) _ row e₅ in
+    rw (← Option·some-injective (read n (stepOf kind id) m) row e₆, deep) (small, λ z. absurd (eqb-false n 0 deep z))
 
 pub row-fits : (fields : List (List ℕ)) (row : Row) → rowOf fields ≡ some row → RowFits row
 unfolding rowOf
@@ -311,8 +269,8 @@ row-fits [] row e = absurd (Option·none-ne-some row e)
 row-fits (a ∷ []) row e = absurd (Option·none-ne-some row e)
 row-fits (a ∷ b ∷ []) row e = absurd (Option·none-ne-some row e)
 row-fits (a ∷ b ∷ c ∷ []) row e = absurd (Option·none-ne-some row e)
-row-fits (a ∷ b ∷ c ∷ d ∷ []) row e = cond-some (isLetter 65 a) (entryOf b c d) row e (entry-fits b c d row)
-row-fits (a ∷ b ∷ c ∷ d ∷ f ∷ []) row e = cond-some (isLetter 78 a) (nodeOf b c d f) row e (node-fits b c d f row)
+row-fits (a ∷ b ∷ c ∷ d ∷ []) row e = entry-fits b c d row (cond-some (isLetter 65 a) (entryOf b c d) row e .1)
+row-fits (a ∷ b ∷ c ∷ d ∷ f ∷ []) row e = node-fits b c d f row (cond-some (isLetter 78 a) (nodeOf b c d f) row e .1)
 row-fits (a ∷ b ∷ c ∷ d ∷ f ∷ g ∷ more) row e = absurd (Option·none-ne-some row e)
 
 -- the step of a row that may come, stored at its depth, makes the row's place the front
@@ -390,18 +348,20 @@ lines-whole text at end r ensured e = go (linesOf (drop at text)) refl (sym ensu
         let place : at + length line ≡ end = cc in
         parted-next LF at text line next lines q ∙ rw (← place, add-sub-cancel-left)
 
+-- what is left without an LF is one line, and not an empty one
+pub lines-cut : (text : List ℕ) (at : ℕ) (r : Line) → r ≡ lineAt text at → ((end : ℕ) → r ≡ Whole end → ⊥) → at < length text →
+    (linesOf (drop at text) ≡ drop at text ∷ []) × (eqb (length (drop at text)) 0 ≡ false)
+lines-cut text at r ensured unended more =
+    compared (at + length (earlier LF (drop at text))) (length text)
+    (λ h. let (next, others, p) = parted-cut LF at text h in absurd (unended _ (ensured ∙ ap (firstLine at) p)))
+    (λ h. (parted-whole LF at text h, drop-some at text more))
+
 module _ (form : Form) (sofar : Sofar) (place : ℕ) where
-  -- what is left without an LF is a line of no form
+  -- it is a line of no form
   rows-cut : (text : List ℕ) (at : ℕ) (r : Line) → r ≡ lineAt text at → ((end : ℕ) → r ≡ Whole end → ⊥) → at < length text →
       rowsFrom form sofar place (linesOf (drop at text)) ≡ refused 1 place
   unfolding rowsFrom
-  rows-cut text at r ensured unended inside = go (linesOf (drop at text)) refl ensured
-    where
-      go : (lines : List (List ℕ)) → linesOf (drop at text) ≡ lines → r ≡ firstLine at lines → rowsFrom form sofar place (linesOf (drop at text)) ≡ refused 1 place
-      go [] q e = absurd (nil≢cons (sym q ∙ parted-some LF (drop at text) .2))
-      go (line ∷ []) q e =
-          rw (parted-one LF (drop at text) line q, ne-eqb (length (drop at text)) 0 (omega (arith, length-drop at text)))
-      go (line ∷ next ∷ lines) q e = absurd (unended (at + length line) e)
+  rows-cut text at r ensured unended inside = let (alone, some-byte) = lines-cut text at r ensured unended inside in rw (alone, some-byte)
 
   module _ (line rest : List ℕ) where
     -- a row that is not refused comes before those of the lines behind it

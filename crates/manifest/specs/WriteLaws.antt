@@ -8,7 +8,7 @@ use mathlib.Core.List.{List, [], _∷_, _++_}
 use mathlib.Core.Path.{_≡_, refl, sym, ap, _∙_}
 use mathlib.Core.Logic.{_≢_}
 use borrow.Author.Tests.{ltb-true, leb-true, le-leb, lt-leb, ne-eqb}
-use lib.Dec.{leb, ltb, eqb}
+use lib.Dec.{leb, ltb}
 use lib.ListN.{length, getD, drop, set, drop-of-length-le, length-append}
 use lib.Seq.{sets, length-sets, drop-cons, append-snoc}
 use Rattle.rules.specs.Facts.{by-test}
@@ -18,9 +18,6 @@ use Rattle.rules.specs.Tries.{
   Row,
   isEntry,
   isRow,
-  isStep,
-  isRoot,
-  isType,
   kindOf,
   idOf,
   principalOf,
@@ -31,7 +28,7 @@ use Rattle.rules.specs.Tries.{
   entriesIn,
   nodesIn,
 }
-use Rattle.rules.specs.TrieLaws.{Ordered, ordered-true}
+use Rattle.rules.specs.TrieLaws.{Ordered, ordered-true, node-step}
 use Rattle.rules.specs.Listing.{lineOf, letters, fieldsFor, listing, read}
 use Rattle.trie.specs.Words.{depthIn, stepIn, markIn, rowOf, isWord}
 use Rattle.trie.specs.WordLaws.{is-row}
@@ -52,12 +49,12 @@ sets-append l i [] ys = rw add-zero
 sets-append l i (x ∷ xs) ys = rw (add-suc, ← suc-add) (sets-append (set l i x) (suc i) xs ys)
 
 -- what is written keeps the length
-wrote-length : {out xs out′ : List ℕ} {at at′ : ℕ} → Wrote out at xs out′ at′ → length out′ ≡ length out
+pub wrote-length : {out xs out′ : List ℕ} {at at′ : ℕ} → Wrote out at xs out′ at′ → length out′ ≡ length out
 wrote-length {out} {xs} {at} w = rw (w .text) (length-sets out at xs)
 
 module _ {out xs ys out₁ out₂ : List ℕ} {at at₁ at₂ : ℕ} (first : Wrote out at xs out₁ at₁) where
   -- a run after a run
-  wrote-more : Wrote out₁ at₁ ys out₂ at₂ → Wrote out at (xs ++ ys) out₂ at₂
+  pub wrote-more : Wrote out₁ at₁ ys out₂ at₂ → Wrote out at (xs ++ ys) out₂ at₂
   wrote-more rest = record {
     after = omega (arith, length-append xs ys);
     text = rest .text ∙ rw (first .text, first .after) (sets-append out at xs ys);
@@ -186,12 +183,7 @@ module _ {start words out : List ℕ} {at i : ℕ} (leads : Leads start words ou
 
 -- a node's step is of six kinds
 node-kind : (row : Row) → isRow row ≡ true → isEntry row ≡ false → kindOf (row .step) ≤ 5
-node-kind row whole e =
-    leb-true _ _ (both-true (leb (kindOf (row .step)) 5) _ (is-step (eqb (row .depth) 1) (both-true _ (isType (row .type)) (rw e at whole) .0)) .0)
-  where
-    is-step : (top : Bool) → cond top (isRoot (row .step)) (isStep (row .step)) ≡ true → isStep (row .step) ≡ true
-    is-step true h = both-true (isStep (row .step)) _ h .0
-    is-step false h = h
+node-kind row whole e = leb-true _ _ (both-true (leb (kindOf (row .step)) 5) _ (node-step row whole e) .0)
 
 -- The line of a word, by the parts that were read from it.
 module _ (w : ℕ) {depth step : ℕ} (depths : depth ≡ depthIn w) (steps : step ≡ stepIn w) where

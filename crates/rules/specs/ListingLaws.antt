@@ -77,12 +77,12 @@ use Rattle.rules.specs.TextLaws.{
   decimal-written,
   free-decimal,
 }
-use Rattle.rules.specs.TrieLaws.{Follows, follows-true, true-follows, Ordered, ordered-true, true-ordered, entry-unmarked, bare}
+use Rattle.rules.specs.TrieLaws.{Follows, follows-true, true-follows, Ordered, ordered-true, true-ordered, entry-unmarked, node-step, bare}
 
 -- A line that is read.
 
 -- what is read after another was read
-bind-some :
+pub bind-some :
     {A B P : Type 0} (o : Option A) (next : A → Option B) (b : B)
     → (o >>= next) ≡ some b
     → ((a : A) → o ≡ some a → next a ≡ some b → P)
@@ -97,7 +97,7 @@ letter-read letter (byte ∷ []) e = rw (eqb-true byte letter e)
 letter-read letter (byte ∷ more ∷ field) e = absurd (false≢true e)
 
 -- a letter that is found among some letters stands at its place
-place-read :
+pub place-read :
     (among field : List ℕ) (n : ℕ) → placeIn among field ≡ some n → (n < length among) × (field ≡ getD among n 0 ∷ [])
 unfolding placeIn
 place-read [] field n e = absurd (Option·none-ne-some n e)
@@ -227,12 +227,7 @@ node-written :
 unfolding rowOf
 node-written row h shallow e =
     let (of-step, _) = and-eq-true-iff (cond (eqb (row .depth) 1) (isRoot (row .step)) (isStep (row .step))) _ .0 (rw e at h) in
-    let step : isStep (row .step) ≡ true =
-    by-test (eqb (row .depth) 1)
-    (λ o. and-eq-true-iff (isStep (row .step)) _ .0 (rw o at of-step) .0)
-    (λ o. rw o at of-step)
-    in
-    let few : kindOf (row .step) ≤ 5 = leb-true _ _ (and-eq-true-iff (leb (kindOf (row .step)) 5) _ .0 step .0) in
+    let few : kindOf (row .step) ≤ 5 = leb-true _ _ (and-eq-true-iff (leb (kindOf (row .step)) 5) _ .0 (node-step row h e) .0) in
     let same : stepOf (kindOf (row .step)) (idOf (row .step)) ≡ row .step = omega arith in
     rw (
       e,
@@ -455,12 +450,12 @@ module _ (form : Form) where
       )
 
 -- an answer that accepts rows accepts no others
-accepted-same : (a b : List Row) → accepted a ≡ accepted b → a ≡ b
+pub accepted-same : {A : Type 0} (a b : A) → accepted a ≡ accepted b → a ≡ b
 accepted-same a b e = cc
 
 -- and it is no refusal
-refused-not : (number place : ℕ) (rows : List Row) → refused number place ≡ accepted rows → ⊥
-refused-not number place rows e = let z : _≡_ {A = ℕ} 0 1 = cc in omega arith
+pub refused-not : {A B : Type 0} (number place : ℕ) (a : A) → refused number place ≡ accepted a → B
+refused-not number place a e = let z : _≡_ {A = ℕ} 0 1 = cc in absurd (omega arith)
 
 -- rows that are accepted behind a row are that row and others that were accepted
 before-accepted :
@@ -469,7 +464,7 @@ before-accepted :
     → ((others : List Row) → answer ≡ accepted others → row ∷ others ≡ rows → P)
     → P
 before-accepted row (accepted others) rows e then = then others refl (accepted-same (row ∷ others) rows e)
-before-accepted row (refused number place) rows e then = absurd (refused-not number place rows e)
+before-accepted row (refused number place) rows e then = refused-not number place rows e
 
 -- rows that are read from a text: they are written as the text, may come one after the other, and have no types
 record ReadFrom (form : Form) (sofar : Sofar) (text : List ℕ) (rows : List Row) : Type 0 where
@@ -509,10 +504,10 @@ module _ (form : Form) where
   lines-read [] sofar place rows e = nothing-read sofar rows e
   lines-read ([] ∷ []) sofar place rows e = nothing-read sofar rows e
   lines-read ((byte ∷ line) ∷ []) sofar place rows e =
-      absurd (refused-not 1 place rows (rw (ne-eqb (suc (length line)) 0 (omega arith)) at e))
+      refused-not 1 place rows (rw (ne-eqb (suc (length line)) 0 (omega arith)) at e)
   lines-read (line ∷ next ∷ lines) sofar place rows e =
       by-option (rowOf (fieldsOf line))
-      (λ q. absurd (refused-not 1 place rows (rw (q, rowsFrom) at e)))
+      (λ q. refused-not 1 place rows (rw (q, rowsFrom) at e))
       (λ row q.
       by-option (refusal form sofar row)
       (λ r.
@@ -522,7 +517,7 @@ module _ (form : Form) where
       (ReadFrom form sofar (line ++ LF ∷ joinedBy LF (next ∷ lines)))
       same
       (line-read sofar line _ row others q r (lines-read (next ∷ lines) (past sofar row) (place + 1) others f))))
-      (λ number r. absurd (refused-not number place rows (rw (q, rowsFrom, r, rowsFrom) at e))))
+      (λ number r. refused-not number place rows (rw (q, rowsFrom, r, rowsFrom) at e)))
 
 -- Texts.
 
@@ -578,7 +573,7 @@ entered :
 entered form (accepted []) rows = (
   λ e.
       by-test (form .single)
-      (λ s. absurd (refused-not 1 0 rows (rw s at e)))
+      (λ s. refused-not 1 0 rows (rw s at e))
       (λ s. (rw s at e, λ t. absurd (false≢true (sym s ∙ t)))),
   λ (e, some-row). by-test (form .single) (λ s. absurd (some-row s (sym (accepted-same [] rows e)))) (λ s. rw s e),
 )
@@ -586,7 +581,7 @@ entered form (accepted (row ∷ others)) rows = (
   λ e. (e, λ _ empty. nil≢cons (sym (accepted-same (row ∷ others) rows e ∙ empty))),
   λ (e, _). e,
 )
-entered form (refused number place) rows = (λ e. absurd (refused-not number place rows e), λ (e, _). e)
+entered form (refused number place) rows = (λ e. refused-not number place rows e, λ (e, _). e)
 
 -- What is written for a lawful run is read as the run, but for its types.
 pub written-read :

@@ -25,7 +25,7 @@ use Rattle.rules.specs.Paths.{
   toRootAccessTrieWithLeaf,
   addPaths,
 }
-use Rattle.rules.specs.Steps.{Run, Result, result, stepFrom, wrapped, isTooDeep, apply, runFrom, run, analyse}
+use Rattle.rules.specs.Steps.{Run, result, stepFrom, wrapped, isTooDeep, apply, runFrom, run, analyse}
 
 -- A case: step texts, what each comes to, and the listing once the contributions of those that are accepted are added to an empty
 -- manifest, all under request type (10, 500, 20).

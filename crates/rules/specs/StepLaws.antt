@@ -8,8 +8,8 @@ use mathlib.Core.Option.{Option, none, some, Option·none-ne-some, Option·some-
 use lib.Dec.{leb, ltb, eqb}
 use lib.ListN.{length, take, getD, length-append}
 use lib.Seq.{take-append-add, getD-append-add, take-all, append-snoc}
-use borrow.Author.Tests.{ltb-true, ltb-false, leb-true, eqb-true, eqb-false, le-ltb, ne-eqb}
-use Rattle.rules.specs.Numbers.{accepted, refused, firstOf, mostSteps}
+use borrow.Author.Tests.{ltb-false, leb-true, eqb-false, le-ltb, ne-eqb}
+use Rattle.rules.specs.Numbers.{accepted, firstOf, mostSteps}
 use Rattle.rules.specs.Text.{bytes, decimalOf}
 use Rattle.rules.specs.TextLaws.{decimal-written}
 use Rattle.rules.specs.Facts.{by-test, by-option, cond-true, cond-some, cond-none}
@@ -19,11 +19,13 @@ use Rattle.rules.specs.TrieLaws.{
   Ordered,
   ordered-true,
   true-ordered,
+  node-step,
   Turns,
   no-left,
   no-right,
   left,
   right,
+  both as together,
   union-turns,
   bare,
   union-ordered,
@@ -32,8 +34,9 @@ use Rattle.rules.specs.TrieLaws.{
   union-associative,
   union-left-length,
 }
-use Rattle.rules.specs.TrieLaws.{both as together}
-use Rattle.rules.specs.Listing.{read, _>>=_, isLetter, placeIn}
+use Rattle.rules.specs.Listing.{read, _>>=_, placeIn}
+use Rattle.rules.specs.ListingLaws.{bind-some, place-read, accepted-same, refused-not}
+use Rattle.rules.specs.TypeLaws.{deepest, path-deep, union-too-deep}
 use Rattle.rules.specs.Schema.{
   Item,
   Known,
@@ -246,27 +249,8 @@ cond-given :
 cond-given true o p a e first-then second-then = first-then e
 cond-given false o p a e first-then second-then = second-then e
 
--- what is given after another was given
-bind-given :
-    {A B P : Type 0} (o : Option A) (next : A → Option B) (b : B)
-    → (o >>= next) ≡ some b
-    → ((a : A) → o ≡ some a → next a ≡ some b → P)
-    → P
-bind-given none next b e then = absurd (Option·none-ne-some b e)
-bind-given (some a) next b e then = then a refl e
-
--- tests in another order
-or-swap : (a b c : Bool) → (a || (b || c)) ≡ (b || (a || c))
-or-swap true true c = refl
-or-swap true false c = refl
-or-swap false b c = refl
-
-or-twice : (a b c : Bool) → (a || (b || c)) ≡ ((a || b) || (a || c))
-or-twice true b c = refl
-or-twice false b c = refl
-
 -- of two tests neither is true
-or-neither : (a b : Bool) → (a || b) ≡ false → (a ≡ false) × (b ≡ false)
+pub or-neither : (a b : Bool) → (a || b) ≡ false → (a ≡ false) × (b ≡ false)
 or-neither true b e = absurd (true≢false e)
 or-neither false b e = (refl, e)
 
@@ -311,20 +295,9 @@ bare-good word step e =
 
 rec-good : (names : List (List ℕ)) (step : Step) → recOf names ≡ some step → GoodStep step
 rec-good names step e =
-    bind-given (ascending 0 names) _ step e λ ns _ e.
+    bind-some (ascending 0 names) _ step e λ ns _ e.
     cond-given (leb (length ns) 32) (some (rec (reversed ns))) _ step e (step-given (rec (reversed ns)) step tt) λ e.
     absurd (Option·none-ne-some step e)
-
--- a letter that is found stands among the letters
-place-inside : (among name : List ℕ) (n : ℕ) → placeIn among name ≡ some n → n < length among
-unfolding placeIn
-place-inside [] name n e = absurd (Option·none-ne-some n e)
-place-inside (x ∷ xs) name n e =
-    cond-given (isLetter x name) (some 0) _ n e
-    (λ e. omega (arith, Option·some-injective 0 n e))
-    (λ e.
-    bind-given (placeIn xs name) (λ m. some (m + 1)) n e λ m at-m e.
-    omega (arith, Option·some-injective (m + 1) n e, place-inside xs name m at-m))
 
 -- `p a r c` are roots, and so is a literal entity
 variable-root : (kind : ℕ) → kind < 4 → isRoot (stepOf (suc kind) 0) ≡ true
@@ -341,21 +314,21 @@ with-good : (word name : List ℕ) (step : Step) → stepWith word name ≡ some
 with-good word name step e =
     cond-given (isText (bytes "var") word) _ _ step e
     (λ e.
-    bind-given (placeIn (bytes "parc") name) _ step e λ kind at-kind e.
-    step-given (root (stepOf (suc kind) 0)) step (variable-root kind (place-inside (bytes "parc") name kind at-kind)) e)
+    bind-some (placeIn (bytes "parc") name) _ step e λ kind at-kind e.
+    step-given (root (stepOf (suc kind) 0)) step (variable-root kind (place-read (bytes "parc") name kind at-kind .0)) e)
     λ e.
     cond-given (isText (bytes "lit") word) _ _ step e
     (λ e.
-    bind-given (decimalOf name) _ step e λ id number e.
+    bind-some (decimalOf name) _ step e λ id number e.
     step-given (root (stepOf literals id)) step (literal-root id (decimal-written name id number .1)) e)
     λ e.
     cond-given (isText (bytes "attr") word) _ _ step e
     (λ e.
-    bind-given (decimalOf name) _ step e λ f number e.
+    bind-some (decimalOf name) _ step e λ f number e.
     step-given (attr f) step (omega (arith, decimal-written name f number .1)) e)
     λ e.
     cond-given (isText (bytes "full") word) _ _ step e
-    (λ e. bind-given (decimalOf name) _ step e λ t number e. step-given (full t) step tt e)
+    (λ e. bind-some (decimalOf name) _ step e λ t number e. step-given (full t) step tt e)
     λ e.
     cond-given (isText (bytes "rec") word) _ _ step e (rec-good (name ∷ []) step) λ e.
     absurd (Option·none-ne-some step e)
@@ -370,22 +343,6 @@ step-good (word ∷ name ∷ more ∷ names) step e =
     cond-given (isText (bytes "rec") word) _ _ step e (rec-good (name ∷ more ∷ names) step) λ e. absurd (Option·none-ne-some step e)
 
 -- What is too deep.
-
--- turn by turn, rows are too deep where those of one of the two are
-turns-deep : {a b c : List Row} → Turns a b c → isTooDeep c ≡ (isTooDeep a || isTooDeep b)
-unfolding isTooDeep
-turns-deep no-left = refl
-turns-deep no-right = rw or-false
-turns-deep (left {x = x} {y = y} {a = a} {b = b} h more) =
-    rw (turns-deep more) (sym (or-assoc (ltb mostSteps (x .depth)) (isTooDeep a) (isTooDeep (y ∷ b))))
-turns-deep (right {x = x} {y = y} {a = a} {b = b} h more) =
-    rw (turns-deep more) (or-swap (ltb mostSteps (y .depth)) (isTooDeep (x ∷ a)) (isTooDeep b))
-turns-deep (together {x = x} {y = y} {a = a} {b = b} h more) =
-    rw (turns-deep more, ← h .depths) (or-twice (ltb mostSteps (x .depth)) (isTooDeep a) (isTooDeep b))
-
--- A union is too deep exactly where one of the two is.
-pub too-deep-union : (a b : List Row) → isTooDeep (union a b) ≡ (isTooDeep a || isTooDeep b)
-too-deep-union a b = turns-deep (union-turns a b)
 
 -- paths that go into a trie are tries that are added to it
 pub add-paths-all : (trie : List Row) (paths : List Path) (leaf : Leaf) → addPaths trie paths leaf ≡ unionAll trie (triesOf paths leaf)
@@ -410,7 +367,7 @@ all-deep : (trie : List Row) (tries : List (List Row)) → isTooDeep (unionAll t
 unfolding unionAll anyTooDeep
 all-deep trie [] = rw or-false
 all-deep trie (more ∷ tries) =
-    rw (all-deep (union trie more) tries, too-deep-union trie more) (or-assoc (isTooDeep trie) (isTooDeep more) (anyTooDeep tries))
+    rw (all-deep (union trie more) tries, union-too-deep trie more) (or-assoc (isTooDeep trie) (isTooDeep more) (anyTooDeep tries))
 
 -- Paths that go into a trie take no row from it.
 pub add-paths-length : (trie : List Row) (paths : List Path) (leaf : Leaf) → length trie ≤ length (addPaths trie paths leaf)
@@ -433,7 +390,7 @@ add-taken-deep items trie taken = rw (add-taken-all items trie taken) (all-deep 
 -- Unions of tries.
 
 -- turn by turn, untyped nodes give untyped nodes
-turns-plain : {a b c : List Row} → Turns a b c → Each Plain a → Each Plain b → Each Plain c
+pub turns-plain : {a b c : List Row} → Turns a b c → Each Plain a → Each Plain b → Each Plain c
 unfolding Each
 turns-plain no-left pa pb = pb
 turns-plain no-right pa pb = pa
@@ -524,7 +481,7 @@ unfolding unionAll Each anyTooDeep
 all-trie [] trie t ts shallow = t
 all-trie (more ∷ tries) trie t ts shallow =
     let (first, _) = or-neither _ (anyTooDeep tries) (sym (all-deep (union trie more) tries) ∙ shallow) in
-    let (_, second) = or-neither (isTooDeep trie) _ (sym (too-deep-union trie more) ∙ first) in
+    let (_, second) = or-neither (isTooDeep trie) _ (sym (union-too-deep trie more) ∙ first) in
     all-trie tries (union trie more) (union-trie trie more t (ts .0 second)) (ts .1) shallow
 
 -- Rows below a node, and rows behind an entry.
@@ -533,14 +490,6 @@ all-trie (more ∷ tries) trie t ts shallow =
 unfoldable Nodes : List ℕ → List Row → Type 0
 Nodes s [] = Unit
 Nodes s (row ∷ rows) = (isRow row ≡ true) × Plain row × Follows s row × Nodes (at s row) rows
-
--- a node's step is a step
-node-step : (row : Row) → isRow row ≡ true → isEntry row ≡ false → isStep (row .step) ≡ true
-node-step row h e =
-    let (of-step, _) = and-eq-true-iff (cond (eqb (row .depth) 1) (isRoot (row .step)) (isStep (row .step))) _ .0 (rw e at h) in
-    by-test (eqb (row .depth) 1)
-    (λ o. and-eq-true-iff (isStep (row .step)) _ .0 (rw o at of-step) .0)
-    (λ o. rw o at of-step)
 
 -- the rows of a trie may stand below a node
 trie-below : (rows : List Row) → IsTrie rows → Below 1 (0 ∷ []) rows
@@ -628,7 +577,7 @@ StepsAt d [] = Unit
 StepsAt d (step ∷ steps) = (cond (eqb d 1) (isRoot step) (isStep step) ≡ true) × StepsAt (suc d) steps
 
 -- a field is a step
-field-step : (f : ℕ) → f < 65536 → isStep f ≡ true
+pub field-step : (f : ℕ) → f < 65536 → isStep f ≡ true
 field-step f h = let kind : kindOf f ≡ 0 = omega arith in simp (kind, or-true)
 
 -- the steps of a root and fields stand at their depths
@@ -702,28 +651,6 @@ below-path path rows low b = go (ended 0 path)
         rw (e .whole, ← e .size, ← append-nil (deeper (length (e .front)) rows))
         (below-nodes (e .front ++ (e .last ∷ [])) _ (moved 2 (e .front) 0 (e .last) [] (omega arith) (λ q. tt) rows [] b))
 
--- what is too deep in one run after another
-deep-append : (a b : List Row) → isTooDeep (a ++ b) ≡ (isTooDeep a || isTooDeep b)
-unfolding isTooDeep
-deep-append [] b = refl
-deep-append (row ∷ rows) b = rw (deep-append rows b) (sym (or-assoc (ltb mostSteps (row .depth)) (isTooDeep rows) (isTooDeep b)))
-
--- a path's nodes are not too deep exactly where its last one is not
-chain-shallow : (path : Path) (d : ℕ) (mark : Bool) → d + length path ≤ 25 → isTooDeep (chain d mark path) ≡ false
-unfolding isTooDeep chain
-chain-shallow [] d mark h = refl
-chain-shallow (step ∷ []) d mark h = rw (le-ltb mostSteps d (omega arith))
-chain-shallow (step ∷ next ∷ path) d mark h =
-    rw (le-ltb mostSteps d (omega arith)) (chain-shallow (next ∷ path) (suc d) mark (omega arith))
-
-shallow-chain :
-    (path : Path) (d : ℕ) (mark : Bool) → 1 ≤ length path → isTooDeep (chain d mark path) ≡ false → d + length path ≤ 25
-unfolding isTooDeep chain
-shallow-chain [] d mark low h = absurd (omega arith)
-shallow-chain (step ∷ []) d mark low h = omega (arith, ltb-false mostSteps d (or-neither (ltb mostSteps d) _ h .0))
-shallow-chain (step ∷ next ∷ path) d mark low h =
-    omega (arith, shallow-chain (next ∷ path) (suc d) mark (omega arith) (or-neither (ltb mostSteps d) _ h .1))
-
 -- a path has a first step
 pub stepped-some : (path : Path) → Stepped path → 1 ≤ length path
 unfolding Stepped
@@ -758,38 +685,15 @@ module _ (path : Path) (leaf : Leaf) where
   -- where it is not too deep the path has at most 24 steps
   pub path-short : Stepped path → isTooDeep (toRootAccessTrieWithLeaf path leaf) ≡ false → IsPath path
   path-short steps shallow =
-      by-test (eqb (length path) 1 && isEmptyLeaf leaf)
-      (λ e. record { steps = steps; short = omega (arith, eqb-true (length path) 1 (and-eq-true-iff (eqb (length path) 1) _ .0 e .0)) })
-      (λ e.
-      let parts = deep-append (chain 1 (leaf .mark) path) (deeper (length path) (leaf .below)) in
-      let first = or-neither (isTooDeep (chain 1 (leaf .mark) path)) _ (sym parts ∙ sym (ap isTooDeep (path-rows e)) ∙ shallow) .0 in
-      record { steps = steps; short = omega (arith, shallow-chain path 1 (leaf .mark) (stepped-some path steps) first) })
+      let deep = path-deep path leaf (stepped-some path steps) in
+      record { steps = steps; short = omega (arith, ltb-false 24 (length path + deepest (leaf .below)) (sym deep ∙ shallow)) }
 
 -- The trie of a path of at most 24 steps with nothing below its last node is a trie.
 pub short-trie : (path : Path) (mark : Bool) → IsPath path → IsTrie (toRootAccessTrieWithLeaf path (record { mark = mark; below = [] }))
-unfolding Below deeper isTooDeep
-short-trie path mark p = path-trie path (record { mark = mark; below = [] }) (p .steps) (record { in-order = tt }) shallow
-  where
-    shallow : isTooDeep (toRootAccessTrieWithLeaf path (record { mark = mark; below = [] })) ≡ false
-    shallow =
-        by-test (eqb (length path) 1 && isEmptyLeaf (record { mark = mark; below = [] }))
-        (λ e. rw (no-rows path (record { mark = mark; below = [] }) e))
-        (λ e.
-        rw (path-rows path (record { mark = mark; below = [] }) e, append-nil)
-        (chain-shallow path 1 mark (omega (arith, p .short))))
-
--- Of a root and fields with nothing below the last node the trie is too deep exactly where there are more than 24 steps.
-pub path-deep :
-    (path : Path) (mark : Bool)
-    → Stepped path
-    → isTooDeep (toRootAccessTrieWithLeaf path (record { mark = mark; below = [] })) ≡ ltb 24 (length path)
-path-deep path mark steps =
-    by-test (ltb 24 (length path))
-    (λ e.
-    by-test (isTooDeep (toRootAccessTrieWithLeaf path (record { mark = mark; below = [] })))
-    (λ deep. deep ∙ sym e)
-    (λ shallow. absurd (omega (arith, ltb-true 24 (length path) e, path-short path (record { mark = mark; below = [] }) steps shallow .short))))
-    (λ e. trie-shallow _ (short-trie path mark (record { steps = steps; short = ltb-false _ _ e })) ∙ sym e)
+unfolding Below deepest
+short-trie path mark p =
+    path-trie path (record { mark = mark; below = [] }) (p .steps) (record { in-order = tt })
+    (path-deep path (record { mark = mark; below = [] }) (stepped-some path (p .steps)) ∙ le-ltb 24 (length path + 0) (omega (arith, p .short)))
 
 -- Leaves.
 
@@ -1016,8 +920,8 @@ attr-each P Q f grow keep (AccessPath path) after h e =
     rw (← Option·some-injective (AccessPath (path ++ (f ∷ []))) after e) (grow path (h .0), tt)
 attr-each P Q f grow keep (Union a b) after h e =
     let (of-b, of-a) = each-split P (pathsIn b) (pathsIn a) h in
-    bind-given (getOrHasAttr f b) _ after e λ b′ eb e.
-    bind-given (getOrHasAttr f a) _ after e λ a′ ea e.
+    bind-some (getOrHasAttr f b) _ after e λ b′ eb e.
+    bind-some (getOrHasAttr f a) _ after e λ a′ ea e.
     rw (← Option·some-injective (Union a′ b′) after e)
     (each-append Q (pathsIn b′) (pathsIn a′) (attr-each P Q f grow keep b b′ of-b eb) (attr-each P Q f grow keep a a′ of-a ea))
 attr-each P Q f grow keep (RecordLiteral fields) after h e =
@@ -1055,8 +959,8 @@ grown-added f (Union a b) after trie t ps absorbed gs e =
     let (paths-b, paths-a) = each-split IsPath (pathsIn b) (pathsIn a) ps in
     let (absorbed-b, absorbed-a) = each-split (Absorbs trie) (pathsIn b) (pathsIn a) absorbed in
     let (grown-b, grown-a) = each-split IsPath (grownIn f b) (grownIn f a) gs in
-    bind-given (getOrHasAttr f b) _ after e λ b′ eb e.
-    bind-given (getOrHasAttr f a) _ after e λ a′ ea e.
+    bind-some (getOrHasAttr f b) _ after e λ b′ eb e.
+    bind-some (getOrHasAttr f a) _ after e λ a′ ea e.
     let with-b : List Row = addPaths trie (grownIn f b) emptyLeaf in
     rw (
       ← Option·some-injective (Union a′ b′) after e,
@@ -1128,8 +1032,8 @@ grown-deep f Empty after ps e = rw (← Option·some-injective Empty after e)
 grown-deep f (AccessPath path) after ps e = rw (← Option·some-injective (AccessPath (path ++ (f ∷ []))) after e)
 grown-deep f (Union a b) after ps e =
     let (of-b, of-a) = each-split IsPath (pathsIn b) (pathsIn a) ps in
-    bind-given (getOrHasAttr f b) _ after e λ b′ eb e.
-    bind-given (getOrHasAttr f a) _ after e λ a′ ea e.
+    bind-some (getOrHasAttr f b) _ after e λ b′ eb e.
+    bind-some (getOrHasAttr f a) _ after e λ a′ ea e.
     rw (
       ← Option·some-injective (Union a′ b′) after e,
       any-append (pathsIn b′) (pathsIn a′) emptyLeaf,
@@ -1163,14 +1067,14 @@ field-cases :
     → A
 field-cases none own others taken e none-then some-then = none-then e
 field-cases (some t) own others taken e none-then some-then =
-    bind-given (own t) _ taken e λ first ep e.
-    bind-given others _ taken e λ more ef e. some-then t first more ep ef (Option·some-injective (first ++ more) taken e)
+    bind-some (own t) _ taken e λ first ep e.
+    bind-some others _ taken e λ more ef e. some-then t first more ep ef (Option·some-injective (first ++ more) taken e)
 
 -- what holds of all paths holds of those that take a type
 mutual
   unfolding fullTypeRequired pathsIn Each
 
-  taken-each :
+  pub taken-each :
       (P : Path → Type 0) (items : List Item) (paths : Paths) (t : ℕ) (taken : List Taken)
       → Each P (pathsIn paths)
       → fullTypeRequired items paths t ≡ some taken
@@ -1180,8 +1084,8 @@ mutual
       rw (← Option·some-injective (record { path = path; type = t } ∷ []) taken e) (h .0, tt)
   taken-each P items (Union a b) t taken h e =
       let (of-b, of-a) = each-split P (pathsIn b) (pathsIn a) h in
-      bind-given (fullTypeRequired items b t) _ taken e λ tb eb e.
-      bind-given (fullTypeRequired items a t) _ taken e λ ta ea e.
+      bind-some (fullTypeRequired items b t) _ taken e λ tb eb e.
+      bind-some (fullTypeRequired items a t) _ taken e λ ta ea e.
       rw (← Option·some-injective (tb ++ ta) taken e)
       (each-append (λ one. P (one .path)) tb ta (taken-each P items b t tb of-b eb) (taken-each P items a t ta of-a ea))
   taken-each P items (RecordLiteral fields) t taken h e =
@@ -1209,13 +1113,6 @@ mutual
 
 -- What a step keeps.
 
--- an answer that accepts a stack accepts no other, and is no refusal
-stack-same : (a b : List Result) → accepted a ≡ accepted b → a ≡ b
-stack-same a b e = cc
-
-stack-not : {A : Type 0} (number place : ℕ) (stack : List Result) → refused number place ≡ accepted stack → A
-stack-not number place stack e = let z : _≡_ {A = ℕ} 0 1 = cc in absurd (omega arith)
-
 -- Where `judged` accepts, the result is within the limits and stands on the stack.
 pub judged-accepted :
     (place : ℕ) (top : Result) (stack after : List Result)
@@ -1234,14 +1131,14 @@ judged-accepted place top stack after e = go _ refl e
         ≡ o
         → answerBy place (top ∷ stack) o ≡ accepted after
         → Judged top × (top ∷ stack ≡ after)
-    go (some number) q e = stack-not number place after e
+    go (some number) q e = refused-not number place after e
     go none q e =
         let (_, q) = cond-none {A = ℕ} (ltb mostResults (suc (length stack))) 6 _ .0 q in
         let (nodes, q) = cond-none {A = ℕ} (ltb mostPathNodes (nodesOf (top .paths))) 15 _ .0 q in
         let (shallow, q) = cond-none {A = ℕ} (isTooDeep (top .trie)) 3 _ .0 q in
         let (rows, _) = cond-none {A = ℕ} (ltb (contribution .nodes) (length (top .trie))) 4 _ .0 q in (
           record { few-nodes = ltb-false _ _ nodes; shallow = shallow; few-rows = ltb-false _ _ rows },
-          stack-same (top ∷ stack) after e,
+          accepted-same (top ∷ stack) after e,
         )
 
 -- so a result that is good within the limits leaves a good stack
@@ -1343,7 +1240,7 @@ in-good x y gx gy j = empty-good _ trie j
 
     trie : isTooDeep (union (withAncestorsRequired x ancestors) (y .trie)) ≡ false → IsTrie (union (withAncestorsRequired x ancestors) (y .trie))
     trie shallow =
-        let first = or-neither (isTooDeep (withAncestorsRequired x ancestors)) _ (sym (too-deep-union _ (y .trie)) ∙ shallow) .0 in
+        let first = or-neither (isTooDeep (withAncestorsRequired x ancestors)) _ (sym (union-too-deep _ (y .trie)) ∙ shallow) .0 in
         union-trie _ (y .trie)
         (leaves-trie (x .trie) (pathsIn (x .paths)) _ (gx .good-trie) (gx .good-paths)
         (ancestors-leaf false ancestors (paths-trie [] (pathsIn (y .paths)) true empty-trie (gy .good-paths)))
@@ -1378,7 +1275,7 @@ wrapped-good [] stack w good e =
     subst GoodWrapped (Option·some-injective _ w e) (record { paths = tt; trie = empty-trie; absorbed = tt; left = good })
 wrapped-good (name ∷ names) [] w good e = absurd (Option·none-ne-some w e)
 wrapped-good (name ∷ names) (top ∷ stack) w good e =
-    bind-given (wrapped names stack) _ w e λ more em e.
+    bind-some (wrapped names stack) _ w e λ more em e.
     let g : GoodWrapped more = wrapped-good names stack more (good .1) em in
     let own : GoodResult top = good .0 in
     let (of-more, of-own) =
@@ -1433,42 +1330,42 @@ unfolding apply Each
 apply-good items schema place (root r) h stack after good e = judged-good place (fromRoot r) stack after good (root-good r h) e
 apply-good items schema place nothing h stack after good e =
     judged-good place defaultResult stack after good (empty-good [] (λ _. empty-trie)) e
-apply-good items schema place (attr f) h [] after good e = stack-not 6 place after e
+apply-good items schema place (attr f) h [] after good e = refused-not 6 place after e
 apply-good items schema place (attr f) h (top ∷ stack) after good e =
     by-option (getOrHasAttr f (top .paths))
-    (λ q. stack-not 7 place after (rw (q, attrStep) at e))
+    (λ q. refused-not 7 place after (rw (q, attrStep) at e))
     (λ paths q. judged-good place (restored (top .trie) paths) stack after (good .1) (attr-good top f paths (good .0) h q) (rw (q, attrStep) at e))
-apply-good items schema place both h [] after good e = stack-not 6 place after e
-apply-good items schema place both h (y ∷ []) after good e = stack-not 6 place after e
+apply-good items schema place both h [] after good e = refused-not 6 place after e
+apply-good items schema place both h (y ∷ []) after good e = refused-not 6 place after e
 apply-good items schema place both h (y ∷ x ∷ stack) after good e =
     judged-good place (unionResults x y) stack after (good .1 .1) (both-good x y (good .1 .0) (good .0)) e
-apply-good items schema place dropped h [] after good e = stack-not 6 place after e
+apply-good items schema place dropped h [] after good e = refused-not 6 place after e
 apply-good items schema place dropped h (top ∷ stack) after good e =
     judged-good place (emptyPaths (top .trie)) stack after (good .1) (empty-good (top .trie) (λ _. good .0 .good-trie)) e
 apply-good items schema place (full t) h [] after good e =
     by-option (fromType t items)
-    (λ q. stack-not 1 place after (rw (q, fullStep) at e))
-    (λ lines q. stack-not 6 place after (rw (q, fullStep) at e))
+    (λ q. refused-not 1 place after (rw (q, fullStep) at e))
+    (λ lines q. refused-not 6 place after (rw (q, fullStep) at e))
 apply-good items schema place (full t) h (top ∷ stack) after good e =
     by-option (fromType t items)
-    (λ q. stack-not 1 place after (rw (q, fullStep) at e))
+    (λ q. refused-not 1 place after (rw (q, fullStep) at e))
     (λ lines q.
     by-option (fullTypeRequired items (top .paths) t)
-    (λ p. stack-not 8 place after (rw (q, fullStep, p, fullStep) at e))
+    (λ p. refused-not 8 place after (rw (q, fullStep, p, fullStep) at e))
     (λ taken p.
     judged-good place (emptyPaths (addTaken items (top .trie) taken)) stack after (good .1)
     (full-good items top t taken schema (good .0) p)
     (rw (q, fullStep, p, fullStep) at e)))
-apply-good items schema place inside h [] after good e = stack-not 6 place after e
-apply-good items schema place inside h (y ∷ []) after good e = stack-not 6 place after e
+apply-good items schema place inside h [] after good e = refused-not 6 place after e
+apply-good items schema place inside h (y ∷ []) after good e = refused-not 6 place after e
 apply-good items schema place inside h (y ∷ x ∷ stack) after good e =
     judged-good place (inResult x y) stack after (good .1 .1) (in-good x y (good .1 .0) (good .0)) e
-apply-good items schema place set h [] after good e = stack-not 6 place after e
+apply-good items schema place set h [] after good e = refused-not 6 place after e
 apply-good items schema place set h (top ∷ stack) after good e =
     judged-good place (result (top .trie) (SetLiteral (top .paths))) stack after (good .1) (set-good top (good .0)) e
 apply-good items schema place (rec names) h stack after good e =
     by-option (wrapped names stack)
-    (λ q. stack-not 6 place after (rw (q, recStep) at e))
+    (λ q. refused-not 6 place after (rw (q, recStep) at e))
     (λ w q.
     let g : GoodWrapped w = wrapped-good names stack w good q in
     judged-good place (result (w .trie) (RecordLiteral (w .fields))) (w .left) after (g .left) (rec-kept w g) (rw (q, recStep) at e))

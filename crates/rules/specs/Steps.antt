@@ -1,18 +1,16 @@
 -- Document 01, 'Paths and analysis steps': 'a list of steps in postfix order over a stack', one a line.
 use Prim.Native.Nat.{ℕ, suc, _+_}
-use mathlib.Core.Bool.{Bool, true, false, cond, _||_}
+use mathlib.Core.Bool.{Bool, false, cond, _||_}
 use mathlib.Core.List.{List, [], _∷_, _++_}
 use mathlib.Core.Option.{Option, none, some}
 use lib.Dec.{leb, ltb, eqb}
 use lib.ListN.{length}
 use Rattle.rules.specs.Numbers.{Answer, accepted, refused, firstOf, mostSteps}
 use Rattle.rules.specs.Text.{bytes, linesOf, fieldsOf, decimalOf}
-use Rattle.rules.specs.Tries.{Row, stepOf, literals, sameList, contribution}
-use Rattle.rules.specs.Tries.{union as unionTries}
+use Rattle.rules.specs.Tries.{Row, stepOf, literals, sameList, contribution, union as unionTries}
 use Rattle.rules.specs.Listing.{read, placeIn, _>>=_}
 use Rattle.rules.specs.Schema.{Item, fromType, ascending}
 use Rattle.rules.specs.Paths.{
-  Path,
   Paths,
   Empty,
   AccessPath,
@@ -22,7 +20,6 @@ use Rattle.rules.specs.Paths.{
   Fields,
   noField,
   field,
-  Leaf,
   emptyLeaf,
   pathsIn,
   nodesOf,
@@ -30,7 +27,6 @@ use Rattle.rules.specs.Paths.{
   toRootAccessTrieWithLeaf,
   addPaths,
   toAncestorAccessTrie,
-  Taken,
   fullTypeRequired,
   addTaken,
 }

@@ -7,7 +7,7 @@ use mathlib.Core.Logic.{_⊎_, inl, inr, ⊎-elim, _↔_, Iff·rfl, Iff·symm, I
 use mathlib.Core.Bool.{Bool, true, false, cond, not, _||_, and-eq-true-iff, or-false, or-self, or-comm}
 use mathlib.Core.List.{List, [], _∷_, map}
 use mathlib.Core.Option.{none}
-use lib.Dec.{ltb}
+use lib.Dec.{ltb, eqb}
 use lib.ListN.{length, take, getD, length-append, List·getD-append}
 use lib.Seq.{length-take-le, take-append-le, take-take, getD-at, getD-take}
 use borrow.Author.Tests.{ltb-true, ltb-false, leb-true, eqb-true, lt-ltb, le-ltb, le-leb, eq-eqb, not-true}
@@ -30,6 +30,8 @@ use Rattle.rules.specs.Tries.{
   Row,
   ids,
   isEntry,
+  isStep,
+  isRoot,
   isRow,
   at,
   follows,
@@ -244,6 +246,14 @@ entry-unmarked row h e =
     let (_, plain) = and-eq-true-iff (ltb (row .step) (ids ^ 3)) _ .0 (rw e at h) in
     let (unmarked, _) = and-eq-true-iff (not (row .mark)) _ .0 plain in
     not-true (row .mark) unmarked
+
+-- a node's step is a step
+pub node-step : (row : Row) → isRow row ≡ true → isEntry row ≡ false → isStep (row .step) ≡ true
+node-step row h e =
+    let (of-step, _) = and-eq-true-iff (cond (eqb (row .depth) 1) (isRoot (row .step)) (isStep (row .step))) _ .0 (rw e at h) in
+    by-test (eqb (row .depth) 1)
+    (λ o. and-eq-true-iff (isStep (row .step)) _ .0 (rw o at of-step) .0)
+    (λ o. rw o at of-step)
 
 -- rows that have one place make one row there
 pub isRow-joined : (x y : Row) → SamePlace x y → isRow x ≡ true → isRow y ≡ true → isRow (joined x y) ≡ true

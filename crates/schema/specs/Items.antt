@@ -4,12 +4,11 @@ use mathlib.Core.Bool.{Bool, true, false, cond, _&&_}
 use mathlib.Core.List.{List, [], _∷_, map}
 use mathlib.Core.Option.{Option, none, some}
 use lib.Dec.{leb, ltb, eqb}
-use lib.ListN.{length, take, drop, getD}
+use lib.ListN.{length, getD}
 use lib.Seq.{sets}
 use Rattle.rules.specs.Numbers.{Answer, accepted, refused}
-use Rattle.rules.specs.Text.{decimalOf}
 use Rattle.rules.specs.Listing.{_>>=_}
-use Rattle.rules.specs.Schema.{Item, item, unknown, lawfulItems, readSchema, setType, entityType, entityLine, attributeLine, ascending, namesOf}
+use Rattle.rules.specs.Schema.{Item, item, unknown, lawfulItems, readSchema, setType, entityType, entityLine, ascending, namesOf}
 use Rattle.trie.specs.States.{Outcome, refusing, wordsIn}
 use Rattle.trie.specs.declared.Reply.the-variants.{Done}
 use Rattle.schema.specs.declared.item.Item.{Item as ItemRead}

@@ -39,7 +39,7 @@ module _ (least : ℕ) (field : List ℕ) (fields : List (List ℕ)) where
     ascending-low h = rw (e, lt-leb least n h)
 
     -- the others follow it
-    ascending-next : least ≤ n → ascending least (field ∷ fields) ≡ (ascending (n + 1) fields >>= (λ ns. some (n ∷ ns)))
+    pub ascending-next : least ≤ n → ascending least (field ∷ fields) ≡ (ascending (n + 1) fields >>= (λ ns. some (n ∷ ns)))
     unfolding ascending
     ascending-next h = rw (e, le-leb least n h)
 

@@ -3,26 +3,27 @@ use Prim.Native.Nat.{ℕ, _+_, _-_, _≤_, _<_}
 use native.Mathlib.Numerals.{add-one}
 use native.Mathlib.Omega.{arith}
 use mathlib.Core.Bool.{Bool, true, false, cond}
-use mathlib.Core.List.{List, [], _∷_, _++_, map, append-nil, nil≢cons}
+use mathlib.Core.List.{List, [], _∷_, _++_, map, append-nil}
 use mathlib.Core.Option.{Option, none, some, Option·none-ne-some, Option·some-injective}
 use mathlib.Core.Path.{_≡_, refl, sym, ap, _∙_}
-use borrow.Author.Tests.{ne-eqb, eqb-true, leb-true, le-leb, lt-leb}
+use borrow.Author.Tests.{eqb-true, leb-true, le-leb, lt-leb}
 use lib.Dec.{eqb, leb}
-use lib.ListN.{length, take, drop, set, getD, length-drop, length-set, length-map, drop-of-length-le}
+use lib.ListN.{length, take, drop, set, getD, length-set, length-map, drop-of-length-le}
 use lib.Seq.{append-snoc, sets, getD-set-same, length-take-le}
 use Rattle.rules.specs.Facts.{by-option, cond-some}
 use Rattle.rules.specs.Numbers.{Answer, accepted, refused}
 use Rattle.rules.specs.Text.{parted, bytes, linesOf, fieldsOf, decimalOf, LF}
 use Rattle.rules.specs.TextLaws.{parted-some, decimal-written}
 use Rattle.rules.specs.Listing.{_>>=_, isLetter, placeIn}
+use Rattle.rules.specs.ListingLaws.{bind-some}
 use Rattle.rules.specs.Schema.{Item, Known, item, unknown, ascending, valueOf, typeOf, pairOf, itemOf, fits, beyond, ahead, itemsFrom, readSchema}
-use Rattle.text.specs.Answers.{lineAt, firstLine}
+use Rattle.text.specs.Answers.{lineAt}
 use Rattle.text.proofs.Laws.{whole-within}
 use Rattle.text.specs.declared.Line.{Line}
 use Rattle.text.specs.declared.Line.the-variants.{Whole}
 use Rattle.trie.specs.States.{refusing}
 use Rattle.trie.specs.declared.Reply.the-variants.{Done}
-use Rattle.manifest.specs.ReadLaws.{parted-one, lines-whole, stored-next, bind-some, behind, behind-none, place-within}
+use Rattle.manifest.specs.ReadLaws.{lines-whole, lines-cut, stored-next, behind, behind-none, place-within}
 use Rattle.schema.specs.declared.known.Known.{Known as Kept}
 use Rattle.schema.specs.Items.{given, namedBy, wordFor, storingItems, readIn}
 use Rattle.schema.specs.Reads.{knownFor, Bounded, stored, Room, Passed, refusedLine, wordsFor}
@@ -68,17 +69,17 @@ ItemFits it = (it .tag < 16) × (it .value < 131072) × (it .key ≤ 65535)
 
 type-fits : (a b : List ℕ) (more : List (List ℕ)) (it : Item) → typeOf a b more ≡ some it → ItemFits it
 type-fits a b more it e =
-    let (n, n-read, e₁) = bind-some (decimalOf a) _ it e in
-    let (k, k-read, e₂) = bind-some (decimalOf b) _ it e₁ in
-    let (v, v-read, e₃) = bind-some (valueOf k more) _ it e₂ in
+    bind-some (decimalOf a) _ it e λ n n-read e₁.
+    bind-some (decimalOf b) _ it e₁ λ k k-read e₂.
+    bind-some (valueOf k more) _ it e₂ λ v v-read e₃.
     let (low, small) = value-fits k more v v-read in
     rw (← Option·some-injective (item k v n) it e₃) (omega arith, small, decimal-written a n n-read .1)
 
 pair-fits : (word a b : List ℕ) (it : Item) → pairOf word a b ≡ some it → ItemFits it
 pair-fits word a b it e =
-    let (place, place-read, e₁) = bind-some (placeIn (bytes "FLC") word) _ it e in
-    let (k, k-read, e₂) = bind-some (decimalOf a) _ it e₁ in
-    let (t, t-read, e₃) = bind-some (decimalOf b) _ it e₂ in
+    bind-some (placeIn (bytes "FLC") word) _ it e λ place place-read e₁.
+    bind-some (decimalOf a) _ it e₁ λ k k-read e₂.
+    bind-some (decimalOf b) _ it e₂ λ t t-read e₃.
     rw (← Option·some-injective (item (12 + place) t k) it e₃) (
       omega (arith, place-within (bytes "FLC") word place place-read),
       omega (arith, decimal-written b t t-read .1),
@@ -87,7 +88,7 @@ pair-fits word a b it e =
 
 entity-fits : (name : List ℕ) (it : Item) → (decimalOf name >>= (λ n. some (item 11 0 n))) ≡ some it → ItemFits it
 entity-fits name it e =
-    let (n, n-read, e₁) = bind-some (decimalOf name) _ it e in
+    bind-some (decimalOf name) _ it e λ n n-read e₁.
     rw (← Option·some-injective (item 11 0 n) it e₁) (omega arith, omega arith, decimal-written name n n-read .1)
 
 pub item-fits : (fields : List (List ℕ)) (it : Item) → itemOf fields ≡ some it → ItemFits it
@@ -143,13 +144,7 @@ module _ (known : Known) (place : ℕ) where
   items-cut : (text : List ℕ) (at : ℕ) (r : Line) → r ≡ lineAt text at → ((end : ℕ) → r ≡ Whole end → ⊥) → at < length text →
       itemsFrom known place (linesOf (drop at text)) ≡ refused 1 place
   unfolding itemsFrom
-  items-cut text at r ensured unended inside = go (linesOf (drop at text)) refl ensured
-    where
-      go : (lines : List (List ℕ)) → linesOf (drop at text) ≡ lines → r ≡ firstLine at lines → itemsFrom known place (linesOf (drop at text)) ≡ refused 1 place
-      go [] q e = absurd (nil≢cons (sym q ∙ parted-some LF (drop at text) .2))
-      go (line ∷ []) q e =
-          rw (parted-one LF (drop at text) line q, ne-eqb (length (drop at text)) 0 (omega (arith, length-drop at text)))
-      go (line ∷ next ∷ lines) q e = absurd (unended (at + length line) e)
+  items-cut text at r ensured unended inside = let (alone, some-byte) = lines-cut text at r ensured unended inside in rw (alone, some-byte)
 
   module _ (line rest : List ℕ) where
     -- a line that may come stands before those behind it

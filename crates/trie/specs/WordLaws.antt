@@ -27,6 +27,7 @@ use Rattle.rules.specs.Tries.{
   union,
 }
 use Rattle.rules.specs.TrieLaws.{
+  node-step,
   Before,
   deeper,
   smaller,
@@ -337,13 +338,9 @@ entry-untyped row whole e =
 -- a node's step is of six kinds, and its type has a small number
 node-small : (row : Row) → isRow row ≡ true → isEntry row ≡ false → (row .step < 2 ^ 19) × (numberFor (row .type) ≤ 1024)
 node-small row whole e =
-    let (stepped, typed) = and-eq-true-iff (cond (eqb (row .depth) 1) (isRoot (row .step)) (isStep (row .step))) _ .0 (rw e at whole) in
-    let few : row .step / 65536 ≤ 5 = leb-true _ _ (and-eq-true-iff (leb (row .step / 65536) 5) _ .0 (is-step (eqb (row .depth) 1) stepped) .0) in
+    let (_, typed) = and-eq-true-iff (cond (eqb (row .depth) 1) (isRoot (row .step)) (isStep (row .step))) _ .0 (rw e at whole) in
+    let few : row .step / 65536 ≤ 5 = leb-true _ _ (and-eq-true-iff (leb (row .step / 65536) 5) _ .0 (node-step row whole e) .0) in
     (omega arith, type-numbers (row .type) typed)
-  where
-    is-step : (top : Bool) → cond top (isRoot (row .step)) (isStep (row .step)) ≡ true → isStep (row .step) ≡ true
-    is-step true h = and-eq-true-iff (isStep (row .step)) _ .0 h .0
-    is-step false h = h
 
 -- The word that packs a row has the row's parts.
 module _ (row : Row) (whole : isRow row ≡ true) (near : row .depth ≤ 24) where

@@ -7,8 +7,9 @@ use mathlib.Core.Path.{_≡_, sym, ap, _∙_}
 use lib.ListN.{length, getD, length-set}
 use Rattle.rules.specs.Schema.{Item}
 use Rattle.rules.specs.TypeLaws.{deepest}
+use Rattle.manifest.specs.WriteLaws.{wrote-length}
 use Rattle.analysis.specs.Tables.{typeRows, attributeAt}
-use Rattle.analysis.specs.TypeTableLaws.{Stands, Writing, tabled-stands, tabled-inside, attribute-inside, passing-below, key-small, good-all, wrote-length, writing-none, writing-all, writing-room, writing-shallow, writing-next}
+use Rattle.analysis.specs.TypeTableLaws.{Stands, Writing, tabled-stands, tabled-inside, attribute-inside, passing-below, key-small, good-all, writing-none, writing-all, writing-room, writing-shallow, writing-next}
 use borrow.Author.Needs.{needs}
 use borrow.Fn.Kinds.{In}
 use borrow.Fn.PlainCycle.{Measures, is, falls, and}
