@@ -2,6 +2,7 @@
 pub mod Numbers
 pub mod Text
 pub mod TextLaws
+pub mod SeqLaws
 pub mod Tries
 pub mod Facts
 pub mod TrieLaws

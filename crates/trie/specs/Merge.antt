@@ -1,13 +1,14 @@
 -- What a step of the union in `trie` keeps: with what is left of the union stored, the output is the same as before.
-use Prim.Native.Nat.{ℕ, _+_, _^_, _≤_, _<_}
+use Prim.Native.Nat.{ℕ, _+_, _-_, _^_, _≤_, _<_}
 use mathlib.Core.Path.{_≡_}
-use mathlib.Core.Bool.{cond}
+use mathlib.Core.Bool.{Bool, cond, _&&_}
 use mathlib.Core.List.{List, _∷_, map}
 use lib.Dec.{ltb}
-use lib.ListN.{length, drop, getD}
+use lib.ListN.{length, take, drop, getD}
 use lib.Seq.{sets}
 use Rattle.rules.specs.Tries.{entriesIn, nodesIn}
-use Rattle.trie.specs.Words.{rowOf, keyIn, unionWords}
+use Rattle.trie.specs.Words.{depthIn, rowOf, keyIn, unionWords}
+use Rattle.trie.specs.declared.Limits.{Limits}
 
 -- the key of the row at a place of a run, past every row's key behind the last
 unfoldable pub keyAt : List ℕ → ℕ → ℕ
@@ -38,9 +39,33 @@ pub record Room (a b out : List ℕ) (i j k : ℕ) : Type 0 where
 pub record Stored (a b out : List ℕ) (i j k : ℕ) (out′ : List ℕ) (i′ j′ k′ : ℕ) : Type 0 where
   pub room : Room a b out′ i′ j′ k′
   pub same : sets out′ k′ (left a b i′ j′) ≡ sets out k (left a b i j)
+  pub placed : k′ + length (left a b i′ j′) ≡ k + length (left a b i j)
   pub passed : i + j ≤ i′ + j′
+
+-- the row at a place is deeper than a depth
+abbrev pub belowAt : List ℕ → ℕ → ℕ → Bool
+belowAt rows at depth = ltb at (length rows) && ltb depth (depthIn (getD rows at 0))
+
+-- rows from a place on that are deeper than a depth were copied
+pub record CopiedBelow (depth : ℕ) (rows : List ℕ) (from : ℕ) (out : List ℕ) (to : ℕ) (out′ : List ℕ) (end : ℕ) : Type 0 where
+  pub passed : from ≤ end
+  pub inside : end ≤ length rows
+  pub deeper : (k : ℕ) → from ≤ k → k < end → depth < depthIn (getD rows k 0)
+  pub copied : out′ ≡ sets out to (take (end - from) (drop from rows))
+
+-- the node at a place and rows below it were copied
+pub record Copied (rows : List ℕ) (at : ℕ) (out : List ℕ) (to : ℕ) (out′ : List ℕ) (end : ℕ) : Type 0 where
+  pub some-row : at < end
+  pub inside : end ≤ length rows
+  pub deeper : (k : ℕ) → at < k → k < end → depthIn (getD rows at 0) < depthIn (getD rows k 0)
+  pub copied : out′ ≡ sets out to (take (end - at) (drop at rows))
 
 -- of words, all but those that are left are counted: so many entries and so many nodes
 pub record Counted (words rest : List ℕ) (entries nodes : ℕ) : Type 0 where
   pub all-entries : entries + entriesIn (map rowOf rest) ≡ entriesIn (map rowOf words)
   pub all-nodes : nodes + nodesIn (map rowOf rest) ≡ nodesIn (map rowOf words)
+
+-- so many entries and nodes exceed the limits exactly where those of words do
+pub record Decides (limits : Limits) (words : List ℕ) (entries nodes : ℕ) : Type 0 where
+  pub by-entries : ltb (limits .entries) entries ≡ ltb (limits .entries) (entriesIn (map rowOf words))
+  pub by-nodes : ltb (limits .nodes) nodes ≡ ltb (limits .nodes) (nodesIn (map rowOf words))

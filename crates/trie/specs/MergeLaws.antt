@@ -1,15 +1,17 @@
 -- Laws of the union of two runs of words, row by row, and of storing it (Merge). No contract cites this file.
-use Prim.Native.Nat.{ℕ, zero, suc, _+_, _^_, _≤_, _<_}
-use mathlib.Core.Bool.{true}
+use Prim.Native.Nat.{ℕ, zero, suc, _+_, _-_, _^_, _≤_, _<_}
+use mathlib.Core.Bool.{true, and-eq-true-iff}
 use mathlib.Core.Path.{_≡_, refl, sym, ap, _∙_}
 use mathlib.Core.List.{List, [], _∷_}
-use native.Mathlib.Nat.{le-refl}
+use native.Mathlib.Nat.{le-refl, add-zero, add-suc, add-assoc}
 use native.Mathlib.Numerals.{add-one}
 use native.Mathlib.Omega.{arith}
-use borrow.Author.Tests.{lt-ltb, le-ltb}
-use lib.ListN.{length, drop, getD, set, length-set, drop-of-length-le}
-use lib.Seq.{drop-cons, sets, length-sets}
+use borrow.Author.Tests.{lt-ltb, le-ltb, ltb-true, ne-eqb}
+use lib.Dec.{ltb}
+use lib.ListN.{length, take, drop, getD, set, length-set, length-drop, drop-of-length-le}
+use lib.Seq.{drop-cons, sets, length-sets, getD-drop}
 use Rattle.rules.specs.Facts.{compared}
+use Rattle.rules.specs.SeqLaws.{copied-next}
 use Rattle.trie.specs.Words.{depthIn, isWord, keyIn, joinedWord, unionWords}
 use Rattle.trie.specs.WordLaws.{key-below, all-words-cons, union-words-nil, union-words-first, union-words-second, union-words-same}
 use Rattle.trie.specs.CountLaws.{
@@ -18,7 +20,7 @@ use Rattle.trie.specs.CountLaws.{
   counted-node as node-counted,
 }
 use Rattle.trie.specs.States.{allWords}
-use Rattle.trie.specs.Merge.{keyAt, nextKey, left, Turn, Room, Stored, Counted}
+use Rattle.trie.specs.Merge.{keyAt, nextKey, left, Turn, Room, Stored, Counted, belowAt, CopiedBelow, Copied}
 
 -- ---- the key at a place of a run
 
@@ -115,22 +117,164 @@ stored-row {out = out} {k = k} {w = w} room turn =
     record {
       room = record { in-a = turn .in-a; in-b = turn .in-b; fits = omega (arith, room .fits, ap length (turn .taken), length-set out k w) };
       same = rw (turn .taken, add-one);
+      placed = omega (arith, ap length (turn .taken));
       passed = omega (arith, turn .more);
     }
 
 -- nothing is stored
 pub stored-none : (a b out : List ℕ) (i j k : ℕ) → Room a b out i j k → Stored a b out i j k out i j k
-stored-none a b out i j k room = record { room = room; same = refl; passed = le-refl (i + j) }
+stored-none a b out i j k room = record { room = room; same = refl; placed = refl; passed = le-refl (i + j) }
 
 -- some rows are stored, and then some more
 pub stored-more : {a b out out₁ out₂ : List ℕ} {i j k i₁ j₁ k₁ i₂ j₂ k₂ : ℕ} →
     Stored a b out i j k out₁ i₁ j₁ k₁ → Stored a b out₁ i₁ j₁ k₁ out₂ i₂ j₂ k₂ → Stored a b out i j k out₂ i₂ j₂ k₂
-stored-more once again = record { room = again .room; same = again .same ∙ once .same; passed = omega (arith, once .passed, again .passed) }
+stored-more once again = record {
+  room = again .room;
+  same = again .same ∙ once .same;
+  placed = again .placed ∙ once .placed;
+  passed = omega (arith, once .passed, again .passed);
+}
+
+-- rows of one run are stored, one after the other, where each is the next row in its turn: f and g say how many rows of the runs are passed
+pub stored-run :
+    (rows : List ℕ) (at : ℕ) {a b out : List ℕ} {k : ℕ} (f g : ℕ → ℕ) (n : ℕ)
+    → at + n ≤ length rows
+    → ((m : ℕ) → m < n → Turn a b (f m) (g m) (getD rows (at + m) 0) (f (m + 1)) (g (m + 1)))
+    → Room a b out (f 0) (g 0) k
+    → Stored a b out (f 0) (g 0) k (sets out k (take n (drop at rows))) (f n) (g n) (k + n)
+stored-run rows at f g zero h turns room = rw add-zero (stored-none _ _ _ _ _ _ room)
+stored-run rows at {out = out} {k = k} f g (suc n) h turns room =
+    let before = stored-run rows at f g n (omega arith) (λ m less. turns m (omega arith)) room in
+    let next = stored-row (before .room) (turns n (omega arith)) in
+    let one-more = rw (getD-drop, add-one) at (copied-next (drop at rows) out k n (omega (arith, length-drop at rows))) in
+    rw (← one-more, add-suc) (rw (add-one, add-one) at (stored-more before next))
 
 -- storing keeps the output's length
 pub stored-length : {a b out out′ : List ℕ} {i j k i′ j′ k′ : ℕ} → Stored a b out i j k out′ i′ j′ k′ → length out′ ≡ length out
 stored-length {a} {b} {out} {out′} {i} {j} {k} {i′} {j′} {k′} stored =
     sym (length-sets out′ k′ (left a b i′ j′)) ∙ ap length (stored .same) ∙ length-sets out k (left a b i j)
+
+-- ---- copying what one run alone has
+
+-- a deeper row comes first
+deeper-first : (x y : ℕ) → depthIn x < depthIn y → keyIn y < keyIn x
+deeper-first x y h = let node = ne-eqb (depthIn y) 0 (λ e. omega arith) in rw node (omega arith)
+
+pub below-at : (rows : List ℕ) (at depth : ℕ) → belowAt rows at depth ≡ true → (at < length rows) × (depth < depthIn (getD rows at 0))
+below-at rows at depth h =
+    let both = and-eq-true-iff (ltb at (length rows)) (ltb depth (depthIn (getD rows at 0))) .0 h in
+    (ltb-true _ _ (both .0), ltb-true _ _ (both .1))
+
+-- nothing below a depth is copied, and then one row more
+pub below-none : (depth : ℕ) (rows out : List ℕ) (from to : ℕ) → from ≤ length rows → CopiedBelow depth rows from out to out (from + 0)
+below-none depth rows out from to h = record {
+  passed = omega arith;
+  inside = omega arith;
+  deeper = λ k least less. absurd (omega arith);
+  copied = let none : from + 0 - from ≡ 0 = omega arith in rw none;
+}
+
+pub below-next :
+    {depth from to : ℕ} {rows out out′ : List ℕ} (count : ℕ)
+    → CopiedBelow depth rows from out to out′ (from + count)
+    → from + count < length rows
+    → depth < depthIn (getD rows (from + count) 0)
+    → CopiedBelow depth rows from out to (set out′ (to + count) (getD rows (from + count) 0)) (from + (count + 1))
+below-next {depth} {from} {to} {rows} {out} {out′} count copied inside h = record {
+  passed = omega arith;
+  inside = omega arith;
+  deeper = λ k least less.
+      compared k (from + count) (λ before. copied .deeper k least before)
+      (λ last. let same : k ≡ from + count = omega arith in rw same h);
+  copied =
+      let so-far : out′ ≡ sets out to (take count (drop from rows)) = let many : from + count - from ≡ count = omega arith in rw many at (copied .copied) in
+      let one-more = rw getD-drop at (copied-next (drop from rows) out to count (omega (arith, length-drop from rows))) in
+      let many : from + (count + 1) - from ≡ count + 1 = omega arith in
+      rw (so-far, many) one-more;
+}
+
+-- a node is copied, and then what is below it
+pub node-copied :
+    {at to end : ℕ} {rows out out′ : List ℕ}
+    → at < length rows
+    → CopiedBelow (depthIn (getD rows at 0)) rows (at + 1) (set out to (getD rows at 0)) (to + 1) out′ end
+    → Copied rows at out to out′ end
+node-copied {at} {to} {end} {rows} {out} h below = record {
+  some-row = omega (arith, below .passed);
+  inside = below .inside;
+  deeper = λ k more less. below .deeper k (omega arith) less;
+  copied =
+      let many : end - at ≡ suc (end - (at + 1)) = omega (arith, below .passed) in
+      rw (many, rest-of rows at h) (rw (add-one to) at (below .copied));
+}
+
+-- the keys of a node and of all that was copied with it are below the key of what comes after the node
+copied-keys :
+    {rows out out′ : List ℕ} {at to end : ℕ} (bound : ℕ)
+    → Copied rows at out to out′ end
+    → keyAt rows at < bound
+    → (m : ℕ)
+    → at + m < end
+    → keyAt rows (at + m) < bound
+copied-keys {rows} {at = at} bound copied h zero inside = rw add-zero h
+copied-keys {rows} {at = at} bound copied h (suc m) inside =
+    let order = deeper-first (getD rows at 0) (getD rows (at + suc m) 0) (copied .deeper (at + suc m) (omega arith) inside) in
+    omega (
+      arith,
+      order,
+      key-in rows at (omega (arith, copied .inside)),
+      key-in rows (at + suc m) (omega (arith, copied .inside)),
+    )
+
+module _ {a b out out′ : List ℕ} {i j k end : ℕ} (room : Room a b out i j k) where
+  -- a node that the left run alone has is stored, with all below it
+  pub stored-left : keyAt a i < keyAt b j → Copied a i out k out′ end → Stored a b out i j k out′ end j (k + (end - i))
+  stored-left less copied =
+      let last : i + (end - i) ≡ end = omega (arith, copied .some-row) in
+      let turns : (m : ℕ) → m < end - i → Turn a b (i + m) j (getD a (i + m) 0) (i + (m + 1)) j = λ m inside.
+      rw (← add-assoc i m 1) (turn-first a b (i + m) j (omega (arith, copied .inside)) (room .in-b) (omega (arith, copied .inside)) (copied-keys (keyAt b j) copied less m (omega arith))) in
+      let stored = stored-run a i {out = out} {k = k} (λ m. i + m) (λ m. j) (end - i) (omega (arith, copied .inside)) turns (rw add-zero room) in
+      rw (copied .copied) (rw (add-zero, last) at stored)
+
+  -- and one that the right run alone has
+  pub stored-right : keyAt b j < keyAt a i → Copied b j out k out′ end → Stored a b out i j k out′ i end (k + (end - j))
+  stored-right less copied =
+      let last : j + (end - j) ≡ end = omega (arith, copied .some-row) in
+      let turns : (m : ℕ) → m < end - j → Turn a b i (j + m) (getD b (j + m) 0) i (j + (m + 1)) = λ m inside.
+      rw (← add-assoc j m 1) (turn-second a b i (j + m) (room .in-a) (omega (arith, copied .inside)) (omega (arith, copied .inside)) (copied-keys (keyAt a i) copied less m (omega arith))) in
+      let stored = stored-run b j {out = out} {k = k} (λ m. i) (λ m. j + m) (end - j) (omega (arith, copied .inside)) turns (rw add-zero room) in
+      rw (copied .copied) (rw (add-zero, last) at stored)
+
+-- a union has as many rows as either run, or more
+abbrev Longer : List ℕ → List ℕ → Type 0
+Longer a b = (length a ≤ length (unionWords a b)) × (length b ≤ length (unionWords a b))
+
+union-longer : (a b : List ℕ) → Longer a b
+unfolding unionWords
+union-longer [] b = (omega arith, le-refl (length b))
+union-longer (x ∷ a) b = go (λ b. union-longer a b) b
+  where
+    go : ((b : List ℕ) → Longer a b) → (b : List ℕ) → Longer (x ∷ a) b
+    go rest [] = rw (union-words-nil (x ∷ a)) (omega arith, omega arith)
+    go rest (y ∷ b) =
+        compared (keyIn x) (keyIn y)
+        (λ less. let longer = rest (y ∷ b) in rw (union-words-first x y a b less) (omega (arith, longer .0), omega (arith, longer .1)))
+        λ not-less. compared (keyIn y) (keyIn x)
+        (λ less. let longer = go rest b in rw (union-words-second x y a b less) (omega (arith, longer .0), omega (arith, longer .1)))
+        (λ not-more.
+        let longer = rest b in
+        let equal : keyIn x ≡ keyIn y = omega arith in
+        rw (union-words-same x y a b equal) (omega (arith, longer .0), omega (arith, longer .1)))
+
+module _ {a b out : List ℕ} {i j k : ℕ} (room : Room a b out i j k) where
+  -- so all that is left of either run fits
+  pub room-left : k + length a ≤ i + length out
+  unfolding left
+  room-left = omega (arith, room .fits, union-longer (drop i a) (drop j b) .0, length-drop i a, room .in-a)
+
+  pub room-right : k + length b ≤ j + length out
+  unfolding left
+  room-right = omega (arith, room .fits, union-longer (drop i a) (drop j b) .1, length-drop j b, room .in-b)
 
 -- ---- the end of both runs
 
@@ -179,3 +323,10 @@ pub stored-all : (a b out out′ : List ℕ) (k i′ j′ k′ : ℕ) → allWor
 unfolding left
 stored-all a b out out′ k i′ j′ k′ good-a good-b stored h =
     ap (sets out′ k′) (sym (left-ended a b i′ j′ good-a good-b h)) ∙ stored .same
+
+-- and then the next place is behind all of it
+pub stored-end : (a b out out′ : List ℕ) (k i′ j′ k′ : ℕ) → allWords a ≡ true → allWords b ≡ true → Stored a b out 0 0 k out′ i′ j′ k′ →
+    2 ^ 53 ≤ nextKey a b i′ j′ → k′ ≡ k + length (unionWords a b)
+unfolding left
+stored-end a b out out′ k i′ j′ k′ good-a good-b stored h =
+    omega (arith, stored .placed, ap length (left-ended a b i′ j′ good-a good-b h))

@@ -1,19 +1,23 @@
 -- Laws of lent states and of what the operations of `trie` answer (States). No contract cites this file.
 use Prim.Native.Nat.{ℕ, _+_, _≤_, _<_}
-use mathlib.Core.Path.{_≡_, refl, sym, ap}
+use mathlib.Core.Path.{_≡_, refl, sym, ap, _∙_}
 use mathlib.Core.Bool.{Bool, true, false, cond, _&&_}
 use mathlib.Core.List.{List, [], _∷_}
+use mathlib.Core.Logic.{⊎-elim}
 use native.Mathlib.Omega.{arith}
-use borrow.Author.Tests.{le-leb, lt-leb, lt-ltb, le-ltb, ltb-true, leb-true, eqb-true}
+use borrow.Author.Tests.{le-leb, lt-leb, lt-ltb, le-ltb, ltb-true, ltb-false, leb-true, eqb-true}
 use lib.Dec.{ltb, leb, eqb}
 use lib.ListN.{length, getD, length-map}
 use lib.Seq.{sets}
 use Rattle.rules.specs.Facts.{by-test}
+use Rattle.rules.specs.TrieLaws.{union-sum-length, union-sum-entries, union-sum-nodes}
 use Rattle.rules.specs.Tries.{Row, Form, count, entriesIn, nodesIn, isEntry, ordered, found, union, lawful}
 use Rattle.trie.specs.Words.{rowOf, unionWords}
 use Rattle.trie.specs.WordLaws.{union-words, words-rows}
-use Rattle.trie.specs.States.{Outcome, formOf, wordsOf, allWords, rowsOf, wordsIn, rowsIn, lawfulState, refusing, unionInto, unionOf, heldAs, hasOf}
-use Rattle.trie.specs.Merge.{Counted}
+use Rattle.trie.specs.States.{Outcome, formOf, wordsOf, allWords, rowsOf, wordsIn, rowsIn, lawfulState, refusing, unionInto, Roomy, unionOf, heldAs, hasOf}
+use Rattle.trie.specs.Merge.{Counted, Decides}
+use Rattle.trie.specs.CountLaws.{counted-all}
+use Rattle.trie.specs.declared.Limits.{Limits}
 use Rattle.trie.specs.declared.Kind.{Kind}
 use Rattle.trie.specs.declared.Kind.the-variants.{Contribution, Manifest}
 use Rattle.trie.specs.declared.Reply.the-variants.{Done}
@@ -130,44 +134,84 @@ unfolding count
 all-rows [] = refl
 all-rows (row ∷ rows) = by-test (isEntry row) (λ e. rw e (omega (arith, all-rows rows))) (λ e. rw e (omega (arith, all-rows rows)))
 
-module _ (a b : List ℕ) (good-a : allWords a ≡ true) (good-b : allWords b ≡ true) (entries nodes : ℕ) (counted : Counted (unionWords a b) [] entries nodes) where
-  -- what is counted are the entries, the nodes and the words of the union
-  pub counted-entries : entries ≡ entriesIn (union (rowsOf a) (rowsOf b))
-  unfolding count
-  counted-entries = rw (← union-words a b good-a good-b .0) (omega (arith, counted .all-entries))
+module _ (a b : List ℕ) (good-a : allWords a ≡ true) (good-b : allWords b ≡ true) where
+  united : rowsOf (unionWords a b) ≡ union (rowsOf a) (rowsOf b)
+  united = union-words a b good-a good-b .0
 
-  pub counted-nodes : nodes ≡ nodesIn (union (rowsOf a) (rowsOf b))
-  unfolding count
-  counted-nodes = rw (← union-words a b good-a good-b .0) (omega (arith, counted .all-nodes))
+  -- the size of a union decides, and so does the sum of both where it is within the limits
+  module _ (limits : Limits) where
+    pub decided-by-size : {entries nodes : ℕ} → Counted (unionWords a b) [] entries nodes → Decides limits (unionWords a b) entries nodes
+    decided-by-size counted = let (types, many) = counted-all counted in record { by-entries = rw types; by-nodes = rw many }
 
-  pub counted-words : entries + nodes ≡ length (unionWords a b)
-  unfolding count
-  counted-words =
-      omega (arith, counted .all-entries, counted .all-nodes, all-rows (rowsOf (unionWords a b)), length-map (unionWords a b) rowOf)
+    pub decided-by-sum :
+        {entries-a nodes-a entries-b nodes-b : ℕ}
+        → Counted a [] entries-a nodes-a
+        → Counted b [] entries-b nodes-b
+        → entries-a + entries-b ≤ limits .entries
+        → nodes-a + nodes-b ≤ limits .nodes
+        → Decides limits (unionWords a b) (entries-a + entries-b) (nodes-a + nodes-b)
+    decided-by-sum {entries-a} {nodes-a} {entries-b} {nodes-b} counted-a counted-b types few =
+        let (types-a, many-a) = counted-all counted-a in
+        let (types-b, many-b) = counted-all counted-b in
+        let fewer-types = union-sum-entries (rowsOf a) (rowsOf b) in
+        let fewer-nodes = union-sum-nodes (rowsOf a) (rowsOf b) in
+        record {
+          by-entries =
+              le-ltb (limits .entries) (entries-a + entries-b) types
+              ∙ sym (rw united (le-ltb (limits .entries) (entriesIn (union (rowsOf a) (rowsOf b))) (omega (arith, fewer-types, types-a, types-b))));
+          by-nodes =
+              le-ltb (limits .nodes) (nodes-a + nodes-b) few
+              ∙ sym (rw united (le-ltb (limits .nodes) (nodesIn (union (rowsOf a) (rowsOf b))) (omega (arith, fewer-nodes, many-a, many-b))));
+        }
 
-  module _ (kind : Kind) (out : List ℕ) where
-    pub union-many-types : formOf kind .entries < entries → unionInto kind a b out ≡ refusing 5 0 out
-    union-many-types h = rw (← counted-entries, lt-ltb (formOf kind .entries) entries h)
+  module _ (kind : Kind) (out : List ℕ) {limits : Limits} {entries nodes : ℕ} (decides : Decides limits (unionWords a b) entries nodes) (types-of : limits .entries ≡ formOf kind .entries) (nodes-of : limits .nodes ≡ formOf kind .nodes) where
+    types-decide : ltb (formOf kind .entries) (entriesIn (union (rowsOf a) (rowsOf b))) ≡ ltb (limits .entries) entries
+    types-decide = rw (← types-of, ← united) (sym (decides .by-entries))
 
-    module _ (types : entries ≤ formOf kind .entries) where
-      pub union-many-nodes : formOf kind .nodes < nodes → unionInto kind a b out ≡ refusing 4 0 out
-      union-many-nodes h = rw (← counted-entries, ← counted-nodes, le-ltb (formOf kind .entries) entries types, lt-ltb (formOf kind .nodes) nodes h)
+    nodes-decide : ltb (formOf kind .nodes) (nodesIn (union (rowsOf a) (rowsOf b))) ≡ ltb (limits .nodes) nodes
+    nodes-decide = rw (← nodes-of, ← united) (sym (decides .by-nodes))
 
-      pub union-stored :
-          nodes ≤ formOf kind .nodes
-          → unionInto kind a b out ≡ record { reply = Done; buffer = sets out 0 ((entries + nodes) ∷ unionWords a b) }
-      union-stored h =
-          let united = union-words a b good-a good-b in
-          rw (
-            ← counted-entries,
-            ← counted-nodes,
-            le-ltb (formOf kind .entries) entries types,
-            le-ltb (formOf kind .nodes) nodes h,
-            ← united .0,
-            words-rows (unionWords a b) (united .1),
-            length-map (unionWords a b) rowOf,
-            ← counted-words,
-          )
+    pub union-many-types : limits .entries < entries → unionInto kind a b out ≡ refusing 5 0 out
+    union-many-types h = rw (types-decide, lt-ltb (limits .entries) entries h)
+
+    module _ (types : entries ≤ limits .entries) where
+      pub union-many-nodes : limits .nodes < nodes → unionInto kind a b out ≡ refusing 4 0 out
+      union-many-nodes h = rw (types-decide, le-ltb (limits .entries) entries types, nodes-decide, lt-ltb (limits .nodes) nodes h)
+
+      module _ (few : nodes ≤ limits .nodes) where
+        -- the whole union fits behind its count
+        union-within : 1 + length (unionWords a b) ≤ wordsOf kind
+        union-within =
+            let few-types = ltb-false (formOf kind .entries) (entriesIn (union (rowsOf a) (rowsOf b))) (types-decide ∙ le-ltb (limits .entries) entries types) in
+            let few-nodes = ltb-false (formOf kind .nodes) (nodesIn (union (rowsOf a) (rowsOf b))) (nodes-decide ∙ le-ltb (limits .nodes) nodes few) in
+            omega (
+              arith,
+              few-types,
+              few-nodes,
+              kind-room kind,
+              all-rows (union (rowsOf a) (rowsOf b)),
+              ap length united,
+              length-map (unionWords a b) rowOf,
+            )
+
+        pub union-fits : Roomy kind a b out → 1 + length (unionWords a b) ≤ length out
+        union-fits roomy =
+            let sum = union-sum-length (rowsOf a) (rowsOf b) in
+            ⊎-elim (λ long. omega (arith, union-within))
+            (λ long. omega (arith, sum, ap length united, length-map (unionWords a b) rowOf, length-map a rowOf, length-map b rowOf))
+            roomy
+
+        pub union-stored : unionInto kind a b out ≡ record { reply = Done; buffer = sets out 0 (length (unionWords a b) ∷ unionWords a b) }
+        union-stored =
+            rw (
+              types-decide,
+              le-ltb (limits .entries) entries types,
+              nodes-decide,
+              le-ltb (limits .nodes) nodes few,
+              ← united,
+              words-rows (unionWords a b) (union-words a b good-a good-b .1),
+              length-map (unionWords a b) rowOf,
+            )
 
 -- ---- places, by what was tested
 

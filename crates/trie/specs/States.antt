@@ -1,7 +1,8 @@
 -- What a lent state holds (docs/FORMS.md, 'Lent buffers'), and what each operation of `trie` answers and leaves.
-use Prim.Native.Nat.{ℕ}
+use Prim.Native.Nat.{ℕ, _+_, _≤_, _<_}
 use mathlib.Core.Bool.{Bool, true, false, cond, _&&_}
 use mathlib.Core.List.{List, [], _∷_, map}
+use mathlib.Core.Logic.{_⊎_}
 use mathlib.Core.Option.{Option, none, some}
 use lib.Dec.{ltb, leb}
 use lib.ListN.{length, take, drop, getD}
@@ -73,6 +74,10 @@ storing out (refused number place) = refusing number place out
 -- the union of the rows that two runs of words pack, stored
 abbrev pub unionInto : Kind → List ℕ → List ℕ → List ℕ → Outcome
 unionInto kind a b out = storing out (unionWithin (formOf kind) (rowsOf a) (rowsOf b))
+
+-- a buffer is long enough for a state of a kind, or for all rows of two runs
+abbrev pub Roomy : Kind → List ℕ → List ℕ → List ℕ → Type 0
+Roomy kind a b out = (wordsOf kind ≤ length out) ⊎ (length a + length b < length out)
 
 -- union: '31, then 1 at place 0 for a lent state that isn't a lawful one', then 5 and 4 on the union
 unfoldable pub unionOf : Kind → List ℕ → List ℕ → List ℕ → Outcome

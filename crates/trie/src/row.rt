@@ -123,10 +123,7 @@ impl Row {
             }
             return false;
         }
-        if 0x10_0000_0000 <= word {
-            return false;
-        }
-        if 1_024 < word / 0x200_0000 % 0x800 {
+        if 1_024 < word / 0x200_0000 {
             return false;
         }
         if word % 32 == 1 {

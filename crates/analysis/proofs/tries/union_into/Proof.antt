@@ -1,5 +1,6 @@
 -- `analysis::tries::union_into` meets its contract: the union is refused where it has too many nodes, and otherwise copied.
 -- Assumes nothing.
+use mathlib.Core.Logic.{inl}
 use Prim.Native.Nat.{_≤_, _<_}
 use native.Mathlib.Omega.{arith}
 use native.Mathlib.Nat.{add-sub-cancel}
@@ -45,7 +46,7 @@ slice-aggregate-union-rows : tie.Need-slice-aggregate-union-rows
 slice-aggregate-union-rows c = search needs
 
 union-rows-requires : tie.Need-union-rows-requires
-union-rows-requires c κs = rw add-sub-cancel (words-there _ _ (c .before .before .before .before .before .before .pre .0) (c .before .before .before .before .before .before .pre .1) .0, words-there _ _ (c .before .before .before .before .before .before .pre .0) (c .before .before .before .before .before .before .pre .1) .1, omega arith)
+union-rows-requires c κs = rw add-sub-cancel (words-there _ _ (c .before .before .before .before .before .before .pre .0) (c .before .before .before .before .before .before .pre .1) .0, words-there _ _ (c .before .before .before .before .before .before .pre .0) (c .before .before .before .before .before .before .pre .1) .1, inl (omega arith))
 
 enum-told : tie.Need-enum-told
 enum-told c = search needs

@@ -1,4 +1,5 @@
 -- `manifest::add::unite` meets its contract: the parts that it passes on are the rows of the two states.
+use mathlib.Core.Logic.{inl}
 use Prim.Native.Nat.{_<_}
 use native.Mathlib.Nat.{add-sub-cancel}
 use native.Mathlib.Omega.{arith}
@@ -46,7 +47,7 @@ part-union-rows-end-2 : tie.Need-part-union-rows-end-2
 part-union-rows-end-2 c = omega (arith, contribution-count (c .before .before .before .before .before .before))
 
 union-rows-requires : tie.Need-union-rows-requires
-union-rows-requires c κs = let pre = c .before .before .before .before .before .before .before .before .pre in (rw add-sub-cancel (words-good _ _ (pre .0)), rw add-sub-cancel (words-good _ _ (pre .1)), pre .2)
+union-rows-requires c κs = let pre = c .before .before .before .before .before .before .before .before .pre in (rw add-sub-cancel (words-good _ _ (pre .0)), rw add-sub-cancel (words-good _ _ (pre .1)), inl (pre .2))
 
 same-length : tie.Need-same-length
 same-length c = search needs

@@ -1,10 +1,12 @@
 -- `trie::merge::union_fields`, `union_roots` and `union_trie` meet their contracts: what each stores is the next part of the union, and the steps left fall.
 use borrow.Author.Needs.{needs}
 use Prim.Native.Nat.{ℕ, _+_, _-_, _*_, _<_}
+use mathlib.Core.Path.{sym, _∙_}
 use native.Mathlib.Omega.{arith}
 use lib.ListN.{length}
 use Rattle.trie.specs.Merge.{Stored}
 use Rattle.trie.specs.MergeLaws.{stored-more, stored-length}
+use Prim.Native.Nat.{ℕ, _<_}
 use borrow.Fn.Kinds.{In}
 use borrow.Fn.PlainCycle.{Measures, is, falls, and}
 use Rattle.trie.proofs.merge.union_fields.Reads as union-fields
@@ -16,8 +18,10 @@ use Rattle.trie.proofs.merge.+union_fields+union_roots+union_trie.Lts-u
 use Rattle.trie.proofs.merge.union_trie.Reads as union-trie
 use Rattle.trie.proofs.merge.union_trie.Kinds as union-trie-kinds
 use Rattle.trie.proofs.merge.+union_fields+union_roots+union_trie.Lts-union_trie as union-trie-lts
+use Rattle.trie.proofs.merge.key_at.Reads as key-at-reads
 use Rattle.trie.proofs.merge.next_key.Reads as next-key-reads
-use Rattle.trie.proofs.merge.take_row.Reads as take-row-reads
+use Rattle.trie.proofs.merge.take_alone.Reads as take-alone-reads
+use Rattle.trie.proofs.merge.take_both.Reads as take-both-reads
 use Rattle.trie.proofs.merge.+union_fields+union_roots+union_trie.{statement}
 use Rattle.trie.proofs.merge.+union_fields+union_roots+union_trie.Tie.{close}
 
@@ -222,19 +226,55 @@ union-roots-returns : (t : ℕ) → union-roots-lts.Need-returns (
 ) (union-roots-at t) union-roots.Post union-roots-Inv-loop union-roots-μ-loop
 union-roots-returns t c = search needs
 
-union-trie-take-row-requires : (t : ℕ) → union-trie-lts.Need-take-row-requires (
-  take-row-reads.Asked,
-  take-row-reads.Learnt,
+union-trie-key-at-requires : (t : ℕ) → union-trie-lts.Need-key-at-requires (
+  key-at-reads.Asked,
+  key-at-reads.Learnt,
+  take-alone-reads.Asked,
+  take-alone-reads.Learnt,
+  take-both-reads.Asked,
+  take-both-reads.Learnt,
   union-fields-below t,
   union-fields.Post,
   union-roots-below t,
   union-roots.Post,
 ) (union-trie-at t) union-trie.Post
-union-trie-take-row-requires t c κs = search needs
+union-trie-key-at-requires t c κs = search needs
+
+union-trie-key-at-requires-2 : (t : ℕ) → union-trie-lts.Need-key-at-requires-2 (
+  key-at-reads.Asked,
+  key-at-reads.Learnt,
+  take-alone-reads.Asked,
+  take-alone-reads.Learnt,
+  take-both-reads.Asked,
+  take-both-reads.Learnt,
+  union-fields-below t,
+  union-fields.Post,
+  union-roots-below t,
+  union-roots.Post,
+) (union-trie-at t) union-trie.Post
+union-trie-key-at-requires-2 t c κs = search needs
+
+union-trie-take-alone-requires : (t : ℕ) → union-trie-lts.Need-take-alone-requires (
+  key-at-reads.Asked,
+  key-at-reads.Learnt,
+  take-alone-reads.Asked,
+  take-alone-reads.Learnt,
+  take-both-reads.Asked,
+  take-both-reads.Learnt,
+  union-fields-below t,
+  union-fields.Post,
+  union-roots-below t,
+  union-roots.Post,
+) (union-trie-at t) union-trie.Post
+union-trie-take-alone-requires t c κs = (search needs, (search needs, λ e. c .before .if1 .taken (c .before .before .before .key-at .ensures ∙ e ∙ sym (c .before .before .key-at2 .ensures))))
 
 union-trie-same-length : (t : ℕ) → union-trie-lts.Need-same-length (
-  take-row-reads.Asked,
-  take-row-reads.Learnt,
+  key-at-reads.Asked,
+  key-at-reads.Learnt,
+  take-alone-reads.Asked,
+  take-alone-reads.Learnt,
+  take-both-reads.Asked,
+  take-both-reads.Learnt,
   union-fields-below t,
   union-fields.Post,
   union-roots-below t,
@@ -243,8 +283,12 @@ union-trie-same-length : (t : ℕ) → union-trie-lts.Need-same-length (
 union-trie-same-length t c = search needs
 
 union-trie-returns : (t : ℕ) → union-trie-lts.Need-returns (
-  take-row-reads.Asked,
-  take-row-reads.Learnt,
+  key-at-reads.Asked,
+  key-at-reads.Learnt,
+  take-alone-reads.Asked,
+  take-alone-reads.Learnt,
+  take-both-reads.Asked,
+  take-both-reads.Learnt,
   union-fields-below t,
   union-fields.Post,
   union-roots-below t,
@@ -252,49 +296,27 @@ union-trie-returns : (t : ℕ) → union-trie-lts.Need-returns (
 ) (union-trie-at t) union-trie.Post
 union-trie-returns t c = search needs
 
-union-trie-sub-union-fields : (t : ℕ) → union-trie-lts.Need-sub-union-fields (
-  take-row-reads.Asked,
-  take-row-reads.Learnt,
+union-trie-take-both-requires : (t : ℕ) → union-trie-lts.Need-take-both-requires (
+  key-at-reads.Asked,
+  key-at-reads.Learnt,
+  take-alone-reads.Asked,
+  take-alone-reads.Learnt,
+  take-both-reads.Asked,
+  take-both-reads.Learnt,
   union-fields-below t,
   union-fields.Post,
   union-roots-below t,
   union-roots.Post,
 ) (union-trie-at t) union-trie.Post
-union-trie-sub-union-fields t c = search needs
-
-union-trie-union-fields-requires : (t : ℕ) → union-trie-lts.Need-union-fields-requires (
-  take-row-reads.Asked,
-  take-row-reads.Learnt,
-  union-fields-below t,
-  union-fields.Post,
-  union-roots-below t,
-  union-roots.Post,
-) (union-trie-at t) union-trie.Post
-union-trie-union-fields-requires t c κs = search needs
-
-union-trie-sub-union-roots : (t : ℕ) → union-trie-lts.Need-sub-union-roots (
-  take-row-reads.Asked,
-  take-row-reads.Learnt,
-  union-fields-below t,
-  union-fields.Post,
-  union-roots-below t,
-  union-roots.Post,
-) (union-trie-at t) union-trie.Post
-union-trie-sub-union-roots t c = search needs
-
-union-trie-union-roots-requires : (t : ℕ) → union-trie-lts.Need-union-roots-requires (
-  take-row-reads.Asked,
-  take-row-reads.Learnt,
-  union-fields-below t,
-  union-fields.Post,
-  union-roots-below t,
-  union-roots.Post,
-) (union-trie-at t) union-trie.Post
-union-trie-union-roots-requires t c κs = search needs
+union-trie-take-both-requires t c κs = (search needs, (search needs, sym (c .before .before .before .key-at .ensures) ∙ c .before .if1 .left ∙ c .before .before .key-at2 .ensures))
 
 union-trie-same-length-2 : (t : ℕ) → union-trie-lts.Need-same-length-2 (
-  take-row-reads.Asked,
-  take-row-reads.Learnt,
+  key-at-reads.Asked,
+  key-at-reads.Learnt,
+  take-alone-reads.Asked,
+  take-alone-reads.Learnt,
+  take-both-reads.Asked,
+  take-both-reads.Learnt,
   union-fields-below t,
   union-fields.Post,
   union-roots-below t,
@@ -303,15 +325,103 @@ union-trie-same-length-2 : (t : ℕ) → union-trie-lts.Need-same-length-2 (
 union-trie-same-length-2 t c = search needs
 
 union-trie-returns-2 : (t : ℕ) → union-trie-lts.Need-returns-2 (
-  take-row-reads.Asked,
-  take-row-reads.Learnt,
+  key-at-reads.Asked,
+  key-at-reads.Learnt,
+  take-alone-reads.Asked,
+  take-alone-reads.Learnt,
+  take-both-reads.Asked,
+  take-both-reads.Learnt,
   union-fields-below t,
   union-fields.Post,
   union-roots-below t,
   union-roots.Post,
 ) (union-trie-at t) union-trie.Post
-union-trie-returns-2 t c =
-    let node = c .before .before .before .before .before .before .before .before .before .before .before .take-row .ensures in
+union-trie-returns-2 t c = search needs
+
+union-trie-sub-union-fields : (t : ℕ) → union-trie-lts.Need-sub-union-fields (
+  key-at-reads.Asked,
+  key-at-reads.Learnt,
+  take-alone-reads.Asked,
+  take-alone-reads.Learnt,
+  take-both-reads.Asked,
+  take-both-reads.Learnt,
+  union-fields-below t,
+  union-fields.Post,
+  union-roots-below t,
+  union-roots.Post,
+) (union-trie-at t) union-trie.Post
+union-trie-sub-union-fields t c = search needs
+
+union-trie-union-fields-requires : (t : ℕ) → union-trie-lts.Need-union-fields-requires (
+  key-at-reads.Asked,
+  key-at-reads.Learnt,
+  take-alone-reads.Asked,
+  take-alone-reads.Learnt,
+  take-both-reads.Asked,
+  take-both-reads.Learnt,
+  union-fields-below t,
+  union-fields.Post,
+  union-roots-below t,
+  union-roots.Post,
+) (union-trie-at t) union-trie.Post
+union-trie-union-fields-requires t c κs = search needs
+
+union-trie-sub-union-roots : (t : ℕ) → union-trie-lts.Need-sub-union-roots (
+  key-at-reads.Asked,
+  key-at-reads.Learnt,
+  take-alone-reads.Asked,
+  take-alone-reads.Learnt,
+  take-both-reads.Asked,
+  take-both-reads.Learnt,
+  union-fields-below t,
+  union-fields.Post,
+  union-roots-below t,
+  union-roots.Post,
+) (union-trie-at t) union-trie.Post
+union-trie-sub-union-roots t c = search needs
+
+union-trie-union-roots-requires : (t : ℕ) → union-trie-lts.Need-union-roots-requires (
+  key-at-reads.Asked,
+  key-at-reads.Learnt,
+  take-alone-reads.Asked,
+  take-alone-reads.Learnt,
+  take-both-reads.Asked,
+  take-both-reads.Learnt,
+  union-fields-below t,
+  union-fields.Post,
+  union-roots-below t,
+  union-roots.Post,
+) (union-trie-at t) union-trie.Post
+union-trie-union-roots-requires t c κs = search needs
+
+union-trie-same-length-3 : (t : ℕ) → union-trie-lts.Need-same-length-3 (
+  key-at-reads.Asked,
+  key-at-reads.Learnt,
+  take-alone-reads.Asked,
+  take-alone-reads.Learnt,
+  take-both-reads.Asked,
+  take-both-reads.Learnt,
+  union-fields-below t,
+  union-fields.Post,
+  union-roots-below t,
+  union-roots.Post,
+) (union-trie-at t) union-trie.Post
+union-trie-same-length-3 t c = search needs
+
+union-trie-returns-3 : (t : ℕ) → union-trie-lts.Need-returns-3 (
+  key-at-reads.Asked,
+  key-at-reads.Learnt,
+  take-alone-reads.Asked,
+  take-alone-reads.Learnt,
+  take-both-reads.Asked,
+  take-both-reads.Learnt,
+  union-fields-below t,
+  union-fields.Post,
+  union-roots-below t,
+  union-roots.Post,
+) (union-trie-at t) union-trie.Post
+union-trie-returns-3 t c =
+    let node = c .before .before .before .before .before .before .before .before .before .before .before .take-both .ensures in
     let fields = c .before .before .before .before .before .before .union-fields .ensures in
     let roots = c .before .before .union-roots .ensures in
     (stored-more (node .0) (stored-more fields (roots .0)), omega (arith, node .1, fields .passed, roots .0 .passed))
@@ -358,8 +468,12 @@ pub +union-fields+union-roots+union-trie-spec : {M : Type 1} → statement M
     (union-roots-same-length t)
     (union-roots-returns t))
     λ t. union-trie-lts.spec (
-      take-row-reads.Asked,
-      take-row-reads.Learnt,
+      key-at-reads.Asked,
+      key-at-reads.Learnt,
+      take-alone-reads.Asked,
+      take-alone-reads.Learnt,
+      take-both-reads.Asked,
+      take-both-reads.Learnt,
       union-fields-below t,
       union-fields.Post,
       union-roots-below t,
@@ -367,12 +481,17 @@ pub +union-fields+union-roots+union-trie-spec : {M : Type 1} → statement M
     )
     (union-trie-at t)
     union-trie.Post
-    (union-trie-take-row-requires t)
+    (union-trie-key-at-requires t)
+    (union-trie-key-at-requires-2 t)
+    (union-trie-take-alone-requires t)
     (union-trie-same-length t)
     (union-trie-returns t)
+    (union-trie-take-both-requires t)
+    (union-trie-same-length-2 t)
+    (union-trie-returns-2 t)
     (union-trie-sub-union-fields t)
     (union-trie-union-fields-requires t)
     (union-trie-sub-union-roots t)
     (union-trie-union-roots-requires t)
-    (union-trie-same-length-2 t)
-    (union-trie-returns-2 t)
+    (union-trie-same-length-3 t)
+    (union-trie-returns-3 t)

@@ -1,4 +1,5 @@
 -- `trie::merge::union` meets its contract: each test that fails gives its refusal, and what is left is the union of the rows.
+use mathlib.Core.Logic.{inl}
 use Prim.Native.Nat.{_≤_, _<_}
 use mathlib.Core.Bool.{true}
 use mathlib.Core.Path.{_≡_, sym, _∙_}
@@ -93,7 +94,7 @@ part-union-rows-end-2 : tie.Need-part-union-rows-end-2
 part-union-rows-end-2 c = omega (arith, count-b (c .before .before .before))
 
 union-rows-requires : tie.Need-union-rows-requires
-union-rows-requires c κs = (rw add-sub-cancel (words-good _ _ (lawful-a (c .before .before .before .before .before .before .before))), rw add-sub-cancel (words-good _ _ (lawful-b (c .before .before .before .before .before))), long-out (c .before .before .before .before .before .before .before .before .before))
+union-rows-requires c κs = (rw add-sub-cancel (words-good _ _ (lawful-a (c .before .before .before .before .before .before .before))), rw add-sub-cancel (words-good _ _ (lawful-b (c .before .before .before .before .before))), inl (long-out (c .before .before .before .before .before .before .before .before .before)))
 
 same-length : tie.Need-same-length
 same-length c = search needs

@@ -5,6 +5,8 @@ use mathlib.Core.Path.{_≡_}
 use mathlib.Core.Bool.{cond, and-true, and-false}
 use borrow.Author.Tests.{lt-ltb, le-ltb, le-leb, lt-leb, eq-eqb, ne-eqb}
 use lib.Dec.{eqb}
+use native.Mathlib.Omega.{arith}
+use Rattle.rules.specs.Facts.{compared}
 use Rattle.rules.specs.Tries.{isRoot, isStep}
 use Rattle.trie.specs.Words.{stepIn, isWord}
 use Rattle.trie.specs.WordLaws.{entry-word, node-word}
@@ -34,44 +36,44 @@ returns-2 c =
 returns-3 : tie.Need-returns-3
 returns-3 c =
     let word = c .before .before .before .args .self .word in
-    rw (node-word word (c .before .if1 .left), le-ltb word (2 ^ 36) (c .if3 .taken), and-false)
-
-returns-4 : tie.Need-returns-4
-returns-4 c =
-    let word = c .before .before .before .before .args .self .word in
-    rw (node-word word (c .before .before .if1 .left), lt-leb (word / 2 ^ 25 % 2 ^ 11) 1024 (c .if4 .taken)) (simp and-false)
+    let large : 1024 < word / 2 ^ 25 = c .if3 .taken in
+    rw (node-word word (c .before .if1 .left))
+    (compared word (2 ^ 36)
+    (λ low. rw (lt-leb (word / 2 ^ 25 % 2 ^ 11) 1024 (omega (arith, low, large))) (simp and-false))
+    (λ high. rw (le-ltb word (2 ^ 36) high, and-false)))
 
 -- all but the step of a node's word is good
 node-step :
-    (c : tie.Else4) →
-    let word = c .before .before .before .before .args .self .word in
+    (c : tie.Else3) →
+    let word = c .before .before .before .args .self .word in
     isWord word ≡ cond (eqb (word % 32) 1) (isRoot (stepIn word)) (isStep (stepIn word))
 node-step c =
-    let word = c .before .before .before .before .args .self .word in
+    let word = c .before .before .before .args .self .word in
+    let small : word / 2 ^ 25 ≤ 1024 = c .if3 .left in
     rw (
-      node-word word (c .before .before .if1 .left),
-      le-leb (word / 2 ^ 25 % 2 ^ 11) 1024 (c .if4 .left),
-      lt-ltb word (2 ^ 36) (c .before .if3 .left),
+      node-word word (c .before .if1 .left),
+      le-leb (word / 2 ^ 25 % 2 ^ 11) 1024 (omega (arith, small)),
+      lt-ltb word (2 ^ 36) (omega (arith, small)),
     )
     (simp and-true)
 
 is-root-requires : tie.Need-is-root-requires
 is-root-requires c κs = search needs
 
-returns-5 : tie.Need-returns-5
-returns-5 c =
-    let word = c .before .before .before .before .before .before .args .self .word in
-    let step = c .before .before .before .before .before .step in
-    rw (node-step (c .before .before), eq-eqb (word % 32) 1 (c .before .if5 .taken)) (rw (step .ensures) at (c .is-root .ensures))
+returns-4 : tie.Need-returns-4
+returns-4 c =
+    let word = c .before .before .before .before .before .args .self .word in
+    let step = c .before .before .before .before .step in
+    rw (node-step (c .before .before), eq-eqb (word % 32) 1 (c .before .if4 .taken)) (rw (step .ensures) at (c .is-root .ensures))
 
 is-step-requires : tie.Need-is-step-requires
 is-step-requires c κs = search needs
 
-returns-6 : tie.Need-returns-6
-returns-6 c =
-    let word = c .before .before .before .before .before .before .args .self .word in
-    let step = c .before .before .before .before .before .step in
-    rw (node-step (c .before .before), ne-eqb (word % 32) 1 (c .before .if5 .left)) (rw (step .ensures) at (c .is-step .ensures))
+returns-5 : tie.Need-returns-5
+returns-5 c =
+    let word = c .before .before .before .before .before .args .self .word in
+    let step = c .before .before .before .before .step in
+    rw (node-step (c .before .before), ne-eqb (word % 32) 1 (c .before .if4 .left)) (rw (step .ensures) at (c .is-step .ensures))
 
 pub is-word-spec : {M : Type 1} → statement M
 is-word-spec =
@@ -82,8 +84,7 @@ is-word-spec =
     returns
     returns-2
     returns-3
-    returns-4
     is-root-requires
-    returns-5
+    returns-4
     is-step-requires
-    returns-6)
+    returns-5)
