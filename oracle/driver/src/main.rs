@@ -9,6 +9,7 @@ mod model;
 mod plain;
 mod runs;
 mod rust;
+mod sample;
 mod side;
 mod smoke;
 
@@ -16,10 +17,11 @@ use std::path::Path;
 use std::process::exit;
 use std::time::Instant;
 
-const USAGE: &str = "driver [all | runs | bench | smoke | cases FOLDER | RUN [CASE]] [seed=N] [part=N]
+const USAGE: &str = "driver [all | runs | bench | smoke | cases FOLDER | sample FOLDER | RUN [CASE]] [seed=N] [part=N]
   all     runs, then bench (what is done without words)
   RUN     pairs, unions, builds, steps, damaged, states, schemas: one of them, or one case of it by its number
   cases   the vectors cases*, stdout* of a folder through the published Rust
+  sample  writes the data files trie, manifest and steps of the published Rust's answers
   seed    where the generators begin (1)
   part    a part of the counts: 10 for a tenth";
 
@@ -44,8 +46,13 @@ fn work() -> u64 {
     }
     let words: Vec<&str> = words.iter().map(|w| w.as_str()).collect();
     let what = words.first().copied().unwrap_or("all");
-    if let ["cases", folder] = words.as_slice() {
-        return cases::run(Path::new(folder)).unwrap_or_else(|e| {
+    let told = match words.as_slice() {
+        ["cases", folder] => Some(cases::run(Path::new(folder))),
+        ["sample", folder] => Some(sample::run(Path::new(folder), seed)),
+        _ => None,
+    };
+    if let Some(told) = told {
+        return told.unwrap_or_else(|e| {
             println!("cannot: {e}");
             1
         });

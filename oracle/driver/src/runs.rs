@@ -101,7 +101,7 @@ fn no_faults(side: &mut dyn Side) -> Result<(), String> {
 // ---------------------------------------------------------------- single cases
 
 /// The union of two states by the Rust's functions, 5 and 4 judged on it.
-fn rust_union(kind: Kind, a: &Manifest, b: &Manifest) -> Answer<Manifest> {
+pub fn rust_union(kind: Kind, a: &Manifest, b: &Manifest) -> Answer<Manifest> {
     let union = if kind == Kind::Contribution && a.keys().eq(b.keys()) {
         a.iter().zip(b.values()).map(|((r, x), y)| (*r, rust::union(x, y))).collect()
     } else {
