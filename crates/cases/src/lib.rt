@@ -190,3 +190,22 @@ pub fn report(case: &[u8], got: &[u8], expected: &[u8]) {
         io::write_all(STDOUT_FILENO, b"\n");
     }
 }
+
+// Whether an answer is that of the published Rust.
+pub fn say_rust(is_same: bool) {
+    if is_same {
+        io::write_all(STDOUT_FILENO, b"as the Rust");
+    } else {
+        io::write_all(STDOUT_FILENO, b"NOT AS THE RUST");
+    }
+}
+
+// The same, where a field of a line has the Rust's answer in escapes.
+pub fn compare_rust(line: &[u8], n: usize, answer: &[u8]) {
+    let part = nth(line, n);
+    let start = part.start;
+    let end = part.end;
+    let mut want = [0u8; 65_536];
+    let length = decode(&line[start..end], &mut want);
+    say_rust(check::same(answer, &want[..length]));
+}

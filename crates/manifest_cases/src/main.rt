@@ -1,4 +1,4 @@
-// Replays the vectors of data/cases: texts that are read and written again, contributions that are added in many orders.
+// Replays the vectors of data/: texts that are read and written again, contributions that are added in many orders.
 ghost use Prim.Native.Nat.{_≤_};
 ghost use lib.ListN.{length};
 use libc::STDOUT_FILENO;
@@ -111,22 +111,35 @@ fn ask_written(line: &[u8], state: &[u64], text: &[u8]) {
     }
 }
 
-// Keeps a contribution under a number.
-fn keep(line: &[u8], kept: &mut [u64]) {
-    let number = cases::number(line, 1);
-    if 7 < number {
-        return;
-    }
+// Keeps a contribution under a number, one of 0 to 7.
+fn keep(line: &[u8], kept: &mut [u64]) -> Reply {
     let mut text = [0u8; TEXT];
     let n = text_of(line, &mut text);
-    let from = number as usize * WORDS;
+    let from = cases::number(line, 1) as usize * WORDS;
     let end = from + WORDS;
-    if end <= kept.len() {
-        let reply = manifest::read_listing(Kind::Contribution, &text[..n], &mut kept[from..end]);
-        match reply {
-            Reply::Done => say(b"kept"),
-            Reply::Refused(number, place) => say_refused(number, place),
-        }
+    if kept.len() < end {
+        return Reply::Refused(1, 0);
+    }
+    manifest::read_listing(Kind::Contribution, &text[..n], &mut kept[from..end])
+}
+
+// Keeps a contribution and says so.
+fn ask_keep(line: &[u8], kept: &mut [u64]) {
+    let reply = keep(line, kept);
+    match reply {
+        Reply::Done => say(b"kept"),
+        Reply::Refused(number, place) => say_refused(number, place),
+    }
+}
+
+// Keeps a contribution, and says nothing unless it is refused.
+fn hold(line: &[u8], kept: &mut [u64]) {
+    let reply = keep(line, kept);
+    if let Reply::Refused(number, place) = reply {
+        say(line);
+        say(b" -> ");
+        say_refused(number, place);
+        say(b"\n");
     }
 }
 
@@ -147,24 +160,31 @@ fn add_kept(state: &mut [u64], kept: &[u64], number: u64) {
     }
 }
 
-fn print_listing(state: &[u64]) {
+// Writes the listing of a manifest, or, where a field of the line has the published Rust's, says whether it is that.
+fn tell_listing(line: &[u8], field: usize, state: &[u64]) {
     let mut out = [0u8; TEXT];
     let written = manifest::write_listing(Kind::Manifest, state, &mut out);
     match written {
         Written::Refused(number, place) => say_refused(number, place),
         Written::Bytes(n) => {
             if n <= TEXT {
-                say(b"\n");
-                say(&out[..n]);
+                if cases::is_word(line, field, b"") {
+                    say(b"\n");
+                    say(&out[..n]);
+                } else {
+                    cases::compare_rust(line, field, &out[..n]);
+                }
             }
         }
     }
 }
 
-// Adds the kept contributions that a line names, in its order, and writes the listing.
-fn ask_order(line: &[u8], kept: &[u64]) {
+// Adds the kept contributions that a line names from a field on, in its order. After them stand an empty field and the Rust's listing, or nothing.
+fn ask_order(line: &[u8], from: usize, kept: &[u64])
+    requires { ⌜ from ≤ 32 ⌝ }
+{
     let mut state = [0u64; 4_161];
-    let mut n = 1;
+    let mut n = from;
     while n < 32 {
         let part = cases::nth(line, n);
         if part.start == part.end {
@@ -173,7 +193,18 @@ fn ask_order(line: &[u8], kept: &[u64]) {
         add_kept(&mut state, kept, cases::number(line, n));
         n += 1;
     }
-    print_listing(&state);
+    tell_listing(line, n + 1, &state);
+}
+
+// A line of the sample: its name, the contributions that are added, and the Rust's listing.
+fn ask_rust(line: &[u8], kept: &[u64]) {
+    let part = cases::nth(line, 1);
+    let start = part.start;
+    let end = part.end;
+    say(&line[start..end]);
+    say(b": ");
+    ask_order(line, 2, kept);
+    say(b"\n");
 }
 
 // One line of the data file: a comment, or a case and what comes of it.
@@ -184,15 +215,23 @@ fn replay(line: &[u8], kept: &mut [u64]) {
     if line[0] == b'#' {
         return;
     }
+    if cases::is_word(line, 0, b"hold") {
+        hold(line, kept);
+        return;
+    }
+    if cases::is_word(line, 0, b"rust") {
+        ask_rust(line, kept);
+        return;
+    }
     say(line);
     say(b" -> ");
     if cases::is_word(line, 0, b"keep") {
-        keep(line, kept);
+        ask_keep(line, kept);
         say(b"\n");
         return;
     }
     if cases::is_word(line, 0, b"order") {
-        ask_order(line, kept);
+        ask_order(line, 1, kept);
         say(b"\n");
         return;
     }
@@ -212,8 +251,7 @@ fn replay_all(text: &[u8]) {
     }
 }
 
-fn main() {
-    let path = b"cases";
+fn replay_file(path: &[u8]) {
     let fd = os::open_read(path);
     if fd < 0 {
         os::fail(path);
@@ -223,4 +261,10 @@ fn main() {
     let n = io::read_full(fd, &mut buffer);
     libc::close(fd);
     replay_all(&buffer[..n]);
+}
+
+// The crate's own vectors, and a sample of the published Rust's answers.
+fn main() {
+    replay_file(b"cases");
+    replay_file(b"oracle");
 }

@@ -1,4 +1,4 @@
-// Replays the vectors of data/: step texts under request type (10, 500, 20), each with its schema.
+// Replays the vectors of data/: step texts under request type (10, 500, 20) with their schema, in data/oracle also with the Rust's answer.
 use libc::STDOUT_FILENO;
 use manifest::Written;
 use schema::Schema;
@@ -12,22 +12,33 @@ fn say(word: &[u8]) {
     io::write_all(STDOUT_FILENO, word);
 }
 
-fn say_refused(number: u64, place: u64) {
-    say(b"refused ");
-    io::print_decimal(STDOUT_FILENO, number);
-    say(b" at ");
-    io::print_decimal(STDOUT_FILENO, place);
+// Says an answer after a gap, or, where the line ends with the published Rust's answer, whether it is that.
+fn tell(line: &[u8], gap: &[u8], answer: &[u8]) {
+    if cases::is_word(line, 3, b"") {
+        say(gap);
+        say(answer);
+    } else {
+        cases::compare_rust(line, 3, answer);
+    }
 }
 
-fn print_contribution(state: &[u64]) {
+fn tell_refused(line: &[u8], number: u64, place: u64) {
+    let mut out = [0u8; 64];
+    let headed = cases::say(&mut out, 0, b"refused ");
+    let numbered = cases::say_number(&mut out, headed, number);
+    let placed = cases::say(&mut out, numbered, b" at ");
+    let end = cases::say_number(&mut out, placed, place);
+    tell(line, b"", &out[..end]);
+}
+
+fn tell_contribution(line: &[u8], state: &[u64]) {
     let mut out = [0u8; TEXT];
     let written = manifest::write_listing(Kind::Contribution, state, &mut out);
     match written {
-        Written::Refused(number, place) => say_refused(number, place),
+        Written::Refused(number, place) => tell_refused(line, number, place),
         Written::Bytes(n) => {
             if n <= TEXT {
-                say(b"\n");
-                say(&out[..n]);
+                tell(line, b"\n", &out[..n]);
             }
         }
     }
@@ -43,8 +54,8 @@ fn ask_steps(line: &[u8], schema: &[u64]) {
     let mut state = [0u64; 1_026];
     let reply = analysis::analyse(schema, 42_982_440_980, &text[..n], &mut state);
     match reply {
-        Reply::Refused(number, place) => say_refused(number, place),
-        Reply::Done => print_contribution(&state),
+        Reply::Refused(number, place) => tell_refused(line, number, place),
+        Reply::Done => tell_contribution(line, &state),
     }
 }
 
@@ -58,9 +69,23 @@ fn ask(line: &[u8]) {
     let mut state = [0u64; Schema::WORDS];
     let reply = Schema::read(&text[..n], &mut state);
     match reply {
-        Reply::Refused(number, place) => say_refused(number, place),
+        Reply::Refused(number, place) => tell_refused(line, number, place),
         Reply::Done => ask_steps(line, &state),
     }
+}
+
+// Says a case; one with the Rust's answer by its name alone.
+fn say_case(line: &[u8]) {
+    if cases::is_word(line, 3, b"") {
+        say(line);
+        say(b" -> ");
+        return;
+    }
+    let part = cases::nth(line, 0);
+    let start = part.start;
+    let end = part.end;
+    say(&line[start..end]);
+    say(b": ");
 }
 
 // One line of a data file: a comment, or a case and what comes of it.
@@ -71,8 +96,7 @@ fn replay(line: &[u8]) {
     if line[0] == b'#' {
         return;
     }
-    say(line);
-    say(b" -> ");
+    say_case(line);
     ask(line);
     say(b"\n");
 }
@@ -108,4 +132,5 @@ fn main() {
     replay_file(b"cases5");
     replay_file(b"cases6");
     replay_file(b"cases7");
+    replay_file(b"oracle");
 }

@@ -1,4 +1,4 @@
-// Replays the vectors of data/cases: lines that fill two states and an expected one, and lines that ask for a union or a place.
+// Replays the vectors of data/: lines that fill two states and an expected one, and lines that ask for a union or a place.
 ghost use Prim.Native.Nat.{_≤_, _<_};
 ghost use lib.ListN.{length};
 use libc::STDOUT_FILENO;
@@ -166,6 +166,20 @@ fn ask_union(line: &[u8], a: &[u64], b: &[u64], want: &[u64]) {
     }
 }
 
+// The union of the two states, held against the published Rust's.
+fn ask_rust(line: &[u8], a: &[u64], b: &[u64], want: &[u64]) {
+    let mut out = [0u64; WORDS];
+    let reply = trie::union(kind_of(line), a, b, &mut out);
+    match reply {
+        Reply::Done => cases::say_rust(same_rows(&out, want)),
+        Reply::Refused(number, place) => {
+            say_refused(number, place);
+            say(b", ");
+            cases::say_rust(false);
+        }
+    }
+}
+
 // Puts the steps that a line names, from field 6 on, behind the first word of a place, and answers how many words that makes.
 fn read_steps(line: &[u8], place: &mut [u64]) -> usize
     requires { ⌜ 0 < length (now place) ⌝ }
@@ -236,6 +250,13 @@ fn replay(line: &[u8], a: &mut [u64], b: &mut [u64], want: &mut [u64]) {
         say(b"\n");
         return;
     }
+    if cases::is_word(line, 0, b"rust") {
+        say(&line[start..end]);
+        say(b": ");
+        ask_rust(line, a, b, want);
+        say(b"\n");
+        return;
+    }
     if cases::is_word(line, 0, b"has") {
         say(&line[start..end]);
         say(b": ");
@@ -258,8 +279,7 @@ fn replay_all(text: &[u8]) {
     }
 }
 
-fn main() {
-    let path = b"cases";
+fn replay_file(path: &[u8]) {
     let fd = os::open_read(path);
     if fd < 0 {
         os::fail(path);
@@ -269,4 +289,10 @@ fn main() {
     let n = io::read_full(fd, &mut buffer);
     libc::close(fd);
     replay_all(&buffer[..n]);
+}
+
+// The crate's own vectors, and a sample of the published Rust's answers.
+fn main() {
+    replay_file(b"cases");
+    replay_file(b"oracle");
 }

@@ -7,10 +7,10 @@ use Rattle.manifest_cases.proofs.ask_order.Statement.{statement}
 use Rattle.manifest_cases.proofs.ask_order.Tie as tie
 
 abbrev Inv-loop : tie.InvT-loop
-Inv-loop line kept state₀ n₀ state n = (n ≤ 32) × (length state ≡ 4161)
+Inv-loop line from kept state₀ n₀ state n = (n ≤ 32) × (length state ≡ 4161)
 
 abbrev μ-loop : tie.MeasureT-loop
-μ-loop line kept state₀ n₀ state n = 32 - n
+μ-loop line from kept state₀ n₀ state n = 32 - n
 
 loop-holds : tie.Need-loop-holds Inv-loop μ-loop
 loop-holds c = search needs
@@ -36,11 +36,14 @@ loop-less c = search needs
 loop-again : tie.Need-loop-again Inv-loop μ-loop
 loop-again c = search needs
 
-slice-aggregate-print-listing : tie.Need-slice-aggregate-print-listing Inv-loop μ-loop
-slice-aggregate-print-listing c = search needs
+add-tell-listing : tie.Need-add-tell-listing Inv-loop μ-loop
+add-tell-listing c = search needs
 
-print-listing-requires : tie.Need-print-listing-requires Inv-loop μ-loop
-print-listing-requires c κs = search needs
+slice-aggregate-tell-listing : tie.Need-slice-aggregate-tell-listing Inv-loop μ-loop
+slice-aggregate-tell-listing c = search needs
+
+tell-listing-requires : tie.Need-tell-listing-requires Inv-loop μ-loop
+tell-listing-requires c κs = search needs
 
 returns : tie.Need-returns Inv-loop μ-loop
 returns c = search needs
@@ -59,6 +62,7 @@ ask-order-spec =
     add-n
     loop-less
     loop-again
-    slice-aggregate-print-listing
-    print-listing-requires
+    add-tell-listing
+    slice-aggregate-tell-listing
+    tell-listing-requires
     returns)

@@ -1,15 +1,9 @@
 -- `manifest_cases::keep` is safe: the text lies within its buffer.
 use mathlib.Core.Path.{sym}
-use borrow.Author.Needs.{needs}
 use lib.Seq.{length-take-le}
+use borrow.Author.Needs.{needs}
 use Rattle.manifest_cases.proofs.keep.Statement.{statement}
 use Rattle.manifest_cases.proofs.keep.Tie as tie
-
-number-requires : tie.Need-number-requires
-number-requires c κs = search needs
-
-returns : tie.Need-returns
-returns c = search needs
 
 slice-aggregate-text-of : tie.Need-slice-aggregate-text-of
 slice-aggregate-text-of c = search needs
@@ -17,11 +11,17 @@ slice-aggregate-text-of c = search needs
 text-of-requires : tie.Need-text-of-requires
 text-of-requires c κs = search needs
 
+number-requires : tie.Need-number-requires
+number-requires c κs = search needs
+
 mul-from : tie.Need-mul-from
 mul-from c = search needs
 
 add-end : tie.Need-add-end
 add-end c = search needs
+
+returns : tie.Need-returns
+returns c = search needs
 
 array-share-prefix-text : tie.Need-array-share-prefix-text
 array-share-prefix-text c = search needs
@@ -44,46 +44,22 @@ part-read-listing-end c = search needs
 read-listing-requires : tie.Need-read-listing-requires
 read-listing-requires c κs = search needs
 
-enum-told : tie.Need-enum-told
-enum-told c = search needs
-
-slice-aggregate-say : tie.Need-slice-aggregate-say
-slice-aggregate-say c = search needs
-
-say-requires : tie.Need-say-requires
-say-requires c κs = search needs
-
-enum-known-reply : tie.Need-enum-known-reply
-enum-known-reply c = search needs
-
-say-refused-requires : tie.Need-say-refused-requires
-say-refused-requires c κs = search needs
-
 same-length : tie.Need-same-length
 same-length c = search needs
 
 returns-2 : tie.Need-returns-2
 returns-2 c = search needs
 
-same-length-2 : tie.Need-same-length-2
-same-length-2 c = search needs
-
-returns-3 : tie.Need-returns-3
-returns-3 c = search needs
-
-returns-4 : tie.Need-returns-4
-returns-4 c = search needs
-
 pub keep-spec : {M : Type 1} → statement M
 keep-spec =
     tie.close
     (tie.spec
-    number-requires
-    returns
     slice-aggregate-text-of
     text-of-requires
+    number-requires
     mul-from
     add-end
+    returns
     array-share-prefix-text
     slice-aggregate-read-listing
     mul-read-listing
@@ -91,13 +67,5 @@ keep-spec =
     part-read-listing-start
     part-read-listing-end
     read-listing-requires
-    enum-told
-    slice-aggregate-say
-    say-requires
-    enum-known-reply
-    say-refused-requires
     same-length
-    returns-2
-    same-length-2
-    returns-3
-    returns-4)
+    returns-2)

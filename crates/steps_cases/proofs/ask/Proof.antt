@@ -38,8 +38,8 @@ read-requires c κs = search needs
 enum-known-reply : tie.Need-enum-known-reply
 enum-known-reply c = search needs
 
-say-refused-requires : tie.Need-say-refused-requires
-say-refused-requires c κs = search needs
+tell-refused-requires : tie.Need-tell-refused-requires
+tell-refused-requires c κs = search needs
 
 enum-told : tie.Need-enum-told
 enum-told c = search needs
@@ -71,7 +71,7 @@ ask-spec =
     slice-aggregate-read-2
     read-requires
     enum-known-reply
-    say-refused-requires
+    tell-refused-requires
     enum-told
     slice-aggregate-ask-steps
     ask-steps-requires

@@ -38,17 +38,17 @@ analyse-requires c κs = search needs
 enum-known-reply : tie.Need-enum-known-reply
 enum-known-reply c = search needs
 
-say-refused-requires : tie.Need-say-refused-requires
-say-refused-requires c κs = search needs
+tell-refused-requires : tie.Need-tell-refused-requires
+tell-refused-requires c κs = search needs
 
 enum-told : tie.Need-enum-told
 enum-told c = search needs
 
-slice-aggregate-print-contribution : tie.Need-slice-aggregate-print-contribution
-slice-aggregate-print-contribution c = search needs
+slice-aggregate-tell-contribution : tie.Need-slice-aggregate-tell-contribution
+slice-aggregate-tell-contribution c = search needs
 
-print-contribution-requires : tie.Need-print-contribution-requires
-print-contribution-requires c κs = search needs
+tell-contribution-requires : tie.Need-tell-contribution-requires
+tell-contribution-requires c κs = search needs
 
 returns : tie.Need-returns
 returns c = search needs
@@ -71,9 +71,9 @@ ask-steps-spec =
     slice-aggregate-analyse-2
     analyse-requires
     enum-known-reply
-    say-refused-requires
+    tell-refused-requires
     enum-told
-    slice-aggregate-print-contribution
-    print-contribution-requires
+    slice-aggregate-tell-contribution
+    tell-contribution-requires
     returns
     returns-2)

@@ -1,9 +1,9 @@
--- `steps_cases::print_contribution` is safe: what was written lies within the buffer.
+-- `steps_cases::tell_contribution` is safe: what was written lies within the buffer.
 use mathlib.Core.Path.{sym}
 use lib.Seq.{length-take-le}
 use borrow.Author.Needs.{needs}
-use Rattle.steps_cases.proofs.print_contribution.Statement.{statement}
-use Rattle.steps_cases.proofs.print_contribution.Tie as tie
+use Rattle.steps_cases.proofs.tell_contribution.Statement.{statement}
+use Rattle.steps_cases.proofs.tell_contribution.Tie as tie
 
 slice-aggregate-write-listing : tie.Need-slice-aggregate-write-listing
 slice-aggregate-write-listing c = search needs
@@ -14,26 +14,23 @@ write-listing-requires c κs = search needs
 enum-known-written : tie.Need-enum-known-written
 enum-known-written c = search needs
 
-say-refused-requires : tie.Need-say-refused-requires
-say-refused-requires c κs = search needs
+tell-refused-requires : tie.Need-tell-refused-requires
+tell-refused-requires c κs = search needs
 
 enum-known-written-2 : tie.Need-enum-known-written-2
 enum-known-written-2 c = search needs
 
-slice-aggregate-say : tie.Need-slice-aggregate-say
-slice-aggregate-say c = search needs
-
-say-requires : tie.Need-say-requires
-say-requires c κs = search needs
+slice-aggregate-tell : tie.Need-slice-aggregate-tell
+slice-aggregate-tell c = search needs
 
 array-share-prefix-out : tie.Need-array-share-prefix-out
 array-share-prefix-out c = search needs
 
-slice-aggregate-say-2 : tie.Need-slice-aggregate-say-2
-slice-aggregate-say-2 c = sym (length-take-le _ _ (search needs))
+slice-aggregate-tell-2 : tie.Need-slice-aggregate-tell-2
+slice-aggregate-tell-2 c = sym (length-take-le _ _ (search needs))
 
-say-requires-2 : tie.Need-say-requires-2
-say-requires-2 c κs = search needs
+tell-requires : tie.Need-tell-requires
+tell-requires c κs = search needs
 
 returns : tie.Need-returns
 returns c = search needs
@@ -44,20 +41,19 @@ returns-2 c = search needs
 returns-3 : tie.Need-returns-3
 returns-3 c = search needs
 
-pub print-contribution-spec : {M : Type 1} → statement M
-print-contribution-spec =
+pub tell-contribution-spec : {M : Type 1} → statement M
+tell-contribution-spec =
     tie.close
     (tie.spec
     slice-aggregate-write-listing
     write-listing-requires
     enum-known-written
-    say-refused-requires
+    tell-refused-requires
     enum-known-written-2
-    slice-aggregate-say
-    say-requires
+    slice-aggregate-tell
     array-share-prefix-out
-    slice-aggregate-say-2
-    say-requires-2
+    slice-aggregate-tell-2
+    tell-requires
     returns
     returns-2
     returns-3)

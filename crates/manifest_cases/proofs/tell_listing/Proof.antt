@@ -1,9 +1,9 @@
--- `manifest_cases::print_listing` is safe: no more is written than there is room for.
+-- `manifest_cases::tell_listing` is safe: what was written lies within the buffer.
 use mathlib.Core.Path.{sym}
-use borrow.Author.Needs.{needs}
 use lib.Seq.{length-take-le}
-use Rattle.manifest_cases.proofs.print_listing.Statement.{statement}
-use Rattle.manifest_cases.proofs.print_listing.Tie as tie
+use borrow.Author.Needs.{needs}
+use Rattle.manifest_cases.proofs.tell_listing.Statement.{statement}
+use Rattle.manifest_cases.proofs.tell_listing.Tie as tie
 
 slice-aggregate-write-listing : tie.Need-slice-aggregate-write-listing
 slice-aggregate-write-listing c = search needs
@@ -20,6 +20,12 @@ say-refused-requires c κs = search needs
 enum-known-written-2 : tie.Need-enum-known-written-2
 enum-known-written-2 c = search needs
 
+slice-aggregate-is-word : tie.Need-slice-aggregate-is-word
+slice-aggregate-is-word c = search needs
+
+is-word-requires : tie.Need-is-word-requires
+is-word-requires c κs = search needs
+
 slice-aggregate-say : tie.Need-slice-aggregate-say
 slice-aggregate-say c = search needs
 
@@ -35,6 +41,15 @@ slice-aggregate-say-2 c = sym (length-take-le _ _ (search needs))
 say-requires-2 : tie.Need-say-requires-2
 say-requires-2 c κs = search needs
 
+array-share-prefix-out-2 : tie.Need-array-share-prefix-out-2
+array-share-prefix-out-2 c = search needs
+
+slice-aggregate-compare-rust : tie.Need-slice-aggregate-compare-rust
+slice-aggregate-compare-rust c = sym (length-take-le _ _ (search needs))
+
+compare-rust-requires : tie.Need-compare-rust-requires
+compare-rust-requires c κs = search needs
+
 returns : tie.Need-returns
 returns c = search needs
 
@@ -44,8 +59,11 @@ returns-2 c = search needs
 returns-3 : tie.Need-returns-3
 returns-3 c = search needs
 
-pub print-listing-spec : {M : Type 1} → statement M
-print-listing-spec =
+returns-4 : tie.Need-returns-4
+returns-4 c = search needs
+
+pub tell-listing-spec : {M : Type 1} → statement M
+tell-listing-spec =
     tie.close
     (tie.spec
     slice-aggregate-write-listing
@@ -53,11 +71,17 @@ print-listing-spec =
     enum-known-written
     say-refused-requires
     enum-known-written-2
+    slice-aggregate-is-word
+    is-word-requires
     slice-aggregate-say
     say-requires
     array-share-prefix-out
     slice-aggregate-say-2
     say-requires-2
+    array-share-prefix-out-2
+    slice-aggregate-compare-rust
+    compare-rust-requires
     returns
     returns-2
-    returns-3)
+    returns-3
+    returns-4)
