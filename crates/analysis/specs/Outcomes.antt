@@ -9,10 +9,13 @@ use Rattle.rules.specs.Numbers.{accepted, refused}
 use Rattle.rules.specs.Schema.{Item}
 use Rattle.rules.specs.Steps.{Result, run, analyse}
 use Rattle.trie.specs.States.{Outcome, refusing, storing}
+use Rattle.trie.specs.declared.Reply.{Reply}
 use Rattle.schema.specs.Items.{schemaWords, lawfulSchema, itemsIn}
 use Rattle.analysis.specs.Stacks.{Held}
 use Rattle.analysis.specs.declared.run.Ran.{Ran}
-use Rattle.analysis.specs.declared.run.Ran.the-variants.{Stack as Stacked, Refused}
+use Rattle.analysis.specs.declared.run.Ran.the-variants.{Stack as Stacked, Refused, Full}
+use Rattle.analysis.specs.declared.run.Answered.{Answered}
+use Rattle.analysis.specs.declared.run.Answered.the-variants.{Reply as Replied, Full as Filled}
 use Rattle.analysis.specs.declared.stack.Stack.{Stack}
 
 -- analysing steps: 31, then 1 at 0 for a schema that is not lawful or a number that is no request type, then what the text gives by line
@@ -28,6 +31,26 @@ pub record Finished (items : List Item) (text code tries : List ℕ) (stack : St
   pub ran : run items text ≡ accepted (record { lines = lines; stack = results })
   pub held : Held code tries stack results
 
+-- the runs are not the large ones, which no text fills
+abbrev pub NotLarge : List ℕ → List ℕ → Type 0
+NotLarge code tries = length code ≡ 213248 → length tries ≡ 33825 → ⊥
+
 abbrev pub RanBy : List Item → List ℕ → List ℕ → List ℕ → Ran → Type 0
 RanBy items text code tries (Stacked stack lines) = Finished items text code tries stack lines
 RanBy items text code tries (Refused number place) = run items text ≡ refused number place
+RanBy items text code tries Full = NotLarge code tries
+
+-- a reply, and what the buffer then holds
+abbrev pub Stored : List Item → ℕ → List ℕ → List ℕ → List ℕ → Reply → Type 0
+Stored items request text out out′ reply =
+    (reply ≡ storing out (analyse items request text) .reply) × (out′ ≡ storing out (analyse items request text) .buffer)
+
+-- where the runs are full, the buffer is as it was
+abbrev pub AnsweredBy : List Item → ℕ → List ℕ → List ℕ → List ℕ → Answered → Type 0
+AnsweredBy items request text out out′ (Replied reply) = Stored items request text out out′ reply
+AnsweredBy items request text out out′ Filled = out′ ≡ out
+
+-- and they are not the large ones
+abbrev pub FullBy : List ℕ → List ℕ → Answered → Type 0
+FullBy code tries (Replied reply) = Unit
+FullBy code tries Filled = NotLarge code tries

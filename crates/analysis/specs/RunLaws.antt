@@ -1,5 +1,5 @@
 -- Laws of running a step text line by line (Outcomes), and of what its stack comes to. No contract cites this file.
-use Prim.Native.Nat.{ℕ, suc, _+_, _-_, _≤_, _<_}
+use Prim.Native.Nat.{ℕ, suc, _+_, _-_, _^_, _≤_, _<_}
 use native.Mathlib.Nat.{add-sub-cancel-left}
 use native.Mathlib.Numerals.{add-one}
 use native.Mathlib.Omega.{arith}
@@ -7,7 +7,7 @@ use mathlib.Core.Path.{_≡_, refl, sym, _∙_, subst}
 use mathlib.Core.Bool.{true, false}
 use mathlib.Core.List.{List, [], _∷_, _++_}
 use mathlib.Core.Option.{Option}
-use mathlib.Core.Logic.{_≢_}
+use mathlib.Core.Logic.{_≢_, _⊎_, inl, inr}
 use borrow.Author.Tests.{lt-ltb}
 use lib.ListN.{length, take, drop, getD, set, length-drop, length-set, drop-of-length-le}
 use lib.Seq.{length-take-le}
@@ -50,7 +50,6 @@ use Rattle.rules.specs.Steps.{
   runFrom,
   run,
   ended,
-  analyse,
 }
 use Rattle.rules.specs.StepLaws.{Each, AllGood, GoodSchema, judged-accepted, step-good, apply-good}
 use Rattle.text.specs.Answers.{lineAt}
@@ -59,7 +58,6 @@ use Rattle.text.specs.declared.Line.{Line}
 use Rattle.text.specs.declared.Line.the-variants.{Whole}
 use Rattle.trie.specs.Words.{wordOf}
 use Rattle.trie.specs.States.{holding, storing}
-use Rattle.trie.specs.declared.Reply.{Reply}
 use Rattle.trie.specs.declared.Reply.the-variants.{Done, Refused}
 use Rattle.manifest.specs.Writes.{Wrote}
 use Rattle.manifest.specs.ReadLaws.{lines-whole, lines-cut}
@@ -69,8 +67,8 @@ use Rattle.analysis.specs.Lines.{stepRead, GoodRead}
 use Rattle.analysis.specs.Stacks.{trieWords, stacked, Held, Holding, Reached, TrieAt}
 use Rattle.analysis.specs.TypeTableLaws.{good-all, good-lawful}
 use Rattle.analysis.specs.FullLaws.{item-keys}
-use Rattle.analysis.specs.StackLaws.{trie-count, trie-rows, at-within, at-few, top-trie, top-at}
-use Rattle.analysis.specs.Outcomes.{Finished}
+use Rattle.analysis.specs.StackLaws.{trie-count, trie-rows, at-within, at-few, code-left, tries-left, top-trie, top-at}
+use Rattle.analysis.specs.Outcomes.{Finished, NotLarge, Stored}
 use Rattle.analysis.specs.declared.step.Step.{Step as StepRead}
 use Rattle.analysis.specs.declared.step.Step.the-variants.{Root, None, Attr, Union, Drop, Full, In, Set, Rec, Bad}
 use Rattle.analysis.specs.declared.stack.Stack.{Stack}
@@ -196,17 +194,13 @@ pub record Running (words text code tries : List ℕ) (stack : Stack) (at line :
 -- before the first line there is no result
 pub running-none :
     (words text code tries : List ℕ) (stack : Stack)
-    → length code ≡ 212992
-    → length tries ≡ 32800
-    → (stack .code ≡ 212992) × ((stack .tries ≡ 32800) × (stack .results ≡ 0))
+    → (stack .code ≡ length code) × ((stack .tries ≡ length tries) × (stack .results ≡ 0))
     → Running words text code tries stack 0 0
 unfolding Each codes stacked
-running-none words text code tries stack codes-all tries-all (at-code, (at-tries, no-result)) = record {
+running-none words text code tries stack (at-code, (at-tries, no-result)) = record {
   results = [];
   held = record {
     layout = record {
-      code-length = codes-all;
-      tries-length = tries-all;
       in-code = omega arith;
       in-tries = omega arith;
       code-there = drop-of-length-le code {i = stack .code} (omega arith);
@@ -222,8 +216,20 @@ running-none words text code tries stack codes-all tries-all (at-code, (at-tries
 }
 
 module _ {words text code tries : List ℕ} {stack : Stack} {at line : ℕ} (running : Running words text code tries stack at line) where
-  pub running-holds : Holding code tries stack
-  running-holds = record { results = running .results; held = running .held }
+  -- a step may take the results where there is room
+  pub running-holds : 256 ≤ stack .code → 1025 ≤ stack .tries → length code < 2 ^ 53 → Holding code tries stack
+  running-holds code-room tries-room few-words = record {
+    results = running .results;
+    held = running .held;
+    code-room = code-room;
+    tries-room = tries-room;
+    few-words = few-words;
+  }
+
+  -- there always is in the large runs
+  pub running-full : (stack .code < 256) ⊎ (stack .tries < 1025) → NotLarge code tries
+  running-full (inl little) code-length tries-length = omega (arith, code-left (running .held), running .held .few)
+  running-full (inr little) code-length tries-length = omega (arith, tries-left (running .held), running .held .few)
 
   -- no line is left
   pub running-all : length text ≤ at → Finished (itemsOf words) text code tries stack line
@@ -311,20 +317,15 @@ module _ (words : List ℕ) (at : ℕ) where
 
 -- ---- what analysing answers, by what the text gives
 
--- an answer, and what the buffer then holds
-abbrev pub Answered : List Item → ℕ → List ℕ → List ℕ → Reply → List ℕ → Type 0
-Answered items request text out reply out′ =
-    (reply ≡ storing out (analyse items request text) .reply) × (out′ ≡ storing out (analyse items request text) .buffer)
-
 pub answered-refused :
     (items : List Item) (request : ℕ) (text out : List ℕ) {number place : ℕ}
     → run items text ≡ refused number place
-    → Answered items request text out (Refused number place) out
+    → Stored items request text out out (Refused number place)
 answered-refused items request text out e = rw e (refl, refl)
 
 module _ {items : List Item} {text code tries : List ℕ} {stack : Stack} {lines : ℕ} (finished : Finished items text code tries stack lines) where
   -- not one result is left
-  pub answered-many : (request : ℕ) (out : List ℕ) → stack .results ≢ 1 → Answered items request text out (Refused 6 lines) out
+  pub answered-many : (request : ℕ) (out : List ℕ) → stack .results ≢ 1 → Stored items request text out out (Refused 6 lines)
   answered-many request out many = rw (finished .ran) (go (finished .results) (finished .held .layout .as-many))
     where
       go :
@@ -360,5 +361,5 @@ module _ {items : List Item} {text code tries : List ℕ} {stack : Stack} {lines
     pub answered-one :
         (request : ℕ) (out : List ℕ) {out′ : List ℕ}
         → ((trie : List Row) (rest : List ℕ) → drop (stack .tries) tries ≡ trieWords trie ++ rest → out′ ≡ holding out (read 0 request false ∷ trie))
-        → Answered items request text out Done out′
+        → Stored items request text out out′ Done
     answered-one request out written = rw (finished .ran, only .1) (refl, written (only .0 .trie) [] only-there)

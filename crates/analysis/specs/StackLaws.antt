@@ -298,16 +298,6 @@ placed-one w out end some-place inside =
 
 -- ---- the room of results
 
--- the words of several, as of one, are few
-codes-short :
-    (results : List Result)
-    → AllGood results
-    → length (codes (pathsOf results)) + length results ≤ 26 * nodesOfAll (pathsOf results)
-unfolding codes nodesOfAll Each
-codes-short [] good = omega arith
-codes-short (r ∷ results) good =
-    omega (arith, words-few (r .paths) (good .0 .good-paths), codes-short results (good .1), length-append (code (r .paths)) (codes (pathsOf results)))
-
 codes-room : (results : List Result) → AllGood results → length (codes (pathsOf results)) ≤ 6656 * length results
 unfolding codes Each
 codes-room [] good = omega arith
@@ -335,18 +325,16 @@ tries-room (r ∷ results) good =
 -- ---- the results that a stack holds
 
 module _ {codeRun tries : List ℕ} {stack : Stack} {results : List Result} (held : Held codeRun tries stack results) where
-  pub code-place : stack .code + length (codes (pathsOf results)) ≡ 212992
-  code-place =
-      omega (arith, ap length (held .layout .code-there), length-drop (stack .code) codeRun, held .layout .code-length, held .layout .in-code)
+  code-place : stack .code + length (codes (pathsOf results)) ≡ length codeRun
+  code-place = omega (arith, ap length (held .layout .code-there), length-drop (stack .code) codeRun, held .layout .in-code)
 
-  pub tries-place : stack .tries + length (stacked (triesOf results)) ≡ 32800
-  tries-place =
-      omega (arith, ap length (held .layout .tries-there), length-drop (stack .tries) tries, held .layout .tries-length, held .layout .in-tries)
+  tries-place : stack .tries + length (stacked (triesOf results)) ≡ length tries
+  tries-place = omega (arith, ap length (held .layout .tries-there), length-drop (stack .tries) tries, held .layout .in-tries)
 
-  pub code-left : 212992 ≤ stack .code + 6656 * length results
+  pub code-left : length codeRun ≤ stack .code + 6656 * length results
   code-left = omega (arith, code-place, codes-room results (held .good))
 
-  pub tries-left : 32800 ≤ stack .tries + 1025 * length results
+  pub tries-left : length tries ≤ stack .tries + 1025 * length results
   tries-left = omega (arith, tries-place, tries-room results (held .good))
 
 -- the top, and what is below it
@@ -379,8 +367,6 @@ module _ {codeRun tries : List ℕ} {stack : Stack} {top : Result} {rest : List 
   unfolding codes stacked
   below-held = record {
     layout = record {
-      code-length = held .layout .code-length;
-      tries-length = held .layout .tries-length;
       in-code = omega (arith, code-place held, length-append (code (top .paths)) (codes (pathsOf rest)));
       in-tries =
           omega (
@@ -441,10 +427,8 @@ pub landed :
     → Layout codeRun′ tries′ stack (top ∷ rest)
 unfolding codes stacked
 landed layout c t many = record {
-  code-length = c .same-length ∙ layout .code-length;
-  tries-length = t .same-length ∙ layout .tries-length;
-  in-code = omega (arith, c .starts, layout .in-code);
-  in-tries = omega (arith, t .starts, layout .in-tries);
+  in-code = omega (arith, c .starts, c .same-length, layout .in-code);
+  in-tries = omega (arith, t .starts, t .same-length, layout .in-tries);
   code-there = c .there ∙ rw (layout .code-there);
   tries-there = t .there ∙ rw (layout .tries-there);
   as-many = many;
@@ -454,20 +438,21 @@ landed layout c t many = record {
 pub pushed :
     {codeRun tries codeRun′ : List ℕ} {stack : Stack} {results : List Result} {start : ℕ} (paths : Paths)
     → Held codeRun tries stack results
+    → 0 < stack .tries
     → length results < 32
     → nodesOf paths ≡ 1
     → Placed (code paths) codeRun (stack .code) codeRun′ start
     → Reached (λ place. judged place (result [] paths) results) codeRun′ (set tries (stack .tries - 1) 0)
     (record { code = start; tries = stack .tries - 1; results = stack .results + 1 })
 unfolding isTooDeep
-pushed {tries} {stack} {results} paths held few nodes p =
-    let some-room : 0 < stack .tries = omega (arith, tries-left held) in
-    let inside : stack .tries ≤ length tries = omega (arith, held .layout .in-tries, held .layout .tries-length) in
-    record {
-      after = result [] paths ∷ results;
-      reached = λ place. judged-good place (result [] paths) results few (omega arith) refl (omega arith);
-      layout = landed (held .layout) p (placed-one 0 tries (stack .tries) some-room inside) (omega (arith, held .layout .as-many));
-    }
+pushed {tries} {stack} {results} paths held some-room few nodes p = record {
+  after = result [] paths ∷ results;
+  reached = λ place. judged-good place (result [] paths) results few (omega arith) refl (omega arith);
+  layout =
+      landed (held .layout) p
+      (placed-one 0 tries (stack .tries) some-room (held .layout .in-tries))
+      (omega (arith, held .layout .as-many));
+}
 
 -- ---- tries that are merged
 
@@ -695,7 +680,7 @@ module _ {words state : List ℕ} {place count end i : ℕ} (going : Going words
 
   pub going-over :
       {words′ state′ : List ℕ} {start : ℕ}
-      → start ≡ 32800
+      → start ≡ length words
       → Became (union (rowsIn state) (rowsOf (take (getD words end 0) (drop (end + 1) words)))) state′ false
       → MergedFrom words place count words′ start
   going-over all b tries rest many good there = inl (all, left-over (going .merging tries rest many good there) some-left b)
@@ -705,11 +690,10 @@ pub going-done :
     {words state words′ : List ℕ} {place count end i start : ℕ}
     → Going words place count state end i
     → count ≤ i
-    → length words ≡ 32800
     → Placed (trieWords (rowsIn state)) words end words′ start
     → MergedFrom words place count words′ start
 unfolding merged stacked
-going-done {words} {state} {words′} {place} {count} {end} {i} {start} going all long p tries rest many good there =
+going-done {words} {state} {words′} {place} {count} {end} {i} {start} going all p tries rest many good there =
     let l = going .merging tries rest many good there in
     go (l .ahead) (l .as-many) (l .there) (l .same)
   where
@@ -718,11 +702,11 @@ going-done {words} {state} {words′} {place} {count} {end} {i} {start} going al
         → length ahead ≡ count - i
         → drop end words ≡ stacked ahead ++ rest
         → merged (rowsIn state) ahead ≡ merged [] tries
-        → ((start ≡ 32800) × (1024 < length (merged [] tries))) ⊎ Merges tries rest words′ start
+        → ((start ≡ length words) × (1024 < length (merged [] tries))) ⊎ Merges tries rest words words′ start
     go [] many there same = inr (record {
       fits = omega (arith, ap length same, state-count (going .is), going .is .few-rows);
       inside = omega (arith, p .starts, going .inside);
-      same-length = p .same-length ∙ long;
+      same-length = p .same-length;
       there = p .there ∙ rw (there, ← same);
     })
     go (trie ∷ ahead) many there same = absurd (omega arith)
@@ -777,7 +761,6 @@ module _ {codeRun tries : List ℕ} {stack : Stack} (taken left : List Result) {
     wrap-tries = record {
       tries = triesOf taken;
       rest = stacked (triesOf left);
-      words-length = held .layout .tries-length;
       some-trie = some-taken;
       as-many = length-map taken (λ r. r .trie) ∙ many;
       there = tries-there;
@@ -789,20 +772,8 @@ module _ {codeRun tries : List ℕ} {stack : Stack} (taken left : List Result) {
     wrap-few = omega (arith, held .few, length-append taken left)
 
     -- there is room for a head with its names
-    pub wrap-room : nodesOfAll (pathsOf taken) < 256 → (count + 1 ≤ stack .code) × (stack .code ≤ length codeRun)
-    wrap-room few-nodes = (
-      omega (
-        arith,
-        code-place held,
-        ap length (codes-split taken left),
-        length-append (codes (pathsOf taken)) (codes (pathsOf left)),
-        codes-short taken taken-good,
-        codes-room left left-good,
-        held .few,
-        length-append taken left,
-      ),
-      omega (arith, held .layout .in-code, held .layout .code-length),
-    )
+    pub wrap-room : 256 ≤ stack .code → count + 1 ≤ stack .code
+    wrap-room room = omega (arith, held .few, length-append taken left)
 
     module _ {head : List ℕ} {wrapping : Result} (w : Wraps head taken wrapping) where
       pub wrap-over :
@@ -820,19 +791,19 @@ module _ {codeRun tries : List ℕ} {stack : Stack} (taken left : List Result) {
         wrapped-shallow : isTooDeep (wrapping .trie) ≡ false
         wrapped-shallow = rw (w .tries) (trie-shallow _ (merged-trie [] (triesOf taken) empty-trie tries-good))
 
-        pub wrap-rows : start ≡ 32800 → (place : ℕ) → judged place wrapping left ≡ refused 4 place
+        pub wrap-rows : start ≡ length tries → (place : ℕ) → judged place wrapping left ≡ refused 4 place
         wrap-rows none-there place =
             go (m (triesOf taken) (stacked (triesOf left)) (length-map taken (λ r. r .trie) ∙ many) tries-good tries-there)
           where
             go :
-                ((start ≡ 32800) × (1024 < length (merged [] (triesOf taken)))) ⊎ Merges (triesOf taken) (stacked (triesOf left)) tries′ start
+                ((start ≡ length tries) × (1024 < length (merged [] (triesOf taken)))) ⊎ Merges (triesOf taken) (stacked (triesOf left)) tries tries′ start
                 → judged place wrapping left ≡ refused 4 place
             go (inl h) = judged-rows place wrapping left wrap-few wrapped-nodes wrapped-shallow (omega (arith, h .1, ap length (w .tries)))
             go (inr h) = absurd (omega (arith, h .inside))
 
         pub wrap-done :
             {codeRun′ : List ℕ} {first : ℕ}
-            → (start ≡ 32800 → ⊥)
+            → (start ≡ length tries → ⊥)
             → Placed head codeRun (stack .code) codeRun′ first
             → Reached (λ place. judged place wrapping left) codeRun′ tries′
             (record { code = first; tries = start; results = stack .results - count + 1 })
@@ -841,7 +812,7 @@ module _ {codeRun tries : List ℕ} {stack : Stack} (taken left : List Result) {
             go (m (triesOf taken) (stacked (triesOf left)) (length-map taken (λ r. r .trie) ∙ many) tries-good tries-there)
           where
             go :
-                ((start ≡ 32800) × (1024 < length (merged [] (triesOf taken)))) ⊎ Merges (triesOf taken) (stacked (triesOf left)) tries′ start
+                ((start ≡ length tries) × (1024 < length (merged [] (triesOf taken)))) ⊎ Merges (triesOf taken) (stacked (triesOf left)) tries tries′ start
                 → Reached (λ place. judged place wrapping left) codeRun′ tries′
                 (record { code = first; tries = start; results = stack .results - count + 1 })
             go (inl h) = absurd (there (h .0))
@@ -850,10 +821,8 @@ module _ {codeRun tries : List ℕ} {stack : Stack} (taken left : List Result) {
               reached = λ place.
                   judged-good place wrapping left wrap-few wrapped-nodes wrapped-shallow (omega (arith, h .fits, ap length (w .tries)));
               layout = record {
-                code-length = p .same-length ∙ held .layout .code-length;
-                tries-length = h .same-length;
-                in-code = omega (arith, p .starts, held .layout .in-code);
-                in-tries = omega (arith, h .inside);
+                in-code = omega (arith, p .starts, p .same-length, held .layout .in-code);
+                in-tries = omega (arith, h .inside, h .same-length);
                 code-there =
                     p .there
                     ∙ rw (codes-there, w .coded) (sym (append-assoc head (codes (pathsOf taken)) (codes (pathsOf left))));
@@ -1062,11 +1031,11 @@ module _ {codeRun tries : List ℕ} {stack : Stack} {top : Result} {rest : List 
   top-few = omega (arith, held .few)
 
   -- there is room for another top
-  pub code-end-room : {end : ℕ} → end ≡ below held .code → (6656 ≤ end) × (end ≤ 212992)
-  code-end-room e = (omega (arith, code-left (below-held held), top-few), omega (arith, below-held held .layout .in-code))
+  pub code-end-room : {end : ℕ} → 256 ≤ stack .code → end ≡ below held .code → (0 < end) × (end ≤ length codeRun)
+  code-end-room room e = (omega arith, omega (arith, below-held held .layout .in-code))
 
-  pub tries-end-room : {end : ℕ} → end ≡ below held .tries → (1025 ≤ end) × (end ≤ 32800)
-  tries-end-room e = (omega (arith, tries-left (below-held held), top-few), omega (arith, below-held held .layout .in-tries))
+  pub tries-end-room : {end : ℕ} → 1025 ≤ stack .tries → end ≡ below held .tries → (1025 ≤ end) × (end ≤ length tries)
+  tries-end-room room e = (omega arith, omega (arith, below-held held .layout .in-tries))
 
 -- empty paths
 pub drop-few :
@@ -1095,9 +1064,7 @@ drop-done (top ∷ rest) held some-result m p =
       reached = λ place.
           judged-good place (emptyPaths (top .trie)) rest (top-few held) (omega arith) (trie-shallow (top .trie) (top-good held .good-trie)) (top-good held .few-rows);
       layout = record {
-        code-length = put .same-length ∙ under .code-length;
-        tries-length = held .layout .tries-length;
-        in-code = omega (arith, put .starts, under .in-code);
+        in-code = omega (arith, put .starts, put .same-length, under .in-code);
         in-tries = held .layout .in-tries;
         code-there = put .there ∙ rw (under .code-there);
         tries-there = held .layout .tries-there;
@@ -1165,6 +1132,32 @@ attr-nodes f (RecordLiteral fields) after e =
     (λ own h. rw h (omega (arith, field-nodes f fields own h))))
 attr-nodes f (SetLiteral elements) after e = absurd (Option·none-ne-some after e)
 
+-- each path gains one word
+field-words : (f : ℕ) (fields : Fields) (paths : Paths) → fieldOf f fields ≡ some paths → length (code paths) ≤ length (codeFields fields)
+unfolding fieldOf codeFields
+field-words f noField paths e = absurd (Option·none-ne-some paths e)
+field-words f (field name own fields) paths e =
+    by-test (eqb name f)
+    (λ h. rw (← Option·some-injective own paths (rw h at e)) (omega (arith, length-append (code own) (codeFields fields))))
+    (λ h. omega (arith, field-words f fields paths (rw h at e), length-append (code own) (codeFields fields)))
+
+attr-words : (f : ℕ) (paths after : Paths) → getOrHasAttr f paths ≡ some after → length (code after) ≤ length (code paths) + nodesOf paths
+unfolding getOrHasAttr nodesOf code
+attr-words f Empty after e = rw (← Option·some-injective Empty after e) (omega arith)
+attr-words f (AccessPath path) after e =
+    rw (← Option·some-injective (AccessPath (path ++ (f ∷ []))) after e) (omega (arith, length-append path (f ∷ [])))
+attr-words f (Union a b) after e =
+    bind-some (getOrHasAttr f b) _ after e λ b′ eb e.
+    bind-some (getOrHasAttr f a) _ after e λ a′ ea e.
+    rw (← Option·some-injective (Union a′ b′) after e)
+    (omega (arith, attr-words f a a′ ea, attr-words f b b′ eb, length-append (code b) (code a), length-append (code b′) (code a′)))
+attr-words f (RecordLiteral fields) after e =
+    rw (← Option·some-injective (fieldOr (fieldOf f fields) (RecordLiteral fields)) after e)
+    (by-option (fieldOf f fields)
+    (λ h. rw h (omega arith))
+    (λ own h. rw h (omega (arith, field-words f fields own h, length-append (namesIn fields) (codeFields fields)))))
+attr-words f (SetLiteral elements) after e = absurd (Option·none-ne-some after e)
+
 pub attr-few :
     {codeRun tries : List ℕ} {stack : Stack} (f : ℕ) (results : List Result)
     → Held codeRun tries stack results
@@ -1195,6 +1188,13 @@ module _ {codeRun tries : List ℕ} {stack : Stack} {top : Result} {rest : List 
 
     nodes-after : nodesOf (g .after) ≤ 256
     nodes-after = omega (arith, attr-nodes f (top .paths) (g .after) (g .extended), top-good held .few-nodes)
+
+    -- the words after the step fit before the end of the top
+    pub attr-room : {end : ℕ} → 256 ≤ stack .code → end ≡ below held .code → (length (take words out) ≤ end) × (end ≤ length codeRun)
+    attr-room room e = (
+      omega (arith, ap length (g .coded), attr-words f (top .paths) (g .after) (g .extended), top-good held .few-nodes),
+      omega (arith, below-held held .layout .in-code),
+    )
 
     deep-after : isTooDeep (addPaths (top .trie) (pathsIn (g .after)) emptyLeaf) ≡ anyDeep gained 0
     unfolding deepest

@@ -1,5 +1,5 @@
 -- The stack of results in words: wrapped paths and tries in two runs that end together with them, the top in front.
-use Prim.Native.Nat.{ℕ, suc, _+_, _≤_, _<_}
+use Prim.Native.Nat.{ℕ, suc, _+_, _^_, _≤_, _<_}
 use mathlib.Core.Path.{_≡_}
 use mathlib.Core.Logic.{_⊎_}
 use mathlib.Core.Bool.{false}
@@ -35,23 +35,25 @@ stacked (trie ∷ tries) = trieWords trie ++ stacked tries
 
 -- results lie in the two runs
 pub record Layout (code tries : List ℕ) (stack : Stack) (results : List Result) : Type 0 where
-  pub code-length : length code ≡ 212992
-  pub tries-length : length tries ≡ 32800
-  pub in-code : stack .code ≤ 212992
-  pub in-tries : stack .tries ≤ 32800
+  pub in-code : stack .code ≤ length code
+  pub in-tries : stack .tries ≤ length tries
   pub code-there : drop (stack .code) code ≡ codes (pathsOf results)
   pub tries-there : drop (stack .tries) tries ≡ stacked (triesOf results)
   pub as-many : stack .results ≡ length results
 
--- and they are results that a step may take
+-- and they are results that steps leave
 pub record Held (code tries : List ℕ) (stack : Stack) (results : List Result) : Type 0 where
   pub layout : Layout code tries stack results
   pub few : length results ≤ 32
   pub good : AllGood results
 
+-- a step may take them: there is room in front of the top, and a place in the paths' run fits a word beside a type
 pub record Holding (code tries : List ℕ) (stack : Stack) : Type 0 where
   pub results : List Result
   pub held : Held code tries stack results
+  pub code-room : 256 ≤ stack .code
+  pub tries-room : 1025 ≤ stack .tries
+  pub few-words : length code < 2 ^ 53
 
 -- what a step gives is what its definition answers, at any line
 pub record Reached (answer : ℕ → Answer (List Result)) (code tries : List ℕ) (stack : Stack) : Type 0 where
@@ -96,11 +98,10 @@ Pushed words code tries stack code′ tries′ r =
     → Held code tries stack results
     → Outcomes (λ place. judged place (result [] paths) results) code′ tries′ r
 
--- so many tries stand in words from a place on, in a run of the stack's length
+-- so many tries stand in words from a place on
 pub record TriesAt (words : List ℕ) (at count : ℕ) : Type 0 where
   pub tries : List (List Row)
   pub rest : List ℕ
-  pub words-length : length words ≡ 32800
   pub some-trie : 0 < count
   pub as-many : length tries ≡ count
   pub there : drop at words ≡ stacked tries ++ rest
@@ -108,10 +109,10 @@ pub record TriesAt (words : List ℕ) (at count : ℕ) : Type 0 where
   pub good-tries : Each IsTrie tries
 
 -- they were merged into one that ends where they ended, or it has too many nodes
-pub record Merges (tries : List (List Row)) (rest words′ : List ℕ) (start : ℕ) : Type 0 where
+pub record Merges (tries : List (List Row)) (rest words words′ : List ℕ) (start : ℕ) : Type 0 where
   pub fits : length (merged [] tries) ≤ 1024
-  pub inside : start < 32800
-  pub same-length : length words′ ≡ 32800
+  pub inside : start < length words
+  pub same-length : length words′ ≡ length words
   pub there : drop start words′ ≡ trieWords (merged [] tries) ++ rest
 
 abbrev pub MergedFrom : List ℕ → ℕ → ℕ → List ℕ → ℕ → Type 0
@@ -120,7 +121,7 @@ MergedFrom words at count words′ start =
     → length tries ≡ count
     → Each IsTrie tries
     → drop at words ≡ stacked tries ++ rest
-    → ((start ≡ 32800) × (1024 < length (merged [] tries))) ⊎ Merges tries rest words′ start
+    → ((start ≡ length words) × (1024 < length (merged [] tries))) ⊎ Merges tries rest words words′ start
 
 -- the top results were wrapped under a head
 pub record Wraps (head : List ℕ) (taken : List Result) (wrapping : Result) : Type 0 where

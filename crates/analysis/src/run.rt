@@ -12,7 +12,8 @@ ghost use Rattle.trie.specs.States.{holding, storing};
 ghost use Rattle.schema.specs.Items.{itemsOf, goodItems};
 ghost use Rattle.analysis.specs.Tables.{Tabled};
 ghost use Rattle.analysis.specs.Stacks.{TrieAt, trieWords};
-ghost use Rattle.analysis.specs.Outcomes.{analyseIn, RanBy};
+ghost use Rattle.analysis.specs.Outcomes.{analyseIn, RanBy, AnsweredBy, FullBy};
+use crate::paths::WrappedAccessPaths;
 use crate::stack::Stack;
 use crate::stack::Stepped;
 use crate::step::Step;
@@ -25,10 +26,17 @@ use trie::Kind;
 use trie::Reply;
 use trie::Row;
 
-// What a text gives: the stack after so many lines, or a refusal's number and line.
+// What a text gives: the stack after so many lines, or a refusal's number and line, or that the runs of the stack are full.
 enum Ran {
     Stack(Stack, u64),
     Refused(u64, u64),
+    Full,
+}
+
+// The reply to a text, or that the runs of the stack are full.
+enum Answered {
+    Reply(Reply),
+    Full,
 }
 
 // Runs all lines of a text.
@@ -41,19 +49,36 @@ fn run(
     tries: &mut [u64],
 ) -> Ran
     requires { ⌜ (goodItems (now words) ≡ true) × (Tabled (now words) (now table) types × (types ≡ typesIn (itemsOf (now words)))) ⌝ }
-    requires { ⌜ (length (now code) ≡ 212992) × (length (now tries) ≡ 32800) ⌝ }
+    requires { ⌜ length (now code) < 2 ^ 53 ⌝ }
     ensures { λ r. ⌜ RanBy (itemsOf (now (words .entry))) (now (text .entry)) (now (code .exit)) (now (tries .exit)) r ⌝ }
 {
     let mut names = [0u64; Step::NAMES];
-    let mut stack = Stack::new();
+    let mut paths = [0u64; WrappedAccessPaths::WORDS];
+    let mut stack = Stack::new(code.len(), tries.len());
     let mut at = 0;
     let mut line: u64 = 0;
     while at < text.len() {
+        if stack.code < Stack::CODE_ROOM {
+            return Ran::Full;
+        }
+        if stack.tries < Stack::TRIES_ROOM {
+            return Ran::Full;
+        }
         let Line::Whole(end) = Line::at(text, at) else {
             return Ran::Refused(1, line);
         };
         let step = parse(&text[at..end], &mut names);
-        let stepped = apply(step, &names, words, table, types, code, tries, stack);
+        let stepped = apply(
+            step,
+            &names,
+            words,
+            table,
+            types,
+            code,
+            tries,
+            &mut paths,
+            stack,
+        );
         match stepped {
             Stepped::Next(next) => {
                 stack = next;
@@ -81,6 +106,92 @@ fn write_contribution(request: u64, tries: &[u64], at: usize, out: &mut [u64])
     crate::paths::copy_words(&tries[first..end], out, 2);
 }
 
+// The answer to a step text by a stack in two runs of any length.
+fn answer_in(
+    words: &[u64],
+    table: &[u64],
+    types: u64,
+    request: u64,
+    text: &[u8],
+    out: &mut [u64],
+    code: &mut [u64],
+    tries: &mut [u64],
+) -> Answered
+    requires { ⌜ (goodItems (now words) ≡ true) × (Tabled (now words) (now table) types × (types ≡ typesIn (itemsOf (now words)))) ⌝ }
+    requires { ⌜ (request < 2 ^ 48) × (1026 ≤ length (now out)) ⌝ }
+    requires { ⌜ length (now code) < 2 ^ 53 ⌝ }
+    ensures { λ r. ⌜ AnsweredBy (itemsOf (now (words .entry))) request (now (text .entry)) (now (out .entry)) (now (out .exit)) r × FullBy (now (code .entry)) (now (tries .entry)) r ⌝ }
+{
+    match run(words, table, types, text, code, tries) {
+        Ran::Full => Answered::Full,
+        Ran::Refused(number, line) => Answered::Reply(Reply::Refused(number, line)),
+        Ran::Stack(stack, lines) => {
+            if stack.results != 1 {
+                return Answered::Reply(Reply::Refused(6, lines));
+            }
+            write_contribution(request, tries, stack.tries, out);
+            Answered::Reply(Reply::Done)
+        }
+    }
+}
+
+// The answer by a small stack: it is cleared in little time, and most texts do not fill it.
+fn answer_small(
+    words: &[u64],
+    table: &[u64],
+    types: u64,
+    request: u64,
+    text: &[u8],
+    out: &mut [u64],
+) -> Answered
+    requires { ⌜ (goodItems (now words) ≡ true) × (Tabled (now words) (now table) types × (types ≡ typesIn (itemsOf (now words)))) ⌝ }
+    requires { ⌜ (request < 2 ^ 48) × (1026 ≤ length (now out)) ⌝ }
+    ensures { λ r. ⌜ AnsweredBy (itemsOf (now (words .entry))) request (now (text .entry)) (now (out .entry)) (now (out .exit)) r ⌝ }
+{
+    let mut code = [0u64; Stack::SMALL_CODE];
+    let mut tries = [0u64; Stack::SMALL_TRIES];
+    answer_in(
+        words,
+        table,
+        types,
+        request,
+        text,
+        out,
+        &mut code,
+        &mut tries,
+    )
+}
+
+// The answer by a stack that no text fills, so that it is never full.
+fn answer_large(
+    words: &[u64],
+    table: &[u64],
+    types: u64,
+    request: u64,
+    text: &[u8],
+    out: &mut [u64],
+) -> Reply
+    requires { ⌜ (goodItems (now words) ≡ true) × (Tabled (now words) (now table) types × (types ≡ typesIn (itemsOf (now words)))) ⌝ }
+    requires { ⌜ (request < 2 ^ 48) × (1026 ≤ length (now out)) ⌝ }
+    ensures { λ r. ⌜ (r ≡ storing (now (out .entry)) (analyseSteps (itemsOf (now (words .entry))) request (now (text .entry))) .reply) × (now (out .exit) ≡ storing (now (out .entry)) (analyseSteps (itemsOf (now (words .entry))) request (now (text .entry))) .buffer) ⌝ }
+{
+    let mut code = [0u64; Stack::CODE];
+    let mut tries = [0u64; Stack::TRIES];
+    match answer_in(
+        words,
+        table,
+        types,
+        request,
+        text,
+        out,
+        &mut code,
+        &mut tries,
+    ) {
+        Answered::Reply(reply) => reply,
+        Answered::Full => Reply::Refused(6, 0),
+    }
+}
+
 // Analyses a step text with a schema's words.
 fn analyse_with(words: &[u64], request: u64, text: &[u8], out: &mut [u64]) -> Reply
     requires { ⌜ (goodItems (now words) ≡ true) × (length (now words) < 142337) ⌝ }
@@ -89,17 +200,9 @@ fn analyse_with(words: &[u64], request: u64, text: &[u8], out: &mut [u64]) -> Re
 {
     let mut table = [0u64; TypeSize::TYPES];
     let types = fill_table(words, &mut table);
-    let mut code = [0u64; Stack::CODE];
-    let mut tries = [0u64; Stack::TRIES];
-    match run(words, &table, types, text, &mut code, &mut tries) {
-        Ran::Refused(number, line) => Reply::Refused(number, line),
-        Ran::Stack(stack, lines) => {
-            if stack.results != 1 {
-                return Reply::Refused(6, lines);
-            }
-            write_contribution(request, &tries, stack.tries, out);
-            Reply::Done
-        }
+    match answer_small(words, &table, types, request, text, out) {
+        Answered::Reply(reply) => reply,
+        Answered::Full => answer_large(words, &table, types, request, text, out),
     }
 }
 

@@ -28,18 +28,28 @@ impl Stack {
     // At most so many results.
     pub const RESULTS: u64 = 32;
 
-    // The words of all paths, and of all tries.
-    pub const CODE: usize = 212_992;
+    // The words that a step may need in front of the top: a field for each of 256 paths, and a whole trie.
+    pub const CODE_ROOM: usize = 256;
 
-    pub const TRIES: usize = 32_800;
+    pub const TRIES_ROOM: usize = 1_025;
 
-    // No result.
-    pub fn new() -> Stack
-        ensures { λ r. ⌜ (r .code ≡ 212992) × ((r .tries ≡ 32800) × (r .results ≡ 0)) ⌝ }
+    // Runs that no text fills: 32 results of 6,656 and of 1,025 words, and room for a step.
+    pub const CODE: usize = 213_248;
+
+    pub const TRIES: usize = 33_825;
+
+    // Runs that are enough for most texts: results of 1,024 words together, and room for a step.
+    pub const SMALL_CODE: usize = 1_280;
+
+    pub const SMALL_TRIES: usize = 2_049;
+
+    // No result in runs of two lengths.
+    pub fn new(code: usize, tries: usize) -> Stack
+        ensures { λ r. ⌜ (r .code ≡ code) × ((r .tries ≡ tries) × (r .results ≡ 0)) ⌝ }
     {
         Stack {
-            code: Stack::CODE,
-            tries: Stack::TRIES,
+            code,
+            tries,
             results: 0,
         }
     }

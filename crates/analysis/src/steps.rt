@@ -81,32 +81,38 @@ impl EntityManifestAnalysisResult {
     }
 
     // `get_or_has_attr`, and `restore_global_trie_invariant` for the paths that gained the field: the others are in the trie.
-    pub fn get_or_has_attr(name: u64, code: &mut [u64], tries: &mut [u64], stack: Stack) -> Stepped
-        requires { ⌜ Holding (now code) (now tries) stack × (name < 65536) ⌝ }
+    // `paths` is scratch.
+    pub fn get_or_has_attr(
+        name: u64,
+        code: &mut [u64],
+        tries: &mut [u64],
+        paths: &mut [u64],
+        stack: Stack,
+    ) -> Stepped
+        requires { ⌜ Holding (now code) (now tries) stack × ((name < 65536) × (length (now paths) ≡ 6656)) ⌝ }
         ensures { λ r. ⌜ StepsBy (λ place results. attrStep place name results) (now (code .entry)) (now (tries .entry)) stack (now (code .exit)) (now (tries .exit)) r ⌝ }
     {
         if stack.results == 0 {
             return Stepped::Refused(6);
         }
-        let mut paths = [0u64; WrappedAccessPaths::WORDS];
         let mut places = [0u64; NODES];
         let Extended::Done(words, grown) = get_or_has_attr(
             code,
             stack.code,
             name,
-            &mut paths,
+            paths,
             &mut places,
         ) else {
             return Stepped::Refused(7);
         };
-        if is_too_deep(&paths, &places[..grown], 0) {
+        if is_too_deep(paths, &places[..grown], 0) {
             return Stepped::Refused(3);
         }
         let mut trie = [0u64; TRIE];
         copy_trie(tries, stack.tries, &mut trie);
         if !EntityManifestAnalysisResult::restore_global_trie_invariant(
             &mut trie,
-            &paths,
+            paths,
             &places[..grown],
         ) {
             return Stepped::Refused(4);
@@ -336,7 +342,7 @@ fn in_step(code: &mut [u64], tries: &mut [u64], stack: Stack) -> Stepped
     replace(&trie, code, code_end, tries, tries_end, stack.results - 1)
 }
 
-// One step on the stack.
+// One step on the stack; `paths` is scratch.
 pub fn apply(
     step: Step,
     names: &[u64],
@@ -345,17 +351,24 @@ pub fn apply(
     types: u64,
     code: &mut [u64],
     tries: &mut [u64],
+    paths: &mut [u64],
     stack: Stack,
 ) -> Stepped
     requires { ⌜ (goodItems (now words) ≡ true) × (Tabled (now words) (now table) types × (types ≡ typesIn (itemsOf (now words)))) ⌝ }
     requires { ⌜ (namesOf step ≤ 32) × ((length (now names) ≡ 32) × GoodRead step) ⌝ }
-    requires { ⌜ Holding (now code) (now tries) stack ⌝ }
+    requires { ⌜ Holding (now code) (now tries) stack × (length (now paths) ≡ 6656) ⌝ }
     ensures { λ r. ⌜ StepsBy (λ place results. steppedBy (itemsOf (now (words .entry))) place (stepRead step (now (names .entry))) results) (now (code .entry)) (now (tries .entry)) stack (now (code .exit)) (now (tries .exit)) r ⌝ }
 {
     match step {
         Step::Root(root) => EntityManifestAnalysisResult::from_root(root, code, tries, stack),
         Step::None => EntityManifestAnalysisResult::default(code, tries, stack),
-        Step::Attr(name) => EntityManifestAnalysisResult::get_or_has_attr(name, code, tries, stack),
+        Step::Attr(name) => EntityManifestAnalysisResult::get_or_has_attr(
+            name,
+            code,
+            tries,
+            paths,
+            stack,
+        ),
         Step::Union => EntityManifestAnalysisResult::union(code, tries, stack),
         Step::Drop => EntityManifestAnalysisResult::empty_paths(code, tries, stack),
         Step::Full(t) => EntityManifestAnalysisResult::full_type_required(

@@ -1,7 +1,7 @@
 -- `analysis::stack::merge_tries` meets its contract: the tries passed are merged, and those ahead are left to be merged.
 -- Assumes nothing.
 use Prim.Native.Nat.{_+_, _-_}
-use mathlib.Core.Path.{_≡_}
+use mathlib.Core.Path.{_≡_, refl}
 use native.Mathlib.Omega.{arith}
 use borrow.Author.Needs.{needs}
 use borrow.Author.Tests.{not-true, not-false}
@@ -83,7 +83,7 @@ returns c =
     let u = c .before .before in
     let t = u .before .before .before .before in
     let at-loop = t .before .before .before in
-    going-over (at-loop .loop .inv) (t .before .before .loop-test .taken) (at-loop .before .before .pre .words-length) (rw (not-true (u .union-into .result) (c .if1 .taken)) at (united u))
+    going-over (at-loop .loop .inv) (t .before .before .loop-test .taken) refl (rw (not-true (u .union-into .result) (c .if1 .taken)) at (united u))
 
 add-i : tie.Need-add-i Inv-loop μ-loop
 add-i c = search needs
@@ -114,7 +114,7 @@ same-length-2 c = search needs
 returns-2 : tie.Need-returns-2 Inv-loop μ-loop
 returns-2 c =
     let at-loop = c .before .before .before .before .before .before in
-    going-done (at-loop .loop .inv) (c .before .before .before .before .before .loop-test .left) (at-loop .before .before .pre .words-length) (c .before .before .put-trie .ensures)
+    going-done (at-loop .loop .inv) (c .before .before .before .before .before .loop-test .left) (c .before .before .put-trie .ensures)
 
 pub merge-tries-spec : {M : Type 1} → statement M
 merge-tries-spec =

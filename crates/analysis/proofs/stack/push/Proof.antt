@@ -1,36 +1,19 @@
--- `analysis::stack::push` meets its contract: with fewer than 32 results there is room for one more.
+-- `analysis::stack::push` meets its contract: a result without rows is put on top.
 -- Assumes nothing.
-use Prim.Native.Nat.{_≤_, _<_}
 use mathlib.Core.List.{[]}
 use native.Mathlib.Omega.{arith}
-use lib.ListN.{length}
 use Rattle.rules.specs.Steps.{result}
-use Rattle.analysis.specs.StackLaws.{judged-many, tries-left, code-left, pushed}
+use Rattle.analysis.specs.StackLaws.{judged-many, pushed}
 use borrow.Author.Needs.{needs}
 use Rattle.analysis.proofs.stack.push.Statement.{statement}
 use Rattle.analysis.proofs.stack.push.Tie as tie
-
--- there is room for one more result
-some-room :
-    (c : tie.Else1)
-    → (1025 ≤ c .before .before .before .before .before .args .stack .tries)
-    × (6656 ≤ c .before .before .before .before .before .args .stack .code)
-    × (c .before .before .before .before .before .args .stack .code ≤ length (c .before .before .before .before .before .args .code .now))
-some-room c =
-    let holding = c .before .before .before .before .before .pre .0 in
-    let held = holding .held in
-    let few : length (holding .results) < 32 = omega (arith, held .layout .as-many, c .if1 .left) in (
-      omega (arith, tries-left held),
-      omega (arith, code-left held),
-      omega (arith, held .layout .in-code, held .layout .code-length),
-    )
 
 returns : tie.Need-returns
 returns c paths results words nodes held place =
     judged-many place (result [] paths) results (omega (arith, held .layout .as-many, c .if1 .taken))
 
 sub-top : tie.Need-sub-top
-sub-top c = omega (arith, some-room (c .before))
+sub-top c = omega (arith, c .before .before .before .before .before .before .pre .0 .tries-room)
 
 mul-tries : tie.Need-mul-tries
 mul-tries c = search needs
@@ -41,7 +24,7 @@ slice-write-tries c = search needs
 put-before-requires : tie.Need-put-before-requires
 put-before-requires c κs =
     let start = c .before .before .before .before .before .before .before in
-    (omega (arith, some-room (c .before .before), start .pre .1), omega (arith, some-room (c .before .before)))
+    (omega (arith, start .pre .0 .code-room, start .pre .1), start .pre .0 .held .layout .in-code)
 
 add-t11 : tie.Need-add-t11
 add-t11 c = search needs
@@ -55,7 +38,7 @@ same-length-2 c = search needs
 returns-2 : tie.Need-returns-2
 returns-2 c paths results words nodes held =
     let start = c .before .before .before .before .before .before .before .before .before .before .before in
-    pushed paths held (omega (arith, held .layout .as-many, c .before .before .before .before .before .before .if1 .left)) nodes (rw words at (c .before .before .before .put-before .ensures))
+    pushed paths held (omega (arith, start .pre .0 .tries-room)) (omega (arith, held .layout .as-many, c .before .before .before .before .before .before .if1 .left)) nodes (rw words at (c .before .before .before .put-before .ensures))
 
 pub push-spec : {M : Type 1} → statement M
 push-spec =

@@ -331,10 +331,10 @@ replace-requires c κs =
     let start = enough .before .before .before .before in
     let (right, left, rest, same, held) = two enough (start .pre .results) (start .pre .held) in
     let still = at-union .union-into .ensures .still in
-    let code-room = code-end-room (below-held held) (code-end (below-held held) (rw (code-end held (at-measure .measure .ensures)) at (at-measure2 .measure2 .ensures))) in
-    let tries-room = tries-end-room (below-held held) (tries-end (below-held held) (rw (tries-end held (at-end .trie-end .ensures .0)) at (at-end2 .trie-end2 .ensures .0))) in (
-      (still, (omega (arith, code-room .0), omega (arith, code-room .1, held .layout .code-length))),
-      (omega (arith, still .few-rows, tries-room .0), omega (arith, tries-room .1, held .layout .tries-length)),
+    let code-room = code-end-room (below-held held) (omega (arith, start .pre .code-room)) (code-end (below-held held) (rw (code-end held (at-measure .measure .ensures)) at (at-measure2 .measure2 .ensures))) in
+    let tries-room = tries-end-room (below-held held) (omega (arith, start .pre .tries-room)) (tries-end (below-held held) (rw (tries-end held (at-end .trie-end .ensures .0)) at (at-end2 .trie-end2 .ensures .0))) in (
+      (still, code-room),
+      (omega (arith, still .few-rows, tries-room .0), tries-room .1),
     )
 
 same-length-6 : tie.Need-same-length-6

@@ -1,6 +1,6 @@
 -- `analysis::steps::wrap` meets its contract: the wrapped paths stand behind the head, and their tries are merged.
 -- Assumes nothing.
-use mathlib.Core.Path.{_≡_}
+use mathlib.Core.Path.{_≡_, sym, _∙_}
 use mathlib.Core.List.{_++_}
 use native.Mathlib.Omega.{arith}
 use lib.ListN.{length, take, drop}
@@ -46,16 +46,15 @@ same-length-3 c = search needs
 returns-2 : tie.Need-returns-2
 returns-2 c taken left wrapping m w held place =
     let nodes = wrap-nodes taken left m held (c .before .before .before .before .before .before .before .measure .ensures) in
-    wrap-rows taken left m held (c .before .before .before .before .before .before .before .before .before .before .before .before .pre .1 .0) w (omega (arith, nodes, c .before .before .before .before .before .if1 .left)) (c .before .before .before .merge-tries .ensures) (omega (arith, c .if2 .taken, held .layout .tries-length)) place
+    wrap-rows taken left m held (c .before .before .before .before .before .before .before .before .before .before .before .before .pre .1 .0) w (omega (arith, nodes, c .before .before .before .before .before .if1 .left)) (c .before .before .before .merge-tries .ensures) (c .if2 .taken ∙ c .before .before .before .merge-tries .kept .0) place
 
 put-before-requires : tie.Need-put-before-requires
 put-before-requires c κs =
     let start = c .before .before .before .before .before .before .before .before .before .before .before .before .before in
     let taken = take (start .args .count) (start .pre .0 .results) in
     let left = drop (start .args .count) (start .pre .0 .results) in
-    let nodes = wrap-nodes taken left (many start) (on-top start) (c .before .before .before .before .before .before .before .before .measure .ensures) in
-    let room = wrap-room taken left (many start) (on-top start) (start .pre .1 .0) (omega (arith, nodes, c .before .before .before .before .before .before .if1 .left)) in
-    (omega (arith, room .0, start .pre .1 .1 .1), room .1)
+    let room = wrap-room taken left (many start) (on-top start) (start .pre .1 .0) (start .pre .0 .code-room) in
+    (omega (arith, room, start .pre .1 .1 .1), start .pre .0 .held .layout .in-code)
 
 sub-t16 : tie.Need-sub-t16
 sub-t16 c = search needs
@@ -72,7 +71,7 @@ same-length-5 c = search needs
 returns-3 : tie.Need-returns-3
 returns-3 c taken left wrapping m w held =
     let nodes = wrap-nodes taken left m held (c .before .before .before .before .before .before .before .before .before .before .before .before .measure .ensures) in
-    wrap-done taken left m held (c .before .before .before .before .before .before .before .before .before .before .before .before .before .before .before .before .before .pre .1 .0) w (omega (arith, nodes, c .before .before .before .before .before .before .before .before .before .before .if1 .left)) (c .before .before .before .before .before .before .before .before .merge-tries .ensures) (λ e. c .before .before .before .before .before .if2 .left (omega (arith, held .layout .tries-length))) (c .before .before .before .put-before .ensures)
+    wrap-done taken left m held (c .before .before .before .before .before .before .before .before .before .before .before .before .before .before .before .before .before .pre .1 .0) w (omega (arith, nodes, c .before .before .before .before .before .before .before .before .before .before .if1 .left)) (c .before .before .before .before .before .before .before .before .merge-tries .ensures) (λ e. c .before .before .before .before .before .if2 .left (e ∙ sym (c .before .before .before .before .before .before .before .before .merge-tries .kept .0))) (c .before .before .before .put-before .ensures)
 
 pub wrap-spec : {M : Type 1} → statement M
 wrap-spec =

@@ -25,8 +25,7 @@ put-before-requires : tie.Need-put-before-requires
 put-before-requires c κs =
     let start = c .before .before .before .before .before .before .before .before .before in
     let (top, rest, same, held) = held-top (start .pre .results) (start .pre .held) (omega (arith, c .before .before .before .before .before .if1 .left)) in
-    let room = code-end-room held (code-end held (c .before .before .before .measure .ensures)) in
-    (omega (arith, room .0), omega (arith, room .1, held .layout .code-length))
+    code-end-room held (start .pre .code-room) (code-end held (c .before .before .before .measure .ensures))
 
 same-length : tie.Need-same-length
 same-length c = search needs

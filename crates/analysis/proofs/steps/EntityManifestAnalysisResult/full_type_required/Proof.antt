@@ -69,7 +69,7 @@ full-type-required-requires c κs =
     let type-test = some-there .before .before in
     let start = type-test .before .before .before .before .before in
     let (top, rest, same, held) = topped some-there (start .pre .1 .results) (start .pre .1 .held) in
-    ((start .pre .0 .0, (tabled start, known type-test)), (full-walk (start .args .words .now) (start .pre .0 .0) (start .args .t) (known type-test) held, (omega arith, omega (arith, held .layout .code-length))))
+    ((start .pre .0 .0, (tabled start, known type-test)), (full-walk (start .args .words .now) (start .pre .0 .0) (start .args .t) (known type-test) held, (omega arith, start .pre .1 .few-words)))
 
 enum-known-code-end : tie.Need-enum-known-code-end
 enum-known-code-end c = search needs
@@ -224,10 +224,10 @@ replace-requires c κs =
     let start = some-there .before .before .before .before .before .before .before in
     let (top, rest, same, held) = topped some-there (start .pre .1 .results) (start .pre .1 .held) in
     let still = at-add .add-taken .ensures .still in
-    let code-room = code-end-room held ((took at-pairs top rest held) .ends) in
-    let tries-room = tries-end-room held (tries-end held (at-end .trie-end .ensures .0)) in (
-      (still, (omega (arith, code-room .0), omega (arith, code-room .1, held .layout .code-length))),
-      (omega (arith, still .few-rows, tries-room .0), omega (arith, tries-room .1, held .layout .tries-length)),
+    let code-room = code-end-room held (start .pre .1 .code-room) ((took at-pairs top rest held) .ends) in
+    let tries-room = tries-end-room held (start .pre .1 .tries-room) (tries-end held (at-end .trie-end .ensures .0)) in (
+      (still, code-room),
+      (omega (arith, still .few-rows, tries-room .0), tries-room .1),
     )
 
 same-length-5 : tie.Need-same-length-5
