@@ -7,6 +7,7 @@ use native.Mathlib.Omega.{arith}
 use mathlib.Core.Path.{_≡_, refl, sym, ap, ap₂, _∙_}
 use mathlib.Core.Bool.{Bool, true, false, cond, not, _&&_, _||_, and-eq-true-iff, false≢true}
 use mathlib.Core.List.{List, [], _∷_, _++_, map, map-append}
+use mathlib.Core.Logic.{⊎-elim}
 use mathlib.Core.Option.{none, Option·some-ne-none}
 use borrow.Author.Tests.{ltb-true, leb-true, leb-false, eqb-true, eqb-false, lt-ltb, le-ltb, le-leb, lt-leb, ne-eqb}
 use lib.Dec.{leb, ltb, eqb}
@@ -15,14 +16,14 @@ use lib.Seq.{sets, sets-eq, length-sets, drop-cons, take-at, length-take-le}
 use Rattle.rules.specs.Facts.{by-test, compared}
 use Rattle.rules.specs.Numbers.{accepted, refused, mostSteps}
 use Rattle.rules.specs.Tries.{Row, isStep, isRoot, isRow, contribution, count, entriesIn, nodesIn, union, unionWithin}
-use Rattle.rules.specs.TrieLaws.{union-turns, union-nil-right}
+use Rattle.rules.specs.TrieLaws.{union-turns, union-nil-right, union-sum-length}
 use Rattle.rules.specs.Listing.{read}
 use Rattle.rules.specs.Paths.{Path, deeper, chain, toRootAccessTrieWithLeaf, addAccessPath, addPaths}
 use Rattle.rules.specs.TypeLaws.{chain-length, deeper-length, isNoTrie, larger, larger-max, longest}
 use Rattle.rules.specs.StepLaws.{Each, Stepped, IsPath, AllPaths, Plain, each-append, turns-plain, field-step, stepped-some, add-paths-length}
 use Rattle.trie.specs.Words.{depthIn, markIn, stepIn, typeFrom, typeIn, rowOf, wordOf, isWord, unionWords}
 use Rattle.trie.specs.WordLaws.{node-low, all-words-cons, union-words, words-rows, row-word}
-use Rattle.trie.specs.States.{allWords, rowsOf, wordsIn, rowsIn, holding, unionInto}
+use Rattle.trie.specs.States.{allWords, rowsOf, wordsIn, rowsIn, holding, unionInto, Roomy}
 use Rattle.trie.specs.StateLaws.{all-rows}
 use Rattle.trie.specs.declared.Kind.the-variants.{Contribution}
 use Rattle.trie.specs.declared.Reply.the-variants.{Done, Refused}
@@ -126,6 +127,12 @@ module _ (trie run : List ℕ) (state : IsState trie) (nodes : allNodes run ≡ 
       rw (← rows, words-rows (unionWords (wordsIn trie) run) words)
       (plain-all-nodes (unionWords (wordsIn trie) run) words (rw rows plains))
 
+  -- a buffer that is long enough has room for the union behind its count
+  pub roomy-rows : (out : List ℕ) → length united ≤ 1024 → Roomy Contribution (wordsIn trie) run out → length united < length out
+  roomy-rows out few roomy =
+      let sum = union-sum-length (rowsIn trie) (rowsOf run) in
+      ⊎-elim (λ long. omega arith) (λ long. omega (arith, sum, length-map (wordsIn trie) rowOf, length-map run rowOf)) roomy
+
   -- a state that holds the union
   pub merged : length united ≤ 1024 → Became united (holding trie united) true
   merged few =
@@ -156,6 +163,10 @@ module _ (trie run : List ℕ) (state : IsState trie) (nodes : allNodes run ≡ 
       by-test (leb (length united) 1024)
       (λ h. absurd (let z : _≡_ {A = ℕ} 0 1 = cc (rw (within, h) at e) in omega arith))
       (λ h. record { judged = sym h; still = state; there = λ no. absurd (false≢true no) })
+
+-- a state has as many rows as its first word says
+pub state-count : {state : List ℕ} → IsState state → length (wordsIn state) ≡ getD state 0 0
+state-count {state} held = omega (arith, length-take-le (getD state 0 0) (drop 1 state) (omega (arith, held .few-rows, held .state-length, length-drop 1 state)))
 
 -- ---- nodes that words can pack
 
@@ -389,17 +400,17 @@ module _ (path below : List ℕ) (mark : Bool) where
     length-map (deeper (length path) (rowsOf below)) wordOf ∙ deeper-length (length path) (rowsOf below) ∙ length-map below rowOf,
   )
 
-  module _ {out out₁ : List ℕ} {leaf : ℕ} (good : IsPath path) (few : length below ≤ 1024) (room : length out ≡ 1048) (first : Wrote out 0 (chainWords path mark) out₁ leaf) where
+  module _ {out out₁ : List ℕ} {leaf : ℕ} (room : length path + length below ≤ length out) (first : Wrote out 0 (chainWords path mark) out₁ leaf) where
     -- there is room for what is below
     pub leaf-room : leaf + length below ≤ length out₁
-    leaf-room = omega (arith, first .after, lengths, good .short, wrote-length first)
+    leaf-room = omega (arith, first .after, lengths, wrote-length first)
 
     module _ {out₂ : List ℕ} {end : ℕ} (second : Wrote out₁ leaf (deeperWords (length path) below) out₂ end) where
       whole : Wrote out 0 (runWords path below mark) out₂ end
       whole = wrote-more first second
 
       enough : length (runWords path below mark) ≤ length out
-      enough = omega (arith, length-append (chainWords path mark) (deeperWords (length path) below), lengths, good .short)
+      enough = omega (arith, length-append (chainWords path mark) (deeperWords (length path) below), lengths)
 
       pub run-within : end ≤ length out₂
       run-within = omega (arith, wrote-length whole, whole .after, enough)

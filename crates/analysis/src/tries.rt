@@ -9,7 +9,8 @@ ghost use Rattle.rules.specs.Tries.{union};
 ghost use Rattle.rules.specs.Paths.{toRootAccessTrieWithLeaf, addAccessPath, addPaths};
 ghost use Rattle.rules.specs.StepLaws.{IsPath, AllPaths};
 ghost use Rattle.rules.specs.TypeLaws.{longest as longestOf};
-ghost use Rattle.trie.specs.States.{rowsOf, rowsIn};
+ghost use Rattle.trie.specs.States.{rowsOf, wordsIn, rowsIn, Roomy};
+ghost use Rattle.trie.specs.declared.Kind.the-variants.{Contribution};
 ghost use Rattle.manifest.specs.Writes.{Wrote};
 ghost use Rattle.analysis.specs.Code.{pathAt, pathsAt, AllWithin};
 ghost use Rattle.analysis.specs.Nodes.{allNodes, allBelow, IsState, Became, leafOf, anyDeep, AllFit, chainWords, deeperWords, RunOf};
@@ -22,6 +23,9 @@ use trie::Row;
 pub const TRIE: usize = 1_026;
 
 const RUN: usize = 1_048;
+
+// Most unions and runs are short. These take a buffer of so many words, which costs little to clear.
+const FEW: usize = 64;
 
 // Writes the chain of nodes of a path, the last one marked or not, and answers how many there are.
 fn write_chain(path: &[u64], marked: bool, out: &mut [u64]) -> usize
@@ -53,19 +57,33 @@ fn write_deeper(rows: &[u64], by: usize, out: &mut [u64], to: usize) -> usize
     to + i
 }
 
+// Merges a run of nodes into a trie by way of a buffer, and answers whether it stays within the limit of nodes; if not, the trie is as it was.
+fn union_by(trie: &mut [u64], run: &[u64], united: &mut [u64]) -> bool
+    requires { ⌜ IsState (now trie) × (allNodes (now run) ≡ true) ⌝ }
+    requires { ⌜ Roomy Contribution (wordsIn (now trie)) (now run) (now united) × (length (now united) ≤ 1026) ⌝ }
+    ensures { λ r. ⌜ Became (union (rowsIn (now (trie .entry))) (rowsOf (now (run .entry)))) (now (trie .exit)) r ⌝ }
+{
+    let end = trie[0] as usize + 1;
+    let reply = trie::union_rows(Kind::Contribution, &trie[1..end], run, united);
+    let Reply::Done = reply else {
+        return false;
+    };
+    manifest::copy_rows(united, trie);
+    true
+}
+
 // Merges a run of nodes into a trie, and answers whether it stays within the limit of nodes; if not, the trie is as it was.
 pub fn union_into(trie: &mut [u64], run: &[u64]) -> bool
     requires { ⌜ IsState (now trie) × (allNodes (now run) ≡ true) ⌝ }
     ensures { λ r. ⌜ Became (union (rowsIn (now (trie .entry))) (rowsOf (now (run .entry)))) (now (trie .exit)) r ⌝ }
 {
-    let end = trie[0] as usize + 1;
+    let rows = trie[0] as usize + run.len();
+    if rows < FEW {
+        let mut united = [0u64; FEW];
+        return union_by(trie, run, &mut united);
+    }
     let mut united = [0u64; TRIE];
-    let reply = trie::union_rows(Kind::Contribution, &trie[1..end], run, &mut united);
-    let Reply::Done = reply else {
-        return false;
-    };
-    manifest::copy_rows(&united, trie);
-    true
+    union_by(trie, run, &mut united)
 }
 
 // Whether a path of so many steps and its leaf give no node: no field, no mark and nothing below.
@@ -89,8 +107,8 @@ fn to_root_access_trie_with_leaf(
     below: &[u64],
     out: &mut [u64],
 ) -> usize
-    requires { ⌜ IsPath (now path) × (length (now out) ≡ 1048) ⌝ }
-    requires { ⌜ (length (now below) ≤ 1024) × (allBelow (length (now path)) (now below) ≡ true) ⌝ }
+    requires { ⌜ IsPath (now path) × (length (now path) + length (now below) ≤ length (now out)) ⌝ }
+    requires { ⌜ allBelow (length (now path)) (now below) ≡ true ⌝ }
     ensures { λ r. ⌜ RunOf (toRootAccessTrieWithLeaf (now (path .entry)) (leafOf marked (now (below .entry)))) (now (out .exit)) r ⌝ }
 {
     if is_no_trie(path.len(), marked, below.len()) {
@@ -100,15 +118,28 @@ fn to_root_access_trie_with_leaf(
     write_deeper(below, path.len(), out, leaf)
 }
 
+// Merges a path with its leaf into a trie by way of a buffer, and answers whether it stays within the limit of nodes.
+fn add_by(trie: &mut [u64], path: &[u64], marked: bool, below: &[u64], run: &mut [u64]) -> bool
+    requires { ⌜ IsState (now trie) × IsPath (now path) ⌝ }
+    requires { ⌜ (length (now path) + length (now below) ≤ length (now run)) × (allBelow (length (now path)) (now below) ≡ true) ⌝ }
+    ensures { λ r. ⌜ Became (addAccessPath (rowsIn (now (trie .entry))) (now (path .entry)) (leafOf marked (now (below .entry)))) (now (trie .exit)) r ⌝ }
+{
+    let end = to_root_access_trie_with_leaf(path, marked, below, run);
+    union_into(trie, &run[..end])
+}
+
 // `add_access_path`: merges a path with its leaf into a trie, and answers whether it stays within the limit of nodes.
 pub fn add_access_path(trie: &mut [u64], path: &[u64], marked: bool, below: &[u64]) -> bool
     requires { ⌜ IsState (now trie) × IsPath (now path) ⌝ }
     requires { ⌜ (length (now below) ≤ 1024) × (allBelow (length (now path)) (now below) ≡ true) ⌝ }
     ensures { λ r. ⌜ Became (addAccessPath (rowsIn (now (trie .entry))) (now (path .entry)) (leafOf marked (now (below .entry)))) (now (trie .exit)) r ⌝ }
 {
+    if path.len() + below.len() <= FEW {
+        let mut run = [0u64; FEW];
+        return add_by(trie, path, marked, below, &mut run);
+    }
     let mut run = [0u64; RUN];
-    let end = to_root_access_trie_with_leaf(path, marked, below, &mut run);
-    union_into(trie, &run[..end])
+    add_by(trie, path, marked, below, &mut run)
 }
 
 // The path whose head stands at a place.

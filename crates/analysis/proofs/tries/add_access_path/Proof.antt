@@ -1,44 +1,49 @@
--- `analysis::tries::add_access_path` meets its contract: the path with its leaf is merged.
+-- `analysis::tries::add_access_path` meets its contract: either buffer is long enough.
 -- Assumes nothing.
-use mathlib.Core.Path.{sym}
+use native.Mathlib.Omega.{arith}
 use borrow.Author.Needs.{needs}
-use lib.Seq.{length-take-le}
 use Rattle.analysis.proofs.tries.add_access_path.Statement.{statement}
 use Rattle.analysis.proofs.tries.add_access_path.Tie as tie
 
-slice-aggregate-to-root-access-trie-with-leaf :
-    tie.Need-slice-aggregate-to-root-access-trie-with-leaf
-slice-aggregate-to-root-access-trie-with-leaf c = search needs
+add-if1 : tie.Need-add-if1
+add-if1 c = search needs
 
-to-root-access-trie-with-leaf-requires : tie.Need-to-root-access-trie-with-leaf-requires
-to-root-access-trie-with-leaf-requires c κs = search needs
+slice-aggregate-add-by : tie.Need-slice-aggregate-add-by
+slice-aggregate-add-by c = search needs
 
-array-share-prefix-run : tie.Need-array-share-prefix-run
-array-share-prefix-run c = c .before .before .to-root-access-trie-with-leaf .ensures .inside
-
-slice-aggregate-union-into : tie.Need-slice-aggregate-union-into
-slice-aggregate-union-into c = sym (length-take-le _ _ (c .before .before .before .to-root-access-trie-with-leaf .ensures .inside))
-
-union-into-requires : tie.Need-union-into-requires
-union-into-requires c κs =
-    let written = c .before .before .before in
-    (written .before .before .before .before .before .pre .0 .0, written .to-root-access-trie-with-leaf .ensures .nodes)
+add-by-requires : tie.Need-add-by-requires
+add-by-requires c κs = search needs
 
 same-length : tie.Need-same-length
 same-length c = search needs
 
 returns : tie.Need-returns
-returns c =
-    rw (c .before .before .before .before .before .before .to-root-access-trie-with-leaf .ensures .packs) at (c .before .before .union-into .ensures)
+returns c = search needs
+
+slice-aggregate-add-by-2 : tie.Need-slice-aggregate-add-by-2
+slice-aggregate-add-by-2 c = search needs
+
+add-by-requires-2 : tie.Need-add-by-requires-2
+add-by-requires-2 c κs =
+    let s = c .before .before .before .before .before .before in
+    (s .pre .0, (omega (arith, s .pre .0 .1 .short, s .pre .1 .0), s .pre .1 .1))
+
+same-length-2 : tie.Need-same-length-2
+same-length-2 c = search needs
+
+returns-2 : tie.Need-returns-2
+returns-2 c = search needs
 
 pub add-access-path-spec : {M : Type 1} → statement M
 add-access-path-spec =
     tie.close
     (tie.spec
-    slice-aggregate-to-root-access-trie-with-leaf
-    to-root-access-trie-with-leaf-requires
-    array-share-prefix-run
-    slice-aggregate-union-into
-    union-into-requires
+    add-if1
+    slice-aggregate-add-by
+    add-by-requires
     same-length
-    returns)
+    returns
+    slice-aggregate-add-by-2
+    add-by-requires-2
+    same-length-2
+    returns-2)

@@ -25,7 +25,7 @@ write-deeper-requires c κs =
     let chained = c .before .before .before in
     let start = begun (chained .before .before .before) in
     let s = start .args in
-    (start .pre .1 .1, leaf-room (s .path .now) (s .below .now) (s .marked) (start .pre .0 .0) (start .pre .1 .0) (start .pre .0 .1) (chained .write-chain .ensures))
+    (start .pre .1, leaf-room (s .path .now) (s .below .now) (s .marked) (start .pre .0 .1) (chained .write-chain .ensures))
 
 same-length : tie.Need-same-length
 same-length c = search needs
@@ -38,9 +38,9 @@ returns-2 c =
     let start = begun (tested .before) in
     let s = start .args in
     let some-there = no-trie-test (s .path .now) (s .below .now) (s .marked) ∙ sym (tested .before .is-no-trie .ensures) ∙ tested .if1 .left in
-    run-packs (s .path .now) (s .below .now) (s .marked) (start .pre .0 .0) (start .pre .1 .1) some-there
-    (run-within (s .path .now) (s .below .now) (s .marked) (start .pre .0 .0) (start .pre .1 .0) (start .pre .0 .1) (chained .write-chain .ensures) (deepened .write-deeper .ensures))
-    (run-written (s .path .now) (s .below .now) (s .marked) (start .pre .0 .0) (start .pre .1 .0) (start .pre .0 .1) (chained .write-chain .ensures) (deepened .write-deeper .ensures))
+    run-packs (s .path .now) (s .below .now) (s .marked) (start .pre .0 .0) (start .pre .1) some-there
+    (run-within (s .path .now) (s .below .now) (s .marked) (start .pre .0 .1) (chained .write-chain .ensures) (deepened .write-deeper .ensures))
+    (run-written (s .path .now) (s .below .now) (s .marked) (start .pre .0 .1) (chained .write-chain .ensures) (deepened .write-deeper .ensures))
 
 pub to-root-access-trie-with-leaf-spec : {M : Type 1} → statement M
 to-root-access-trie-with-leaf-spec =
