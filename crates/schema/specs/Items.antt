@@ -32,7 +32,7 @@ itemFor it = item (it .tag) (it .value) (it .key)
 unfoldable pub isItem : Item → Bool
 isItem it =
     leb (it .key) 65535
-    && cond (eqb (it .tag) entityType) (ltb (it .value) 131072)
+    && cond (eqb (it .tag) entityType) (ltb (it .value) 131071)
     (cond (eqb (it .tag) setType) true (cond (leb (it .tag) entityLine) (eqb (it .value) 0) (leb (it .tag) 14)))
 
 unfoldable pub allItems : List ℕ → Bool

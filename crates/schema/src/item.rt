@@ -55,7 +55,7 @@ impl Item {
         let tag = self.tag;
         match tag {
             6 | 12..=14 => true,
-            9 => self.value < 0x2_0000,
+            9 => self.value < 0x1_ffff,
             0..=11 => self.value == 0,
             _ => false,
         }
