@@ -52,10 +52,9 @@ fn show(what: &str, base: &str, base_ns: f64, side: &str, side_ns: f64) {
     println!("{what:<58} {base} {:>9.1} us, {side} {:>9.1} us, {side} takes {:.2} of it", base_ns / 1e3, side_ns / 1e3, side_ns / base_ns);
 }
 
-/// Two tries of n nodes that share all but one in 80.
-fn pair(rng: &mut Rng, n: usize) -> (Trie, Trie) {
+/// Two tries of n nodes, of which `own` are drawn for each apart and the others are shared.
+fn pair(rng: &mut Rng, n: usize, own: usize) -> (Trie, Trie) {
     let shape = Shape { fields: 40, deep: 12, roots: 5, marks: 5, long: 30 };
-    let own = n / 80;
     let base = gen::trie(rng, n - own, &shape);
     (gen::grow(rng, &base, own, &shape), gen::grow(rng, &base, own, &shape))
 }
@@ -67,13 +66,15 @@ pub fn run(side: &mut dyn Side, seed: u64) {
     let mut plain_side = Plain::default();
     println!("benchmarks: medians of {ROUNDS} rounds; our buffers are not cleared between calls, the Rust's copies and drops are not timed");
 
-    // two tries of 2,000 nodes with nothing drawn in common but by chance
+    // two tries of 2,000 nodes: nothing in common but by chance, half of it, and nearly all
     let shape = Shape { fields: 40, deep: 12, roots: 5, marks: 5, long: 30 };
-    let (a, b) = (gen::trie(rng, 2_000, &shape), gen::trie(rng, 2_000, &shape));
-    let (x, y) = (rust::trie(&a), rust::trie(&b));
-    let base = time_rust(|| x.clone(), |x| x.union(&y));
-    let (ra, rb) = (rows_of_trie(r, &a), rows_of_trie(r, &b));
-    show("union of two tries of 2,000 nodes", "Rust", base, name, time(side.ready_union(&ra, &rb)));
+    for (shared, own) in [("none", 2_000), ("half", 1_000), ("79 of 80", 25)] {
+        let (a, b) = pair(rng, 2_000, own);
+        let (x, y) = (rust::trie(&a), rust::trie(&b));
+        let base = time_rust(|| x.clone(), |x| x.union(&y));
+        let (ra, rb) = (rows_of_trie(r, &a), rows_of_trie(r, &b));
+        show(&format!("union of two tries of 2,000 nodes, {shared} shared"), "Rust", base, name, time(side.ready_union(&ra, &rb)));
+    }
 
     // 200 contributions of about 50 nodes over 16 request types, in all fewer than 4,096 nodes
     let bases: Vec<(u64, Trie)> = (0..16).map(|n| (request(n % 4, 500 + n, 20), gen::trie(rng, 200, &shape))).collect();
@@ -145,7 +146,7 @@ pub fn run(side: &mut dyn Side, seed: u64) {
     println!("nanoseconds per node of one trie, two tries of n nodes united that share 79 of 80; listing of n nodes read, written");
     println!("{:>8} {:>12} {:>12} {:>8} {:>12} {:>12} {:>12} {:>12}", "n", "Rust", name, "ratio", "plain read", name, "plain write", name);
     for n in [250, 500, 1_000, 2_000, 4_000] {
-        let (a, b) = pair(rng, n);
+        let (a, b) = pair(rng, n, n / 80);
         let (x, y) = (rust::trie(&a), rust::trie(&b));
         let base = time_rust(|| x.clone(), |x| x.union(&y));
         let (ra, rb) = (rows_of_trie(r, &a), rows_of_trie(r, &b));
