@@ -1,28 +1,28 @@
 -- Laws of the fields of a line and of the rows that a listing is read as. No contract cites this file.
 use Prim.Native.Nat.{ℕ, zero, suc, _+_, _-_, _*_, _/_, _%_, _^_, _≤_, _<_}
-use native.Mathlib.Nat.{add-assoc, add-comm, add-sub-cancel-left}
+use native.Mathlib.Nat.{add-zero, add-assoc, add-comm, add-sub-cancel-left}
 use native.Mathlib.Numerals.{add-one}
 use native.Mathlib.Omega.{arith}
-use mathlib.Core.Bool.{Bool, true, false, cond, not, _&&_, _||_, and-false, or-true}
-use mathlib.Core.List.{List, [], _∷_, _++_, map, append-nil, nil≢cons}
+use mathlib.Core.Bool.{Bool, true, false, cond, not, _&&_, _||_, and-false, or-true, false≢true}
+use mathlib.Core.List.{List, [], _∷_, _++_, map, append-nil, nil≢cons, head-eq-of-cons-eq, tail-eq-of-cons-eq}
 use mathlib.Core.Logic.{_≢_, _⊎_, inl, inr}
 use mathlib.Core.Option.{Option, none, some, Option·none-ne-some, Option·some-injective}
 use mathlib.Core.Path.{_≡_, refl, sym, ap, _∙_}
 use borrow.Author.Tests.{eqb-true, eqb-false, eq-eqb, ne-eqb, le-leb, lt-leb, lt-ltb, le-ltb, ltb-false, leb-false, not-false}
 use lib.Dec.{eqb, ltb, leb}
 use lib.ListN.{length, getD, take, drop, set, length-drop, length-set, length-map, drop-of-length-le}
-use lib.Seq.{take-all, length-take-le, getD-take, getD-set-same, take-take, take-suc-set, drop-set-add, drop-drop, take-append-seam, drop-append-add, append-snoc, sets}
-use Rattle.rules.specs.Text.{parted, linesOf, fieldsOf, decimalOf, LF, TAB}
-use Rattle.rules.specs.TextLaws.{parted-split, parted-some, decimal-written}
+use lib.Seq.{drop-cons, take-all, length-take-le, getD-take, getD-drop, getD-set-same, take-take, take-suc-set, drop-set-add, drop-drop, take-append-seam, drop-append-add, append-snoc, sets}
+use Rattle.rules.specs.Text.{bytes, parted, linesOf, fieldsOf, decimalOf, decimal, LF, TAB}
+use Rattle.rules.specs.TextLaws.{free-empty, free-more, parted-first, parted-split, parted-some, decimal-read, decimal-written}
 use Rattle.rules.specs.Numbers.{Answer, accepted, refused, mostSteps}
-use Rattle.rules.specs.Facts.{by-test, compared, cond-some, cond-other, cond-none}
+use Rattle.rules.specs.Facts.{by-test, by-option, compared, cond-some, cond-other, cond-none}
 use Rattle.rules.specs.Tries.{Row, Form, stepOf, requestOf, isEntry, isRow, at, follows}
 use Rattle.rules.specs.TrieLaws.{Follows, follows-true, true-follows}
 use Rattle.rules.specs.Listing.{Sofar, isLetter, placeIn, letters, markOf, read, ofForm, entryOf, nodeOf, rowOf, past, refusal, before, rowsFrom, enteredBy}
 use Rattle.rules.specs.ListingLaws.{bind-some, place-read}
 use Rattle.text.specs.Before.{before as earlier}
 use Rattle.text.specs.Answers.{lineAt, firstLine, fieldAt, firstField}
-use Rattle.text.proofs.Laws.{more-within, whole-within, parted-whole, parted-cut, drop-some, letter-none}
+use Rattle.text.proofs.Laws.{more-within, whole-within, parted-next, parted-whole, parted-cut, drop-some, letter-none}
 use Rattle.text.specs.declared.Line.{Line}
 use Rattle.text.specs.declared.Line.the-variants.{End, Whole, Cut}
 use Rattle.text.specs.declared.Field.{Field}
@@ -33,23 +33,11 @@ use Rattle.trie.specs.declared.Kind.{Kind}
 use Rattle.trie.specs.declared.Limits.{Limits}
 use Rattle.trie.specs.declared.Reply.the-variants.{Done}
 use Rattle.manifest.specs.declared.reading.Sofar.{Sofar as Kept}
+use Rattle.manifest.specs.Lines.{kindIn}
 use Rattle.manifest.specs.Reads.{nodeRow, formFor, sofarIn, refusalFor, stored, Room, Passed, rowsBy, wordsFor}
 use Rattle.manifest.specs.Outcomes.{readIn}
 
 -- ---- the parts of a text
-
--- a part that another follows ends at a b, and behind that stand the parts of what is left
-parted-next : (b at : ℕ) (s part next : List ℕ) (more : List (List ℕ)) → parted b (drop at s) ≡ part ∷ next ∷ more →
-    parted b (drop at s) ≡ take (length part) (drop at s) ∷ parted b (drop (at + length part + 1) s)
-parted-next b at s part next more e =
-    let split = parted-split b (drop at s) part next more e in
-    let first : take (length part) (drop at s) ≡ part = ap (take (length part)) (split .1) ∙ take-append-seam part (b ∷ split .0) in
-    let behind : drop (at + length part + 1) s ≡ split .0 =
-    ap (λ (n : ℕ). drop n s) (add-assoc at (length part) 1)
-    ∙ sym (drop-drop (length part + 1) at s)
-    ∙ ap (drop (length part + 1)) (split .1)
-    ∙ drop-append-add part (b ∷ split .0) 1 in
-    e ∙ sym (rw (first, behind, split .2))
 
 -- a field that a tab ends stands in front of the fields behind the tab
 fields-more : (line : List ℕ) (at end : ℕ) (r : Field) → r ≡ fieldAt line at → r ≡ More end →
@@ -106,6 +94,187 @@ place-one xs field h e = ap (placeIn xs) (one-byte field h) ∙ rw e
 -- a place among letters is one of theirs
 pub place-within : (xs field : List ℕ) (n : ℕ) → placeIn xs field ≡ some n → n < length xs
 place-within xs field n e = place-read xs field n e .0
+
+-- ---- the fields of a line, one after the other
+
+-- a first field of one byte has a tab behind it
+field-letter : (line : List ℕ) (at byte : ℕ) (next : List ℕ) (more : List (List ℕ)) → fieldsOf (drop at line) ≡ (byte ∷ []) ∷ next ∷ more →
+    (at + 1 < length line) × (getD line at 0 ≡ byte) × (getD line (at + 1) 0 ≡ TAB)
+field-letter line at byte next more q =
+    let split = parted-split TAB (drop at line) (byte ∷ []) next more q in
+    let left : drop at line ≡ byte ∷ TAB ∷ split .0 = split .1 in (
+      omega (arith, length-drop at line, ap length left),
+      sym (getD-drop at line 0 0 ∙ rw add-zero) ∙ ap (λ (l : List ℕ). getD l 0 0) left,
+      sym (getD-drop at line 1 0) ∙ ap (λ (l : List ℕ). getD l 1 0) left,
+    )
+
+-- a byte and a tab, and what is left behind them
+letter-bytes : (line : List ℕ) (at : ℕ) → at + 1 < length line → getD line (at + 1) 0 ≡ TAB → drop at line ≡ getD line at 0 ∷ TAB ∷ drop (at + 2) line
+letter-bytes line at inside tab =
+    let second : drop (suc at) line ≡ TAB ∷ drop (at + 2) line =
+    let next : suc at ≡ at + 1 = omega arith in
+    let behind : suc (at + 1) ≡ at + 2 = omega arith in
+    ap (λ (n : ℕ). drop n line) next ∙ drop-cons line (at + 1) 0 inside ∙ rw (tab, behind) in
+    drop-cons line at 0 (omega arith) ∙ rw second
+
+-- a byte that is no tab and has a tab behind it is a field
+pub letter-field : (line : List ℕ) (at : ℕ) {byte : ℕ} → at + 1 < length line → getD line (at + 1) 0 ≡ TAB → getD line at 0 ≡ byte → byte ≢ TAB →
+    fieldsOf (drop at line) ≡ (byte ∷ []) ∷ fieldsOf (drop (at + 2) line)
+letter-field line at {byte} inside tab first other =
+    ap fieldsOf (letter-bytes line at inside tab) ∙ rw first (parted-first (free-more other free-empty) (drop (at + 2) line))
+
+-- the kind of a byte that has a tab behind it
+pub kind-letter : (line : List ℕ) (at : ℕ) {byte : ℕ} → at + 1 < length line → getD line (at + 1) 0 ≡ TAB → getD line at 0 ≡ byte →
+    kindIn (fieldsOf (drop at line)) ≡ placeIn letters (byte ∷ [])
+unfolding parted placeIn
+kind-letter line at {byte} inside tab first =
+    ap (λ (l : List ℕ). kindIn (fieldsOf l)) (letter-bytes line at inside tab)
+    ∙ rw first
+    (by-test (eqb byte TAB)
+    (λ e. rw (eqb-true byte TAB e))
+    (λ e. rw (e, parted-some TAB (drop (at + 2) line) .2)))
+
+-- what is known of a step's letter that a tab ends
+abbrev pub StepEnds : List ℕ → ℕ → ℕ → Type 0
+StepEnds line at kind =
+    (kind ≤ 5) × (at + 1 < length line) × (getD line (at + 1) 0 ≡ TAB)
+    × (placeIn letters (getD letters kind 0 ∷ []) ≡ some kind)
+    × (fieldsOf (drop at line) ≡ (getD letters kind 0 ∷ []) ∷ fieldsOf (drop (at + 2) line))
+
+pub step-ends : (line : List ℕ) (at kind : ℕ) → kindIn (fieldsOf (drop at line)) ≡ some kind → StepEnds line at kind
+step-ends line at kind e = go (fieldsOf (drop at line)) refl e
+  where
+    go : (fields : List (List ℕ)) → fieldsOf (drop at line) ≡ fields → kindIn fields ≡ some kind → StepEnds line at kind
+    go [] q e = absurd (Option·none-ne-some kind e)
+    go (field ∷ []) q e = absurd (Option·none-ne-some kind e)
+    go (field ∷ next ∷ more) q e =
+        let (among, letter) = place-read letters field kind e in
+        let fields : fieldsOf (drop at line) ≡ (getD letters kind 0 ∷ []) ∷ next ∷ more = q ∙ ap (λ (f : List ℕ). f ∷ next ∷ more) letter in
+        let (inside, first, tab) = field-letter line at (getD letters kind 0) next more fields in
+        let two : at + 1 + 1 ≡ at + 2 = omega arith in
+        let behind : next ∷ more ≡ fieldsOf (drop (at + 1 + 1) line) =
+        tail-eq-of-cons-eq (sym fields ∙ parted-next TAB at line (getD letters kind 0 ∷ []) next more fields) in
+        (omega arith, inside, tab, rw letter at e, fields ∙ rw (behind, two))
+
+-- where no tab is behind it a byte is no step
+pub kind-none : (line : List ℕ) (at : ℕ) → (at + 1 < length line → getD line (at + 1) 0 ≡ TAB → ⊥) → kindIn (fieldsOf (drop at line)) ≡ none
+kind-none line at h =
+    by-option (kindIn (fieldsOf (drop at line))) (λ e. e)
+    (λ kind e. let ends = step-ends line at kind e in absurd (h (ends .1) (ends .2)))
+
+-- a line that is read begins with A or N and a tab
+pub row-letter : (line : List ℕ) (row : Row) → rowOf (fieldsOf line) ≡ some row →
+    (1 < length line) × (getD line 1 0 ≡ TAB) × ((getD line 0 0 ≡ 65) ⊎ (getD line 0 0 ≡ 78))
+unfolding rowOf
+row-letter line row e = go (fieldsOf line) refl e
+  where
+    lettered : (letter : ℕ) (word next : List ℕ) (more : List (List ℕ)) → isLetter letter word ≡ true → fieldsOf line ≡ word ∷ next ∷ more →
+        (1 < length line) × (getD line 1 0 ≡ TAB) × (getD line 0 0 ≡ letter)
+    lettered letter [] next more is q = absurd (false≢true is)
+    lettered letter (byte ∷ []) next more is q =
+        let (inside, first, tab) = field-letter line 0 byte next more q in
+        (inside, tab, first ∙ eqb-true byte letter is)
+    lettered letter (byte ∷ other ∷ word) next more is q = absurd (false≢true is)
+
+    go : (fields : List (List ℕ)) → fieldsOf line ≡ fields → rowOf fields ≡ some row →
+        (1 < length line) × (getD line 1 0 ≡ TAB) × ((getD line 0 0 ≡ 65) ⊎ (getD line 0 0 ≡ 78))
+    go [] q e = absurd (Option·none-ne-some row e)
+    go (a ∷ []) q e = absurd (Option·none-ne-some row e)
+    go (a ∷ b ∷ []) q e = absurd (Option·none-ne-some row e)
+    go (a ∷ b ∷ c ∷ []) q e = absurd (Option·none-ne-some row e)
+    go (word ∷ b ∷ c ∷ d ∷ []) q e =
+        let (inside, tab, first) = lettered 65 word b (c ∷ d ∷ []) (cond-some (isLetter 65 word) _ row e .0) q in
+        (inside, tab, inl first)
+    go (word ∷ b ∷ c ∷ d ∷ f ∷ []) q e =
+        let (inside, tab, first) = lettered 78 word b (c ∷ d ∷ f ∷ []) (cond-some (isLetter 78 word) _ row e .0) q in
+        (inside, tab, inr first)
+    go (a ∷ b ∷ c ∷ d ∷ f ∷ g ∷ more) q e = absurd (Option·none-ne-some row e)
+
+-- a line that does not so begin is not read
+pub row-none : (line : List ℕ) → (1 < length line → getD line 1 0 ≡ TAB → (getD line 0 0 ≡ 65) ⊎ (getD line 0 0 ≡ 78) → ⊥) → rowOf (fieldsOf line) ≡ none
+row-none line h =
+    by-option (rowOf (fieldsOf line)) (λ e. e)
+    (λ row e. let (inside, tab, first) = row-letter line row e in absurd (h inside tab first))
+
+-- fields make no entry behind A unless they are three that make one, and no node behind N unless they are four that make one
+entry-none : (fields : List (List ℕ)) → ((f g h : List ℕ) → fields ≡ f ∷ g ∷ h ∷ [] → entryOf f g h ≡ none) → rowOf (bytes "A" ∷ fields) ≡ none
+unfolding rowOf
+entry-none [] bad = refl
+entry-none (f ∷ []) bad = refl
+entry-none (f ∷ g ∷ []) bad = refl
+entry-none (f ∷ g ∷ h ∷ []) bad = bad f g h refl
+entry-none (f ∷ g ∷ h ∷ i ∷ []) bad = refl
+entry-none (f ∷ g ∷ h ∷ i ∷ j ∷ more) bad = refl
+
+node-none : (fields : List (List ℕ)) → ((f g h i : List ℕ) → fields ≡ f ∷ g ∷ h ∷ i ∷ [] → nodeOf f g h i ≡ none) → rowOf (bytes "N" ∷ fields) ≡ none
+unfolding rowOf
+node-none [] bad = refl
+node-none (f ∷ []) bad = refl
+node-none (f ∷ g ∷ []) bad = refl
+node-none (f ∷ g ∷ h ∷ []) bad = refl
+node-none (f ∷ g ∷ h ∷ i ∷ []) bad = bad f g h i refl
+node-none (f ∷ g ∷ h ∷ i ∷ j ∷ more) bad = refl
+
+-- of some fields the first that another follows is not read, or the only one is not
+abbrev pub NoneFirst : (List ℕ → Option ℕ) → List (List ℕ) → Type 0
+NoneFirst reads fields = (f next : List ℕ) (more : List (List ℕ)) → fields ≡ f ∷ next ∷ more → reads f ≡ none
+
+abbrev pub NoneLast : List (List ℕ) → Type 0
+NoneLast fields = (f : List ℕ) → fields ≡ f ∷ [] → decimalOf f ≡ none
+
+pub kind-none-first : (fields : List (List ℕ)) → kindIn fields ≡ none → NoneFirst (placeIn letters) fields
+kind-none-first fields e f next more q = sym (ap kindIn q) ∙ e
+
+-- behind the fields of an entry that were read, such fields make none
+module _ (fields : List (List ℕ)) where
+  pub entry-no-principal : NoneFirst decimalOf fields → rowOf (bytes "A" ∷ fields) ≡ none
+  entry-no-principal bad = entry-none fields λ f g h e. rw (bad f g (h ∷ []) e)
+
+  module _ (p : ℕ) (small-p : p ≤ 65535) where
+    pub entry-no-action : NoneFirst decimalOf fields → rowOf (bytes "A" ∷ decimal p ∷ fields) ≡ none
+    entry-no-action bad =
+        entry-none (decimal p ∷ fields) λ f g h e.
+        let first : f ≡ decimal p = sym (head-eq-of-cons-eq e) in
+        rw (first, decimal-read p small-p, bad g h [] (tail-eq-of-cons-eq e))
+
+    pub entry-no-resource : (a : ℕ) → a ≤ 65535 → NoneLast fields → rowOf (bytes "A" ∷ decimal p ∷ decimal a ∷ fields) ≡ none
+    entry-no-resource a small-a bad =
+        entry-none (decimal p ∷ decimal a ∷ fields) λ f g h e.
+        let others : decimal a ∷ fields ≡ g ∷ h ∷ [] = tail-eq-of-cons-eq e in
+        let first : f ≡ decimal p = sym (head-eq-of-cons-eq e) in
+        let second : g ≡ decimal a = sym (head-eq-of-cons-eq others) in
+        rw (first, second, decimal-read p small-p, decimal-read a small-a, bad h (tail-eq-of-cons-eq others))
+
+-- behind the fields of a node that were read, such fields make none
+module _ (fields : List (List ℕ)) where
+  pub node-no-depth : NoneFirst decimalOf fields → rowOf (bytes "N" ∷ fields) ≡ none
+  node-no-depth bad = node-none fields λ f g h i e. rw (bad f g (h ∷ i ∷ []) e)
+
+  module _ (d : ℕ) (small-d : d ≤ 65535) where
+    pub node-no-kind : NoneFirst (placeIn letters) fields → rowOf (bytes "N" ∷ decimal d ∷ fields) ≡ none
+    node-no-kind bad =
+        node-none (decimal d ∷ fields) λ f g h i e.
+        let first : f ≡ decimal d = sym (head-eq-of-cons-eq e) in
+        rw (first, decimal-read d small-d, bad g h (i ∷ []) (tail-eq-of-cons-eq e))
+
+    module _ (step : List ℕ) (kind : ℕ) (place : placeIn letters step ≡ some kind) where
+      pub node-no-id : NoneFirst decimalOf fields → rowOf (bytes "N" ∷ decimal d ∷ step ∷ fields) ≡ none
+      node-no-id bad =
+          node-none (decimal d ∷ step ∷ fields) λ f g h i e.
+          let others : step ∷ fields ≡ g ∷ h ∷ i ∷ [] = tail-eq-of-cons-eq e in
+          let first : f ≡ decimal d = sym (head-eq-of-cons-eq e) in
+          let second : g ≡ step = sym (head-eq-of-cons-eq others) in
+          rw (first, second, decimal-read d small-d, place, bad h i [] (tail-eq-of-cons-eq others))
+
+      pub node-no-mark : (n : ℕ) → n ≤ 65535 → NoneLast fields → rowOf (bytes "N" ∷ decimal d ∷ step ∷ decimal n ∷ fields) ≡ none
+      node-no-mark n small-n bad =
+          node-none (decimal d ∷ step ∷ decimal n ∷ fields) λ f g h i e.
+          let others : step ∷ decimal n ∷ fields ≡ g ∷ h ∷ i ∷ [] = tail-eq-of-cons-eq e in
+          let last-two : decimal n ∷ fields ≡ h ∷ i ∷ [] = tail-eq-of-cons-eq others in
+          let first : f ≡ decimal d = sym (head-eq-of-cons-eq e) in
+          let second : g ≡ step = sym (head-eq-of-cons-eq others) in
+          let third : h ≡ decimal n = sym (head-eq-of-cons-eq last-two) in
+          rw (first, second, third, decimal-read d small-d, place, decimal-read n small-n, bad i (tail-eq-of-cons-eq last-two))
 
 -- ---- a node's row, by what was tested
 

@@ -1,12 +1,13 @@
 // A line of the listing as a row.
 ghost use mathlib.Core.Path.{_≡_};
 ghost use Prim.Native.Nat.{_≤_};
-ghost use Rattle.rules.specs.Text.{fieldsOf};
-ghost use Rattle.rules.specs.Listing.{rowOf, entryOf, nodeOf, letters, placeIn};
-ghost use Rattle.manifest.specs.Lines.{rowRead, kindRead};
+ghost use mathlib.Core.List.{_∷_};
+ghost use lib.ListN.{drop};
+ghost use Rattle.rules.specs.Text.{bytes, fieldsOf};
+ghost use Rattle.rules.specs.Listing.{rowOf};
+ghost use Rattle.manifest.specs.Lines.{rowRead, kindRead, kindIn};
 ghost use Rattle.manifest.specs.Reads.{nodeRow};
-use text::Decimal;
-use text::Field;
+use text::Number;
 
 // What a line is read as: a row's depth, step and mark, or not of the stated form.
 pub enum Parsed {
@@ -20,14 +21,21 @@ enum StepKind {
     Other,
 }
 
-// The kind of a step by its field.
-fn step_kind(field: &[u8]) -> StepKind
-    ensures { λ r. ⌜ kindRead r ≡ placeIn letters (now (field .entry)) ⌝ }
+// The kind of the step that is the field at a place, with a tab behind it.
+fn step_kind(line: &[u8], at: usize) -> StepKind
+    ensures { λ r. ⌜ kindRead r ≡ kindIn (fieldsOf (drop at (now (line .entry)))) ⌝ }
 {
-    if field.len() != 1 {
+    if line.len() <= at {
         return StepKind::Other;
     }
-    let b = field[0];
+    let tab = at + 1;
+    if line.len() <= tab {
+        return StepKind::Other;
+    }
+    if line[tab] != text::TAB {
+        return StepKind::Other;
+    }
+    let b = line[at];
     match b {
         b'f' => StepKind::Of(0),
         b'p' => StepKind::Of(1),
@@ -39,17 +47,17 @@ fn step_kind(field: &[u8]) -> StepKind
     }
 }
 
-// The row of an entry's three fields.
-fn entry(principal: &[u8], action: &[u8], resource: &[u8]) -> Parsed
-    ensures { λ r. ⌜ rowRead r ≡ entryOf (now (principal .entry)) (now (action .entry)) (now (resource .entry)) ⌝ }
+// The row of an entry, by the fields behind its letter.
+fn entry(line: &[u8], at: usize) -> Parsed
+    ensures { λ r. ⌜ rowRead r ≡ rowOf (bytes "A" ∷ fieldsOf (drop at (now (line .entry)))) ⌝ }
 {
-    let Decimal::Value(p) = Decimal::read(principal) else {
+    let Number::More(p, p_end) = Number::at(line, at, text::TAB) else {
         return Parsed::Bad;
     };
-    let Decimal::Value(a) = Decimal::read(action) else {
+    let Number::More(a, a_end) = Number::at(line, p_end + 1, text::TAB) else {
         return Parsed::Bad;
     };
-    let Decimal::Value(r) = Decimal::read(resource) else {
+    let Number::Last(r) = Number::at(line, a_end + 1, text::TAB) else {
         return Parsed::Bad;
     };
     Parsed::Of(0, (p * 0x1_0000 + a) * 0x1_0000 + r, false)
@@ -81,62 +89,40 @@ fn node_row(depth: u64, kind: u64, id: u64, mark: u64) -> Parsed
     Parsed::Of(depth, kind * 0x1_0000 + id, mark == 1)
 }
 
-// The row of a node's four fields.
-fn node(depth: &[u8], step: &[u8], id: &[u8], mark: &[u8]) -> Parsed
-    ensures { λ r. ⌜ rowRead r ≡ nodeOf (now (depth .entry)) (now (step .entry)) (now (id .entry)) (now (mark .entry)) ⌝ }
+// The row of a node, by the fields behind its letter.
+fn node(line: &[u8], at: usize) -> Parsed
+    ensures { λ r. ⌜ rowRead r ≡ rowOf (bytes "N" ∷ fieldsOf (drop at (now (line .entry)))) ⌝ }
 {
-    let Decimal::Value(d) = Decimal::read(depth) else {
+    let Number::More(depth, depth_end) = Number::at(line, at, text::TAB) else {
         return Parsed::Bad;
     };
-    let StepKind::Of(k) = step_kind(step) else {
+    let step = depth_end + 1;
+    let StepKind::Of(kind) = step_kind(line, step) else {
         return Parsed::Bad;
     };
-    let Decimal::Value(i) = Decimal::read(id) else {
+    let Number::More(id, id_end) = Number::at(line, step + 2, text::TAB) else {
         return Parsed::Bad;
     };
-    let Decimal::Value(m) = Decimal::read(mark) else {
+    let Number::Last(mark) = Number::at(line, id_end + 1, text::TAB) else {
         return Parsed::Bad;
     };
-    node_row(d, k, i, m)
+    node_row(depth, kind, id, mark)
 }
 
-// The row of a line, by its four or five fields.
+// The row of a line, by its letter and the fields behind it.
 pub fn parse(line: &[u8]) -> Parsed
     ensures { λ r. ⌜ rowRead r ≡ rowOf (fieldsOf (now (line .entry))) ⌝ }
 {
-    let Field::More(word_end) = Field::at(line, 0) else {
+    if line.len() < 2 {
         return Parsed::Bad;
-    };
-    let second = word_end + 1;
-    let Field::More(second_end) = Field::at(line, second) else {
-        return Parsed::Bad;
-    };
-    let third = second_end + 1;
-    let Field::More(third_end) = Field::at(line, third) else {
-        return Parsed::Bad;
-    };
-    let fourth = third_end + 1;
-    let Field::More(fourth_end) = Field::at(line, fourth) else {
-        if text::is_letter(&line[..word_end], b'A') {
-            return entry(
-                &line[second..second_end],
-                &line[third..third_end],
-                &line[fourth..],
-            );
-        }
-        return Parsed::Bad;
-    };
-    let fifth = fourth_end + 1;
-    let Field::Last = Field::at(line, fifth) else {
-        return Parsed::Bad;
-    };
-    if text::is_letter(&line[..word_end], b'N') {
-        return node(
-            &line[second..second_end],
-            &line[third..third_end],
-            &line[fourth..fourth_end],
-            &line[fifth..],
-        );
     }
-    Parsed::Bad
+    if line[1] != text::TAB {
+        return Parsed::Bad;
+    }
+    let letter = line[0];
+    match letter {
+        b'A' => entry(line, 2),
+        b'N' => node(line, 2),
+        _ => Parsed::Bad,
+    }
 }

@@ -1,20 +1,22 @@
 -- Laws of `before`, of the parts of a text by it, of a run of stores that gets one more, and of letters. No contract cites this file.
 use Prim.Native.Nat.{ℕ, suc, _+_, _≤_, _<_}
-use native.Mathlib.Nat.{add-zero, add-suc, suc-add}
+use native.Mathlib.Nat.{add-zero, add-suc, suc-add, add-assoc}
 use native.Mathlib.Numerals.{add-one}
 use native.Mathlib.Omega.{arith}
 use mathlib.Core.Bool.{Bool, true, false, cond}
-use mathlib.Core.List.{List, [], _∷_, _++_}
+use mathlib.Core.List.{List, [], _∷_, _++_, tail-eq-of-cons-eq}
 use mathlib.Core.Logic.{_≢_, _⊎_, inl, inr, ⊎-elim}
+use mathlib.Core.Option.{Option, none, some}
 use mathlib.Core.Path.{_≡_, refl, sym, ap, _∙_}
 use borrow.Author.Tests.{eqb-true, eqb-false, eq-eqb, ne-eqb}
 use lib.Dec.{eqb}
-use lib.ListN.{length, getD, drop, set, drop-of-length-le, length-append, length-drop}
-use lib.Seq.{drop-cons, sets}
-use Rattle.rules.specs.Text.{parted, linesOf, fieldsOf, decimalOf, LF, TAB}
+use lib.ListN.{length, getD, take, drop, set, drop-of-length-le, length-append, length-drop}
+use lib.Seq.{drop-cons, drop-drop, take-append-seam, drop-append-add, sets}
+use Rattle.rules.specs.Text.{parted, onto, linesOf, fieldsOf, decimalOf, decimal, LF, TAB}
 use Rattle.rules.specs.TextLaws.{Free, free-empty, free-more, parted-free, parted-first, parted-some, parted-split, decimal-written}
+use Rattle.rules.specs.Facts.{by-option}
 use Rattle.rules.specs.Listing.{isLetter}
-use Rattle.text.specs.Answers.{lineAt, firstLine, fieldAt, firstField, numberOf}
+use Rattle.text.specs.Answers.{lineAt, firstLine, fieldAt, firstField, numberOf, firstNumber, numberAt, told}
 use Rattle.text.specs.Before.{before}
 use Rattle.text.specs.declared.Line.{Line}
 use Rattle.text.specs.declared.Line.the-variants.{End, Whole, Cut}
@@ -22,6 +24,8 @@ use Rattle.text.specs.declared.Decimal.{Decimal}
 use Rattle.text.specs.declared.Decimal.the-variants.{Value}
 use Rattle.text.specs.declared.Field.{Field}
 use Rattle.text.specs.declared.Field.the-variants.{More}
+use Rattle.text.specs.declared.Number.{Number}
+use Rattle.text.specs.declared.Number.the-variants.{More as MoreOf, Last as LastOf, Bad as BadNumber}
 
 -- ---- what a scan passes
 
@@ -85,6 +89,19 @@ parted-cut b at s h =
     (next, more, ap (parted b) (w .1) ∙ parted-first (before-free b (drop at s)) (w .0) ∙ rw p))
     (before-split b (drop at s))
 
+-- a part that another follows ends at a b, and behind that stand the parts of what is left
+pub parted-next : (b at : ℕ) (s part next : List ℕ) (more : List (List ℕ)) → parted b (drop at s) ≡ part ∷ next ∷ more →
+    parted b (drop at s) ≡ take (length part) (drop at s) ∷ parted b (drop (at + length part + 1) s)
+parted-next b at s part next more e =
+    let split = parted-split b (drop at s) part next more e in
+    let first : take (length part) (drop at s) ≡ part = ap (take (length part)) (split .1) ∙ take-append-seam part (b ∷ split .0) in
+    let behind : drop (at + length part + 1) s ≡ split .0 =
+    ap (λ (n : ℕ). drop n s) (add-assoc at (length part) 1)
+    ∙ sym (drop-drop (length part + 1) at s)
+    ∙ ap (drop (length part + 1)) (split .1)
+    ∙ drop-append-add part (b ∷ split .0) 1 in
+    e ∙ sym (rw (first, behind, split .2))
+
 -- a part that another follows, from a place on, ends before the end
 part-within : (b at : ℕ) (s part next : List ℕ) (more : List (List ℕ)) → parted b (drop at s) ≡ part ∷ next ∷ more → at + length part < length s
 part-within b at s part next more e =
@@ -119,6 +136,100 @@ whole-within text at end r ensured e = go (linesOf (drop at text)) refl (sym ens
 -- a number that was read is an id
 pub value-most : (field : List ℕ) (r : Decimal) (n : ℕ) → numberOf r ≡ decimalOf field → r ≡ Value n → n ≤ 65535
 value-most field r n ensured e = decimal-written field n (sym ensured ∙ ap numberOf e) .1
+
+-- ---- a number that is read from a place to the next b
+
+module _ (reads : List ℕ → Option ℕ) (b i : ℕ) (s : List ℕ) where
+  -- it ends with the bytes
+  pub number-past : length s ≤ i → firstNumber reads i (parted b (drop i s)) ≡ told LastOf (reads [])
+  unfolding parted
+  number-past h = rw (drop-of-length-le s h)
+
+  module _ (inside : i < length s) where
+    -- it ends at a b
+    pub number-found : getD s i 0 ≡ b → firstNumber reads i (parted b (drop i s)) ≡ told (λ n. MoreOf n i) (reads [])
+    unfolding parted
+    number-found e = rw (drop-cons s i 0 inside, eq-eqb (getD s i 0) b e, parted-some b (drop (suc i) s) .2, add-zero)
+
+    module _ (other : getD s i 0 ≢ b) where
+      -- another byte is passed: what is left is read as it goes on after that byte
+      pub number-passed : (reads′ : List ℕ → Option ℕ) → ((part : List ℕ) → reads (getD s i 0 ∷ part) ≡ reads′ part) →
+          firstNumber reads i (parted b (drop i s)) ≡ firstNumber reads′ (i + 1) (parted b (drop (i + 1) s))
+      unfolding parted
+      number-passed reads′ same = rw (add-one, drop-cons s i 0 inside, ne-eqb (getD s i 0) b other) (go (parted b (drop (suc i) s)))
+        where
+          go : (parts : List (List ℕ)) → firstNumber reads i (onto (getD s i 0) parts) ≡ firstNumber reads′ (suc i) parts
+          go [] = refl
+          go (part ∷ []) = rw (same part)
+          go (part ∷ next ∷ more) = rw (same part, add-suc, suc-add)
+
+      -- no number is read where none goes on after that byte
+      pub number-bad : ((part : List ℕ) → reads (getD s i 0 ∷ part) ≡ none) → firstNumber reads i (parted b (drop i s)) ≡ BadNumber
+      number-bad bad = number-passed (λ part. none) bad ∙ go (parted b (drop (i + 1) s))
+        where
+          go : (parts : List (List ℕ)) → firstNumber (λ part. none) (i + 1) parts ≡ BadNumber
+          go [] = refl
+          go (part ∷ []) = refl
+          go (part ∷ next ∷ more) = refl
+
+-- what a number is told as, by what it was read as
+told-more : (place : ℕ) (o : Option ℕ) {n end : ℕ} → told (λ n. MoreOf n place) o ≡ MoreOf n end → (o ≡ some n) × (place ≡ end)
+told-more place none e = absurd (let z : _≡_ {A = ℕ} 0 1 = cc in omega arith)
+told-more place (some m) e = (cc, cc)
+
+told-last : (o : Option ℕ) {n : ℕ} → told LastOf o ≡ LastOf n → o ≡ some n
+told-last none e = absurd (let z : _≡_ {A = ℕ} 0 1 = cc in omega arith)
+told-last (some m) e = cc
+
+last-more : (o : Option ℕ) {n end : ℕ} → told LastOf o ≡ MoreOf n end → ⊥
+last-more none e = let z : _≡_ {A = ℕ} 0 1 = cc in omega arith
+last-more (some m) e = let z : _≡_ {A = ℕ} 0 1 = cc in omega arith
+
+more-last : (place : ℕ) (o : Option ℕ) {n : ℕ} → told (λ n. MoreOf n place) o ≡ LastOf n → ⊥
+more-last place none e = let z : _≡_ {A = ℕ} 0 1 = cc in omega arith
+more-last place (some m) e = let z : _≡_ {A = ℕ} 0 1 = cc in omega arith
+
+-- what is known of a number that a b ends: it stands in front of the parts behind that b
+abbrev pub NumberEnds : ℕ → List ℕ → ℕ → ℕ → ℕ → Type 0
+NumberEnds b s at n end = (n ≤ 65535) × (end < length s) × (parted b (drop at s) ≡ decimal n ∷ parted b (drop (end + 1) s))
+
+module _ (b : ℕ) (s : List ℕ) (at : ℕ) {r : Number} (ensured : r ≡ numberAt b s at) where
+  pub number-ends : {n end : ℕ} → r ≡ MoreOf n end → NumberEnds b s at n end
+  number-ends {n} {end} e = go (parted b (drop at s)) refl (sym ensured ∙ e)
+    where
+      go : (parts : List (List ℕ)) → parted b (drop at s) ≡ parts → firstNumber decimalOf at parts ≡ MoreOf n end → NumberEnds b s at n end
+      go [] q e = absurd (let z : _≡_ {A = ℕ} 0 1 = cc in omega arith)
+      go (part ∷ []) q e = absurd (last-more (decimalOf part) e)
+      go (part ∷ next ∷ more) q e =
+          let (value, place) = told-more (at + length part) (decimalOf part) e in
+          let (written, small) = decimal-written part n value in
+          let behind : next ∷ more ≡ parted b (drop (at + length part + 1) s) = tail-eq-of-cons-eq (sym q ∙ parted-next b at s part next more q) in
+          (small, omega (arith, part-within b at s part next more q), q ∙ rw (behind, place, written))
+
+  -- what stands there otherwise, where a b ends it, is no decimal
+  pub number-unended : ((n end : ℕ) → r ≡ MoreOf n end → ⊥) →
+      (part next : List ℕ) (more : List (List ℕ)) → parted b (drop at s) ≡ part ∷ next ∷ more → decimalOf part ≡ none
+  number-unended unended part next more q =
+      by-option (decimalOf part) (λ e. e)
+      (λ n e. absurd (unended n (at + length part) (ensured ∙ ap (firstNumber decimalOf at) q ∙ ap (told (λ n. MoreOf n (at + length part))) e)))
+
+  -- a number that ends with the bytes is the only part
+  pub number-last : {n : ℕ} → r ≡ LastOf n → (n ≤ 65535) × (parted b (drop at s) ≡ decimal n ∷ [])
+  number-last {n} e = go (parted b (drop at s)) refl (sym ensured ∙ e)
+    where
+      go : (parts : List (List ℕ)) → parted b (drop at s) ≡ parts → firstNumber decimalOf at parts ≡ LastOf n →
+          (n ≤ 65535) × (parted b (drop at s) ≡ decimal n ∷ [])
+      go [] q e = absurd (let z : _≡_ {A = ℕ} 0 1 = cc in omega arith)
+      go (part ∷ []) q e =
+          let (written, small) = decimal-written part n (told-last (decimalOf part) e) in
+          (small, q ∙ rw written)
+      go (part ∷ next ∷ more) q e = absurd (more-last (at + length part) (decimalOf part) e)
+
+  -- what stands there otherwise, where nothing follows it, is no decimal
+  pub number-unlast : ((n : ℕ) → r ≡ LastOf n → ⊥) → (part : List ℕ) → parted b (drop at s) ≡ part ∷ [] → decimalOf part ≡ none
+  number-unlast unended part q =
+      by-option (decimalOf part) (λ e. e)
+      (λ n e. absurd (unended n (ensured ∙ ap (firstNumber decimalOf at) q ∙ ap (told LastOf) e)))
 
 -- ---- a run of stores
 

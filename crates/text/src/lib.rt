@@ -3,9 +3,10 @@ ghost use mathlib.Core.Path.{_≡_};
 ghost use Prim.Native.Nat.{_+_, _≤_};
 ghost use lib.ListN.{length, drop};
 ghost use lib.Seq.{sets};
-ghost use Rattle.rules.specs.Text.{decimalOf, decimal};
+ghost use mathlib.Core.List.{_∷_};
+ghost use Rattle.rules.specs.Text.{decimalOf, decimal, parted, numberFrom};
 ghost use Rattle.rules.specs.Listing.{isLetter};
-ghost use Rattle.text.specs.Answers.{lineAt, fieldAt, numberOf};
+ghost use Rattle.text.specs.Answers.{lineAt, fieldAt, numberOf, firstNumber, numberAt};
 ghost use Rattle.text.specs.Before.{before};
 
 pub const LF: u8 = 10;
@@ -28,6 +29,13 @@ pub enum Field {
 // What a field writes as a decimal: a number, or no decimal of at most MOST without extra zeros.
 pub enum Decimal {
     Value(u64),
+    Bad,
+}
+
+// What begins at a place as a decimal: one that ends at a place, one that ends with the bytes, or no decimal.
+pub enum Number {
+    More(u64, usize),
+    Last(u64),
     Bad,
 }
 
@@ -131,5 +139,64 @@ impl Decimal {
         let next = Decimal::write(out, at, n / 10);
         out[next] = 48 + (n % 10) as u8;
         next + 1
+    }
+}
+
+impl Number {
+    // Reads the field from a place to the next byte `b` in one pass, by the rules of `Decimal::read`.
+    pub fn at(s: &[u8], at: usize, b: u8) -> Number
+        ensures { λ r. ⌜ r ≡ numberAt b (now (s .entry)) at ⌝ }
+    {
+        if s.len() <= at {
+            return Number::Bad;
+        }
+        let first = s[at];
+        if first == b {
+            return Number::Bad;
+        }
+        if first == 48 {
+            return Number::zero(s, at + 1, b);
+        }
+        if first < 48 || 57 < first {
+            return Number::Bad;
+        }
+        Number::digits(s, at + 1, b, (first - 48) as u64)
+    }
+
+    // What a field is that has a 0 in front of a place: 0 where it ends there.
+    fn zero(s: &[u8], at: usize, b: u8) -> Number
+        ensures { λ r. ⌜ r ≡ firstNumber (λ field. decimalOf (48 ∷ field)) at (parted b (drop at (now (s .entry)))) ⌝ }
+    {
+        if s.len() <= at {
+            return Number::Last(0);
+        }
+        if s[at] == b {
+            return Number::More(0, at);
+        }
+        Number::Bad
+    }
+
+    // The number that the digits from a place to the field's end write after the number `n` before them.
+    fn digits(s: &[u8], at: usize, b: u8, n: u64) -> Number
+        requires { ⌜ n ≤ 65535 ⌝ }
+        ensures { λ r. ⌜ r ≡ firstNumber (numberFrom 65535 n) at (parted b (drop at (now (s .entry)))) ⌝ }
+    {
+        let mut value = n;
+        let mut i = at;
+        while i < s.len() {
+            let digit = s[i];
+            if digit == b {
+                return Number::More(value, i);
+            }
+            if digit < 48 || 57 < digit {
+                return Number::Bad;
+            }
+            value = value * 10 + (digit - 48) as u64;
+            if Decimal::MOST < value {
+                return Number::Bad;
+            }
+            i += 1;
+        }
+        Number::Last(value)
     }
 }

@@ -1,104 +1,131 @@
 -- `manifest::line::node` meets its contract: the four fields are read as `nodeOf` reads them, so the kind and the id are those of a step.
 -- Assumes nothing.
+use Prim.Native.Nat.{ℕ, _+_, _≤_}
 use native.Mathlib.Omega.{arith}
+use mathlib.Core.List.{[], _∷_}
+use mathlib.Core.Logic.{⊎-elim}
 use mathlib.Core.Path.{_≡_, sym, ap, _∙_}
-use mathlib.Core.Option.{some}
-use Rattle.rules.specs.Text.{decimalOf}
-use Rattle.rules.specs.TextLaws.{decimal-written}
-use Rattle.rules.specs.Listing.{placeIn, letters}
-use Rattle.text.specs.Answers.{numberOf}
+use lib.ListN.{drop}
+use Rattle.rules.specs.Text.{TAB, fieldsOf, decimal}
+use Rattle.rules.specs.TextLaws.{decimal-read}
+use Rattle.rules.specs.Listing.{rowOf}
+use Rattle.text.specs.declared.Number.the-variants.{More, Last}
+use Rattle.text.proofs.Laws.{NumberEnds, number-ends, number-unended, number-last, number-unlast}
 use Rattle.manifest.specs.Lines.{kindRead}
-use Rattle.manifest.specs.ReadLaws.{place-within}
+use Rattle.manifest.specs.ReadLaws.{StepEnds, step-ends, kind-none-first, node-no-depth, node-no-kind, node-no-id, node-no-mark}
 use borrow.Author.Needs.{needs}
 use Rattle.manifest.proofs.line.node.Statement.{statement}
 use Rattle.manifest.proofs.line.node.Tie as tie
 
-read-requires : tie.Need-read-requires
-read-requires c κs = search needs
+at-requires : tie.Need-at-requires
+at-requires c κs = search needs
 
-enum-known-d : tie.Need-enum-known-d
-enum-known-d c = search needs
+enum-known-depth : tie.Need-enum-known-depth
+enum-known-depth c = search needs
 
-enum-told : tie.Need-enum-told
-enum-told c = search needs
+-- what is known of each field
+depth-ends : (c : tie.After-depth) → NumberEnds TAB (c .before .before .before .before .args .line .now) (c .before .before .before .before .args .at) (c .depth .given .0 .0) (c .depth .given .0 .1 .0)
+depth-ends c = number-ends TAB (c .before .before .before .before .args .line .now) (c .before .before .before .before .args .at) (c .before .before .at .ensures) (c .depth .given .1)
 
--- what each field was read as
-depth-read : (c : tie.After-d) → decimalOf (c .before .before .before .before .before .before .before .args .depth .now) ≡ some (c .d .given .0 .0)
-depth-read c = sym (c .before .before .read .ensures) ∙ ap numberOf (c .d .given .1)
+kind-ends : (c : tie.After-kind) → StepEnds (c .before .before .before .before .before .before .before .before .args .line .now) (c .before .before .before .before .depth .given .0 .1 .0 + 1) (c .kind .given .0 .0)
+kind-ends c = step-ends (c .before .before .before .before .before .before .before .before .args .line .now) (c .before .before .before .before .depth .given .0 .1 .0 + 1) _ (sym (c .before .before .step-kind .ensures) ∙ ap kindRead (c .kind .given .1))
 
-step-read : (c : tie.After-k) → placeIn letters (c .before .before .before .before .before .before .before .before .before .before .before .args .step .now) ≡ some (c .k .given .0 .0)
-step-read c = sym (c .before .before .step-kind .ensures) ∙ ap kindRead (c .k .given .1)
+id-ends : (c : tie.After-id) → NumberEnds TAB (c .before .before .before .before .before .before .before .before .before .before .before .before .args .line .now) (c .before .before .before .before .before .before .before .before .depth .given .0 .1 .0 + 1 + 2) (c .id .given .0 .0) (c .id .given .0 .1 .0)
+id-ends c = number-ends TAB (c .before .before .before .before .before .before .before .before .before .before .before .before .args .line .now) (c .before .before .before .before .before .before .before .before .depth .given .0 .1 .0 + 1 + 2) (c .before .before .at2 .ensures) (c .id .given .1)
 
-id-read : (c : tie.After-i) → decimalOf (c .before .before .before .before .before .before .before .before .before .before .before .before .before .before .before .args .id .now) ≡ some (c .i .given .0 .0)
-id-read c = sym (c .before .before .read2 .ensures) ∙ ap numberOf (c .i .given .1)
-
-mark-read : (c : tie.After-m) → decimalOf (c .before .before .before .before .before .before .before .before .before .before .before .before .before .before .before .before .before .before .before .args .mark .now) ≡ some (c .m .given .0 .0)
-mark-read c = sym (c .before .before .read3 .ensures) ∙ ap numberOf (c .m .given .1)
+mark-last : (c : tie.After-mark) → (c .mark .given .0 .0 ≤ 65535) × (fieldsOf (drop (c .before .before .before .before .id .given .0 .1 .0 + 1) (c .before .before .before .before .before .before .before .before .before .before .before .before .before .before .before .before .args .line .now)) ≡ decimal (c .mark .given .0 .0) ∷ [])
+mark-last c = number-last TAB (c .before .before .before .before .before .before .before .before .before .before .before .before .before .before .before .before .args .line .now) (c .before .before .before .before .id .given .0 .1 .0 + 1) (c .before .before .at3 .ensures) (c .mark .given .1)
 
 returns : tie.Need-returns
-returns c = rw (sym (c .before .before .read .ensures) ∙ ap numberOf (c .enum-told .given .1))
+returns c =
+    let a = c .before .before .before .args in
+    let unended : (n end : ℕ) → c .before .at .result ≡ More n end → ⊥ = λ n end e. ⊎-elim (λ z. omega arith) (λ z. omega arith) (rw e at (c .match .keys2)) in
+    sym (node-no-depth _ (number-unended TAB (a .line .now) (a .at) (c .before .at .ensures) unended))
+
+add-step : tie.Need-add-step
+add-step c = omega (arith, depth-ends (c .before))
 
 step-kind-requires : tie.Need-step-kind-requires
 step-kind-requires c κs = search needs
 
-enum-known-k : tie.Need-enum-known-k
-enum-known-k c = search needs
+enum-known-kind : tie.Need-enum-known-kind
+enum-known-kind c = search needs
 
-enum-told-2 : tie.Need-enum-told-2
-enum-told-2 c = search needs
+enum-told : tie.Need-enum-told
+enum-told c = search needs
 
 returns-2 : tie.Need-returns-2
-returns-2 c = rw (depth-read (c .before .before .before .before), sym (c .before .before .step-kind .ensures) ∙ ap kindRead (c .enum-told2 .given .1))
+returns-2 c =
+    let (small, _, fields) = depth-ends (c .before .before .before .before) in
+    rw fields (sym (node-no-kind _ _ small (kind-none-first _ (sym (c .before .before .step-kind .ensures) ∙ ap kindRead (c .enum-told .given .1)))))
 
-read-requires-2 : tie.Need-read-requires-2
-read-requires-2 c κs = search needs
+add-at : tie.Need-add-at
+add-at c = omega (arith, kind-ends (c .before))
 
-enum-known-i : tie.Need-enum-known-i
-enum-known-i c = search needs
+at-requires-2 : tie.Need-at-requires-2
+at-requires-2 c κs = search needs
 
-enum-told-3 : tie.Need-enum-told-3
-enum-told-3 c = search needs
+enum-known-id : tie.Need-enum-known-id
+enum-known-id c = search needs
 
 returns-3 : tie.Need-returns-3
-returns-3 c = rw (depth-read (c .before .before .before .before .before .before .before .before), step-read (c .before .before .before .before), sym (c .before .before .read2 .ensures) ∙ ap numberOf (c .enum-told3 .given .1))
+returns-3 c =
+    let unended : (n end : ℕ) → c .before .at2 .result ≡ More n end → ⊥ = λ n end e. ⊎-elim (λ z. omega arith) (λ z. omega arith) (rw e at (c .match3 .keys2)) in
+    let (small, _, fields) = depth-ends (c .before .before .before .before .before .before .before) in
+    let (_, _, _, place, others) = kind-ends (c .before .before .before) in
+    rw (fields, others)
+    (sym (node-no-id _ _ small _ _ place (number-unended TAB (c .before .before .before .before .before .before .before .before .before .before .before .args .line .now) (c .before .before .before .before .before .before .before .depth .given .0 .1 .0 + 1 + 2) (c .before .at2 .ensures) unended)))
 
-read-requires-3 : tie.Need-read-requires-3
-read-requires-3 c κs = search needs
+add-at-2 : tie.Need-add-at-2
+add-at-2 c = omega (arith, id-ends (c .before))
 
-enum-known-m : tie.Need-enum-known-m
-enum-known-m c = search needs
+at-requires-3 : tie.Need-at-requires-3
+at-requires-3 c κs = search needs
 
-enum-told-4 : tie.Need-enum-told-4
-enum-told-4 c = search needs
+enum-known-mark : tie.Need-enum-known-mark
+enum-known-mark c = search needs
 
 returns-4 : tie.Need-returns-4
-returns-4 c = rw (depth-read (c .before .before .before .before .before .before .before .before .before .before .before .before), step-read (c .before .before .before .before .before .before .before .before), id-read (c .before .before .before .before), sym (c .before .before .read3 .ensures) ∙ ap numberOf (c .enum-told4 .given .1))
+returns-4 c =
+    let unended : (n : ℕ) → c .before .at3 .result ≡ Last n → ⊥ = λ n e. ⊎-elim (λ z. omega arith) (λ z. omega arith) (rw e at (c .match4 .keys2)) in
+    let (small, _, fields) = depth-ends (c .before .before .before .before .before .before .before .before .before .before .before) in
+    let (_, _, _, place, others) = kind-ends (c .before .before .before .before .before .before .before) in
+    let (small-id, _, last-two) = id-ends (c .before .before .before) in
+    rw (fields, others, last-two)
+    (sym (node-no-mark _ _ small _ _ place _ small-id (number-unlast TAB (c .before .before .before .before .before .before .before .before .before .before .before .before .before .before .before .args .line .now) (c .before .before .before .id .given .0 .1 .0 + 1) (c .before .at3 .ensures) unended)))
 
 node-row-requires : tie.Need-node-row-requires
-node-row-requires c κs = (omega (arith, place-within letters _ _ (step-read (c .before .before .before .before .before .before .before .before .before))), decimal-written _ _ (id-read (c .before .before .before .before .before)) .1)
+node-row-requires c κs = (kind-ends (c .before .before .before .before .before .before .before .before .before) .0, id-ends (c .before .before .before .before .before) .0)
 
 returns-5 : tie.Need-returns-5
-returns-5 c = c .node-row .ensures ∙ rw (depth-read (c .before .before .before .before .before .before .before .before .before .before .before .before .before .before), step-read (c .before .before .before .before .before .before .before .before .before .before), id-read (c .before .before .before .before .before .before), mark-read (c .before .before))
+unfolding rowOf
+returns-5 c =
+    let (small, _, fields) = depth-ends (c .before .before .before .before .before .before .before .before .before .before .before .before .before .before) in
+    let (_, _, _, place, others) = kind-ends (c .before .before .before .before .before .before .before .before .before .before) in
+    let (small-id, _, last-two) = id-ends (c .before .before .before .before .before .before) in
+    let (small-mark, last) = mark-last (c .before .before) in
+    c .node-row .ensures
+    ∙ sym (rw (fields, others, last-two, last, decimal-read _ small, place, decimal-read _ small-id, decimal-read _ small-mark))
 
 pub node-spec : {M : Type 1} → statement M
 node-spec =
     tie.close
     (tie.spec
-    read-requires
-    enum-known-d
-    enum-told
+    at-requires
+    enum-known-depth
     returns
+    add-step
     step-kind-requires
-    enum-known-k
-    enum-told-2
+    enum-known-kind
+    enum-told
     returns-2
-    read-requires-2
-    enum-known-i
-    enum-told-3
+    add-at
+    at-requires-2
+    enum-known-id
     returns-3
-    read-requires-3
-    enum-known-m
-    enum-told-4
+    add-at-2
+    at-requires-3
+    enum-known-mark
     returns-4
     node-row-requires
     returns-5)
