@@ -1,18 +1,35 @@
 -- What a line that was read means (document 01, 'Listing').
-use Prim.Native.Nat.{ℕ}
-use mathlib.Core.List.{List, [], _∷_}
+use Prim.Native.Nat.{ℕ, _+_}
+use mathlib.Core.List.{List, [], _∷_, _++_}
 use mathlib.Core.Option.{Option, none, some}
+use lib.ListN.{length, drop}
+use Rattle.rules.specs.Text.{linesOf, fieldsOf}
 use Rattle.rules.specs.Tries.{Row}
-use Rattle.rules.specs.Listing.{read, letters, placeIn, lineOf, fieldsFor}
+use Rattle.rules.specs.Listing.{read, rowOf, letters, placeIn, lineOf, fieldsFor}
 use Rattle.manifest.specs.declared.line.Parsed.{Parsed}
 use Rattle.manifest.specs.declared.line.Parsed.the-variants.{Of, Bad}
 use Rattle.manifest.specs.declared.line.StepKind.{StepKind}
 use Rattle.manifest.specs.declared.line.StepKind.the-variants.{Of as OfKind, Other}
 
--- the row that a line is read as, if any
-abbrev pub rowRead : Parsed → Option Row
-rowRead (Of depth step marked) = some (read depth step marked)
+-- the row that a line is read as, if any, and the place of the line's LF
+abbrev pub rowRead : Parsed → Option (Row × ℕ)
+rowRead (Of depth step marked end) = some (read depth step marked, end)
 rowRead Bad = none
+
+-- a row that was read, if any, with the place of its line's LF
+abbrev pub ended : ℕ → Option Row → Option (Row × ℕ)
+ended end none = none
+ended end (some row) = some (row, end)
+
+-- of the lines of what is left from a place on, the row of the first behind some fields of it, where an LF ends it
+abbrev pub rowFrom : List (List ℕ) → ℕ → List (List ℕ) → Option (Row × ℕ)
+rowFrom fields at [] = none
+rowFrom fields at (line ∷ []) = none
+rowFrom fields at (line ∷ next ∷ more) = ended (at + length line) (rowOf (fields ++ fieldsOf line))
+
+-- the row of the line that begins at a place of a text
+abbrev pub rowAt : List ℕ → ℕ → Option (Row × ℕ)
+rowAt text at = rowFrom [] at (linesOf (drop at text))
 
 -- the kind of a step's letter, if any
 abbrev pub kindRead : StepKind → Option ℕ

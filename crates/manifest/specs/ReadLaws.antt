@@ -1,19 +1,19 @@
 -- Laws of the fields of a line and of the rows that a listing is read as. No contract cites this file.
 use Prim.Native.Nat.{ℕ, zero, suc, _+_, _-_, _*_, _/_, _%_, _^_, _≤_, _<_}
-use native.Mathlib.Nat.{add-zero, add-assoc, add-comm, add-sub-cancel-left}
+use native.Mathlib.Nat.{add-zero, add-comm, add-sub-cancel-left}
 use native.Mathlib.Numerals.{add-one}
 use native.Mathlib.Omega.{arith}
 use mathlib.Core.Bool.{Bool, true, false, cond, not, _&&_, _||_, and-false, or-true, false≢true}
-use mathlib.Core.List.{List, [], _∷_, _++_, map, append-nil, nil≢cons, head-eq-of-cons-eq, tail-eq-of-cons-eq}
+use mathlib.Core.List.{List, [], _∷_, _++_, map, append-nil, append-assoc, nil≢cons, head-eq-of-cons-eq, tail-eq-of-cons-eq}
 use mathlib.Core.Logic.{_≢_, _⊎_, inl, inr}
 use mathlib.Core.Option.{Option, none, some, Option·none-ne-some, Option·some-injective}
 use mathlib.Core.Path.{_≡_, refl, sym, ap, _∙_}
 use borrow.Author.Tests.{eqb-true, eqb-false, eq-eqb, ne-eqb, le-leb, lt-leb, lt-ltb, le-ltb, ltb-false, leb-false, not-false}
 use lib.Dec.{eqb, ltb, leb}
-use lib.ListN.{length, getD, take, drop, set, length-drop, length-set, length-map, drop-of-length-le}
-use lib.Seq.{drop-cons, take-all, length-take-le, getD-take, getD-drop, getD-set-same, take-take, take-suc-set, drop-set-add, drop-drop, take-append-seam, drop-append-add, append-snoc, sets}
+use lib.ListN.{length, getD, take, drop, set, length-drop, length-set, length-map, length-append, drop-of-length-le}
+use lib.Seq.{drop-cons, take-all, length-take-le, getD-take, getD-drop, getD-set-same, take-take, take-suc-set, drop-set-add, append-snoc, sets}
 use Rattle.rules.specs.Text.{bytes, parted, linesOf, fieldsOf, decimalOf, decimal, LF, TAB}
-use Rattle.rules.specs.TextLaws.{free-empty, free-more, parted-first, parted-split, parted-some, decimal-read, decimal-written}
+use Rattle.rules.specs.TextLaws.{Free, free-empty, free-more, free-append, free-decimal, parted-free, parted-first, parted-split, parted-some, joinedBy, joined-parted, decimal-read, decimal-written}
 use Rattle.rules.specs.Numbers.{Answer, accepted, refused, mostSteps}
 use Rattle.rules.specs.Facts.{by-test, by-option, compared, cond-some, cond-other, cond-none}
 use Rattle.rules.specs.Tries.{Row, Form, stepOf, requestOf, isEntry, isRow, at, follows}
@@ -22,7 +22,7 @@ use Rattle.rules.specs.Listing.{Sofar, isLetter, placeIn, letters, markOf, read
 use Rattle.rules.specs.ListingLaws.{bind-some, place-read}
 use Rattle.text.specs.Before.{before as earlier}
 use Rattle.text.specs.Answers.{lineAt, firstLine, fieldAt, firstField}
-use Rattle.text.proofs.Laws.{more-within, whole-within, parted-next, parted-whole, parted-cut, drop-some, letter-none}
+use Rattle.text.proofs.Laws.{NumberEnds, more-within, part-split, part-within, parted-next, parted-whole, parted-cut, drop-some, letter-none}
 use Rattle.text.specs.declared.Line.{Line}
 use Rattle.text.specs.declared.Line.the-variants.{End, Whole, Cut}
 use Rattle.text.specs.declared.Field.{Field}
@@ -33,8 +33,8 @@ use Rattle.trie.specs.declared.Kind.{Kind}
 use Rattle.trie.specs.declared.Limits.{Limits}
 use Rattle.trie.specs.declared.Reply.the-variants.{Done}
 use Rattle.manifest.specs.declared.reading.Sofar.{Sofar as Kept}
-use Rattle.manifest.specs.Lines.{kindIn}
-use Rattle.manifest.specs.Reads.{nodeRow, formFor, sofarIn, refusalFor, stored, Room, Passed, rowsBy, wordsFor}
+use Rattle.manifest.specs.Lines.{ended, rowFrom, rowAt, kindIn}
+use Rattle.manifest.specs.Reads.{nodeRow, formFor, sofarIn, stored, Room, RowFits, Passed, rowsBy, wordsFor}
 use Rattle.manifest.specs.Outcomes.{readIn}
 
 -- ---- the parts of a text
@@ -117,12 +117,6 @@ letter-bytes line at inside tab =
     ap (λ (n : ℕ). drop n line) next ∙ drop-cons line (at + 1) 0 inside ∙ rw (tab, behind) in
     drop-cons line at 0 (omega arith) ∙ rw second
 
--- a byte that is no tab and has a tab behind it is a field
-pub letter-field : (line : List ℕ) (at : ℕ) {byte : ℕ} → at + 1 < length line → getD line (at + 1) 0 ≡ TAB → getD line at 0 ≡ byte → byte ≢ TAB →
-    fieldsOf (drop at line) ≡ (byte ∷ []) ∷ fieldsOf (drop (at + 2) line)
-letter-field line at {byte} inside tab first other =
-    ap fieldsOf (letter-bytes line at inside tab) ∙ rw first (parted-first (free-more other free-empty) (drop (at + 2) line))
-
 -- the kind of a byte that has a tab behind it
 pub kind-letter : (line : List ℕ) (at : ℕ) {byte : ℕ} → at + 1 < length line → getD line (at + 1) 0 ≡ TAB → getD line at 0 ≡ byte →
     kindIn (fieldsOf (drop at line)) ≡ placeIn letters (byte ∷ [])
@@ -136,25 +130,21 @@ kind-letter line at {byte} inside tab first =
 
 -- what is known of a step's letter that a tab ends
 abbrev pub StepEnds : List ℕ → ℕ → ℕ → Type 0
-StepEnds line at kind =
-    (kind ≤ 5) × (at + 1 < length line) × (getD line (at + 1) 0 ≡ TAB)
+StepEnds text at kind =
+    (kind ≤ 5) × (at + 1 < length text) × (getD text (at + 1) 0 ≡ TAB)
     × (placeIn letters (getD letters kind 0 ∷ []) ≡ some kind)
-    × (fieldsOf (drop at line) ≡ (getD letters kind 0 ∷ []) ∷ fieldsOf (drop (at + 2) line))
+    × (getD text at 0 ≡ getD letters kind 0)
 
-pub step-ends : (line : List ℕ) (at kind : ℕ) → kindIn (fieldsOf (drop at line)) ≡ some kind → StepEnds line at kind
-step-ends line at kind e = go (fieldsOf (drop at line)) refl e
+pub step-ends : (text : List ℕ) (at kind : ℕ) → kindIn (fieldsOf (drop at text)) ≡ some kind → StepEnds text at kind
+step-ends text at kind e = go (fieldsOf (drop at text)) refl e
   where
-    go : (fields : List (List ℕ)) → fieldsOf (drop at line) ≡ fields → kindIn fields ≡ some kind → StepEnds line at kind
+    go : (fields : List (List ℕ)) → fieldsOf (drop at text) ≡ fields → kindIn fields ≡ some kind → StepEnds text at kind
     go [] q e = absurd (Option·none-ne-some kind e)
     go (field ∷ []) q e = absurd (Option·none-ne-some kind e)
     go (field ∷ next ∷ more) q e =
         let (among, letter) = place-read letters field kind e in
-        let fields : fieldsOf (drop at line) ≡ (getD letters kind 0 ∷ []) ∷ next ∷ more = q ∙ ap (λ (f : List ℕ). f ∷ next ∷ more) letter in
-        let (inside, first, tab) = field-letter line at (getD letters kind 0) next more fields in
-        let two : at + 1 + 1 ≡ at + 2 = omega arith in
-        let behind : next ∷ more ≡ fieldsOf (drop (at + 1 + 1) line) =
-        tail-eq-of-cons-eq (sym fields ∙ parted-next TAB at line (getD letters kind 0 ∷ []) next more fields) in
-        (omega arith, inside, tab, rw letter at e, fields ∙ rw (behind, two))
+        let (inside, first, tab) = field-letter text at (getD letters kind 0) next more (q ∙ ap (λ (f : List ℕ). f ∷ next ∷ more) letter) in
+        (omega arith, inside, tab, rw letter at e, first)
 
 -- where no tab is behind it a byte is no step
 pub kind-none : (line : List ℕ) (at : ℕ) → (at + 1 < length line → getD line (at + 1) 0 ≡ TAB → ⊥) → kindIn (fieldsOf (drop at line)) ≡ none
@@ -162,19 +152,19 @@ kind-none line at h =
     by-option (kindIn (fieldsOf (drop at line))) (λ e. e)
     (λ kind e. let ends = step-ends line at kind e in absurd (h (ends .1) (ends .2)))
 
--- a line that is read begins with A or N and a tab
-pub row-letter : (line : List ℕ) (row : Row) → rowOf (fieldsOf line) ≡ some row →
+-- fields that are read as a row begin with A or N, and others follow
+lettered : (line : List ℕ) (row : Row) → rowOf (fieldsOf line) ≡ some row →
     (1 < length line) × (getD line 1 0 ≡ TAB) × ((getD line 0 0 ≡ 65) ⊎ (getD line 0 0 ≡ 78))
 unfolding rowOf
-row-letter line row e = go (fieldsOf line) refl e
+lettered line row e = go (fieldsOf line) refl e
   where
-    lettered : (letter : ℕ) (word next : List ℕ) (more : List (List ℕ)) → isLetter letter word ≡ true → fieldsOf line ≡ word ∷ next ∷ more →
+    one-letter : (letter : ℕ) (word next : List ℕ) (more : List (List ℕ)) → isLetter letter word ≡ true → fieldsOf line ≡ word ∷ next ∷ more →
         (1 < length line) × (getD line 1 0 ≡ TAB) × (getD line 0 0 ≡ letter)
-    lettered letter [] next more is q = absurd (false≢true is)
-    lettered letter (byte ∷ []) next more is q =
+    one-letter letter [] next more is q = absurd (false≢true is)
+    one-letter letter (byte ∷ []) next more is q =
         let (inside, first, tab) = field-letter line 0 byte next more q in
         (inside, tab, first ∙ eqb-true byte letter is)
-    lettered letter (byte ∷ other ∷ word) next more is q = absurd (false≢true is)
+    one-letter letter (byte ∷ other ∷ word) next more is q = absurd (false≢true is)
 
     go : (fields : List (List ℕ)) → fieldsOf line ≡ fields → rowOf fields ≡ some row →
         (1 < length line) × (getD line 1 0 ≡ TAB) × ((getD line 0 0 ≡ 65) ⊎ (getD line 0 0 ≡ 78))
@@ -183,18 +173,12 @@ row-letter line row e = go (fieldsOf line) refl e
     go (a ∷ b ∷ []) q e = absurd (Option·none-ne-some row e)
     go (a ∷ b ∷ c ∷ []) q e = absurd (Option·none-ne-some row e)
     go (word ∷ b ∷ c ∷ d ∷ []) q e =
-        let (inside, tab, first) = lettered 65 word b (c ∷ d ∷ []) (cond-some (isLetter 65 word) _ row e .0) q in
+        let (inside, tab, first) = one-letter 65 word b (c ∷ d ∷ []) (cond-some (isLetter 65 word) _ row e .0) q in
         (inside, tab, inl first)
     go (word ∷ b ∷ c ∷ d ∷ f ∷ []) q e =
-        let (inside, tab, first) = lettered 78 word b (c ∷ d ∷ f ∷ []) (cond-some (isLetter 78 word) _ row e .0) q in
+        let (inside, tab, first) = one-letter 78 word b (c ∷ d ∷ f ∷ []) (cond-some (isLetter 78 word) _ row e .0) q in
         (inside, tab, inr first)
     go (a ∷ b ∷ c ∷ d ∷ f ∷ g ∷ more) q e = absurd (Option·none-ne-some row e)
-
--- a line that does not so begin is not read
-pub row-none : (line : List ℕ) → (1 < length line → getD line 1 0 ≡ TAB → (getD line 0 0 ≡ 65) ⊎ (getD line 0 0 ≡ 78) → ⊥) → rowOf (fieldsOf line) ≡ none
-row-none line h =
-    by-option (rowOf (fieldsOf line)) (λ e. e)
-    (λ row e. let (inside, tab, first) = row-letter line row e in absurd (h inside tab first))
 
 -- fields make no entry behind A unless they are three that make one, and no node behind N unless they are four that make one
 entry-none : (fields : List (List ℕ)) → ((f g h : List ℕ) → fields ≡ f ∷ g ∷ h ∷ [] → entryOf f g h ≡ none) → rowOf (bytes "A" ∷ fields) ≡ none
@@ -224,6 +208,131 @@ NoneLast fields = (f : List ℕ) → fields ≡ f ∷ [] → decimalOf f ≡ non
 
 pub kind-none-first : (fields : List (List ℕ)) → kindIn fields ≡ none → NoneFirst (placeIn letters) fields
 kind-none-first fields e f next more q = sym (ap kindIn q) ∙ e
+
+-- what is read as a decimal or as a step's letter has no tab
+pub decimal-free : (f : List ℕ) (n : ℕ) → decimalOf f ≡ some n → Free TAB f
+decimal-free f n e = rw (decimal-written f n e .0) (free-decimal TAB n (omega arith))
+
+-- a byte that is no letter is no step's letter
+letter-other : (b kind : ℕ) → placeIn letters (b ∷ []) ≡ none → placeIn letters (getD letters kind 0 ∷ []) ≡ some kind → getD letters kind 0 ≢ b
+letter-other b kind bad e same = Option·none-ne-some kind (sym bad ∙ rw (← same) e)
+
+pub letter-free : (f : List ℕ) (kind : ℕ) → placeIn letters f ≡ some kind → Free TAB f
+unfolding placeIn
+letter-free f kind e =
+    let (among, letter) = place-read letters f kind e in
+    rw letter (free-more (letter-other TAB kind refl (rw letter at e)) free-empty)
+
+-- ---- the line that begins at a place of a text, field after field
+
+-- a run without b stands in front of the first part of what follows
+parted-front : {b : ℕ} {xs : List ℕ} (ys part : List ℕ) (parts : List (List ℕ)) → Free b xs → parted b ys ≡ part ∷ parts → parted b (xs ++ ys) ≡ (xs ++ part) ∷ parts
+unfolding parted
+parted-front ys part parts free-empty e = e
+parted-front {b} ys part parts (free-more {x} h xs) e = rw (ne-eqb x b h, parted-front ys part parts xs e)
+
+module _ (fields : List (List ℕ)) (text : List ℕ) (at end : ℕ) (f : List ℕ) (tabless : Free TAB f) (lineless : Free LF f) (place : at + length f ≡ end) where
+  -- a field that a tab ends goes to the fields before
+  pub row-field : drop at text ≡ f ++ TAB ∷ drop (end + 1) text →
+      rowFrom fields at (linesOf (drop at text)) ≡ rowFrom (fields ++ (f ∷ [])) (end + 1) (linesOf (drop (end + 1) text))
+  row-field split =
+      let (line, others, q) = parted-some LF (drop (end + 1) text) in
+      let front : linesOf (drop at text) ≡ ((f ++ (TAB ∷ [])) ++ line) ∷ others =
+      ap linesOf (split ∙ sym (append-snoc f TAB (drop (end + 1) text)))
+      ∙ parted-front (drop (end + 1) text) line others (free-append lineless (free-more (omega arith) free-empty)) q in
+      rw (front, q) (go line others)
+    where
+      go : (line : List ℕ) (others : List (List ℕ)) →
+          rowFrom fields at (((f ++ (TAB ∷ [])) ++ line) ∷ others) ≡ rowFrom (fields ++ (f ∷ [])) (end + 1) (line ∷ others)
+      go line [] = refl
+      go line (next ∷ more) =
+          let same-end : at + length ((f ++ (TAB ∷ [])) ++ line) ≡ end + 1 + length line =
+          omega (arith, length-append (f ++ (TAB ∷ [])) line, length-append f (TAB ∷ [])) in
+          let parts : fieldsOf ((f ++ (TAB ∷ [])) ++ line) ≡ f ∷ fieldsOf line = ap fieldsOf (append-snoc f TAB line) ∙ parted-first tabless line in
+          rw (same-end, parts, append-snoc fields f (fieldsOf line))
+
+  -- a field that an LF ends is the last
+  pub row-last : drop at text ≡ f ++ LF ∷ drop (end + 1) text → rowFrom fields at (linesOf (drop at text)) ≡ ended end (rowOf (fields ++ (f ∷ [])))
+  row-last split =
+      let (line, others, q) = parted-some LF (drop (end + 1) text) in
+      let lines : linesOf (drop at text) ≡ f ∷ line ∷ others = ap linesOf split ∙ parted-first lineless (drop (end + 1) text) ∙ rw q in
+      rw (lines, place, parted-free tabless)
+
+-- a decimal, and a step's letter, that a tab ends
+module _ (fields : List (List ℕ)) (text : List ℕ) (at : ℕ) where
+  pub row-number : {n end : ℕ} → NumberEnds TAB text at n end →
+      rowFrom fields at (linesOf (drop at text)) ≡ rowFrom (fields ++ (decimal n ∷ [])) (end + 1) (linesOf (drop (end + 1) text))
+  row-number {n} {end} ends =
+      row-field fields text at end (decimal n) (free-decimal TAB n (omega arith)) (free-decimal LF n (omega arith)) (ends .2) (ends .3)
+
+  pub row-ends : {n end : ℕ} → NumberEnds LF text at n end → rowFrom fields at (linesOf (drop at text)) ≡ ended end (rowOf (fields ++ (decimal n ∷ [])))
+  row-ends {n} {end} ends =
+      row-last fields text at end (decimal n) (free-decimal TAB n (omega arith)) (free-decimal LF n (omega arith)) (ends .2) (ends .3)
+
+  pub row-letter : {byte : ℕ} → byte ≢ TAB → byte ≢ LF → at + 1 < length text → getD text (at + 1) 0 ≡ TAB → getD text at 0 ≡ byte →
+      rowFrom fields at (linesOf (drop at text)) ≡ rowFrom (fields ++ ((byte ∷ []) ∷ [])) (at + 2) (linesOf (drop (at + 2) text))
+  row-letter {byte} tabless lineless inside tab first =
+      let two : at + 1 + 1 ≡ at + 2 = omega arith in
+      let split : drop at text ≡ (byte ∷ []) ++ TAB ∷ drop (at + 1 + 1) text = letter-bytes text at inside tab ∙ rw (first, two) in
+      rw (← two) (row-field fields text at (at + 1) (byte ∷ []) (free-more tabless free-empty) (free-more lineless free-empty) refl split)
+
+  pub row-step : {kind : ℕ} → StepEnds text at kind →
+      rowFrom fields at (linesOf (drop at text)) ≡ rowFrom (fields ++ ((getD letters kind 0 ∷ []) ∷ [])) (at + 2) (linesOf (drop (at + 2) text))
+  unfolding placeIn
+  row-step {kind} (few, inside, tab, place, first) = row-letter (letter-other TAB kind refl place) (letter-other LF kind refl place) inside tab first
+
+  -- no row is read where none is of the fields of the line
+  row-none : ((line next : List ℕ) (more : List (List ℕ)) → linesOf (drop at text) ≡ line ∷ next ∷ more → rowOf (fields ++ fieldsOf line) ≡ none) →
+      rowFrom fields at (linesOf (drop at text)) ≡ none
+  row-none bad = go (linesOf (drop at text)) bad
+    where
+      go : (lines : List (List ℕ)) → ((line next : List ℕ) (more : List (List ℕ)) → lines ≡ line ∷ next ∷ more → rowOf (fields ++ fieldsOf line) ≡ none) →
+          rowFrom fields at lines ≡ none
+      go [] bad = refl
+      go (line ∷ []) bad = refl
+      go (line ∷ next ∷ more) bad = rw (bad line next more refl)
+
+  -- so it is where a first field is not read in the text
+  pub row-unread : (reads : List ℕ → Option ℕ) → ((f : List ℕ) (n : ℕ) → reads f ≡ some n → Free TAB f) → NoneFirst reads (fieldsOf (drop at text)) →
+      ((others : List (List ℕ)) → NoneFirst reads others → rowOf (fields ++ others) ≡ none) → rowFrom fields at (linesOf (drop at text)) ≡ none
+  row-unread reads free unread bad =
+      row-none λ line next more q.
+      bad (fieldsOf line) λ f g others p.
+      by-option (reads f) (λ e. e) λ n e.
+      let in-text = parted-split LF (drop at text) line next more q in
+      let in-line = parted-split TAB line f g others p in
+      let rest = in-line .0 ++ LF ∷ in-text .0 in
+      let whole : drop at text ≡ f ++ TAB ∷ rest =
+      in-text .1 ∙ ap (λ (l : List ℕ). l ++ LF ∷ in-text .0) (in-line .1) ∙ append-assoc f (TAB ∷ in-line .0) (LF ∷ in-text .0) in
+      let (second, behind, r) = parted-some TAB rest in
+      absurd (Option·none-ne-some n (sym (unread f second behind (ap fieldsOf whole ∙ parted-first (free f n e) rest ∙ rw r)) ∙ e))
+
+  -- and where no decimal stands before the LF
+  pub row-unended : NoneFirst decimalOf (linesOf (drop at text)) →
+      ((others : List (List ℕ)) → NoneLast others → rowOf (fields ++ others) ≡ none) → rowFrom fields at (linesOf (drop at text)) ≡ none
+  unfolding joinedBy
+  row-unended unread bad =
+      row-none λ line next more q.
+      bad (fieldsOf line) λ f p.
+      let same : f ≡ line = sym (ap (joinedBy TAB) p) ∙ joined-parted TAB line in
+      rw same (unread line next more q)
+
+-- a line that is read begins with A or N and a tab
+pub row-begins : (text : List ℕ) (at : ℕ) → (at + 1 < length text → getD text (at + 1) 0 ≡ TAB → (getD text at 0 ≡ 65) ⊎ (getD text at 0 ≡ 78) → ⊥) → rowAt text at ≡ none
+row-begins text at h =
+    row-none [] text at λ line next more q.
+    by-option (rowOf (fieldsOf line)) (λ e. e) λ row e.
+    let (inside, tab, first) = lettered line row e in
+    let split = parted-split LF (drop at text) line next more q in
+    absurd (begins line (split .0) (split .1) inside tab first)
+  where
+    begins : (line rest : List ℕ) → drop at text ≡ line ++ LF ∷ rest → 1 < length line → getD line 1 0 ≡ TAB → (getD line 0 0 ≡ 65) ⊎ (getD line 0 0 ≡ 78) → ⊥
+    begins [] rest split inside tab first = omega arith
+    begins (x ∷ []) rest split inside tab first = omega arith
+    begins (x ∷ y ∷ line) rest split inside tab first =
+        let letter : getD text at 0 ≡ x = sym (getD-drop at text 0 0 ∙ rw add-zero) ∙ ap (λ (l : List ℕ). getD l 0 0) split in
+        let second : getD text (at + 1) 0 ≡ y = sym (getD-drop at text 1 0) ∙ ap (λ (l : List ℕ). getD l 1 0) split in
+        h (omega (arith, length-drop at text, ap length split)) (second ∙ tab) (rw letter first)
 
 -- behind the fields of an entry that were read, such fields make none
 module _ (fields : List (List ℕ)) where
@@ -409,10 +518,7 @@ refusal-none form sofar row e =
       node-fits = λ z. leb-false (form .nodes) (sofar .nodes) (rw (ne-eqb (row .depth) 0 z) at nodes);
     }
 
--- a line's row fits its word: an entry's request type has 48 bits and no mark, a node's step 19
-abbrev pub RowFits : Row → Type 0
-RowFits row = (row .step < cond (isEntry row) (2 ^ 48) (2 ^ 19)) × (row .depth ≡ 0 → row .mark ≡ false)
-
+-- a line's row fits its word
 entry-fits : (b c d : List ℕ) (row : Row) → entryOf b c d ≡ some row → RowFits row
 entry-fits b c d row e =
     bind-some (decimalOf b) _ row e λ p p-read e₁.
@@ -456,16 +562,15 @@ stored-next rows count word inside =
 
 -- a row that is not refused is passed with its step in the path and its word behind the others
 pub row-passed :
-    (limits : Limits) (kept : Kept) (line path rows : List ℕ) (row : Row) {word : ℕ} {next : Kept} →
+    (limits : Limits) (kept : Kept) (path rows : List ℕ) (row : Row) {word : ℕ} {next : Kept} →
     Room limits kept path rows →
-    rowOf (fieldsOf line) ≡ some row →
     refusal (formFor limits) (sofarIn kept path) row ≡ none →
     word ≡ wordOf row →
     next .len ≡ row .depth + 1 →
     next .entries ≡ cond (isEntry row) (kept .entries + 1) (kept .entries) →
     next .nodes ≡ cond (isEntry row) (kept .nodes) (kept .nodes + 1) →
-    Passed limits kept line path rows (set path (row .depth) (row .step)) (set rows (kept .entries + kept .nodes + 1) word) next
-row-passed limits kept line path rows row {word} {next} room e unrefused packed len entries nodes =
+    Passed limits kept row path rows (set path (row .depth) (row .step)) (set rows (kept .entries + kept .nodes + 1) word) next
+row-passed limits kept path rows row {word} {next} room unrefused packed len entries nodes =
     let allowed : Allowed (formFor limits) (sofarIn kept path) row = refusal-none (formFor limits) (sofarIn kept path) row unrefused in
     let fits : kept .len ≤ length path = omega (arith, room .path-length, room .in-path) in
     let near : row .depth ≤ kept .len = omega (arith, allowed .near, length-take-le (kept .len) path fits) in
@@ -473,8 +578,6 @@ row-passed limits kept line path rows row {word} {next} room e unrefused packed 
     rw len (place-next path (kept .len) row fits near (omega (arith, room .path-length, allowed .shallow))) in
     let (few-entries, few-nodes, one-more) = counts allowed (isEntry row) refl entries nodes in
     record {
-      row = row;
-      read-row = e;
       unrefused = unrefused;
       comes-past = λ i. record { place = place i; entries = entries i; nodes = nodes i };
       stored-row = rw (one-more, packed) (stored-next rows (kept .entries + kept .nodes) (wordOf row) (omega (arith, room .in-rows)));
@@ -525,28 +628,62 @@ lines-cut text at r ensured unended more =
     (λ h. let (next, others, p) = parted-cut LF at text h in absurd (unended _ (ensured ∙ ap (firstLine at) p)))
     (λ h. (parted-whole LF at text h, drop-some at text more))
 
-module _ (form : Form) (sofar : Sofar) (place : ℕ) where
-  -- it is a line of no form
-  rows-cut : (text : List ℕ) (at : ℕ) (r : Line) → r ≡ lineAt text at → ((end : ℕ) → r ≡ Whole end → ⊥) → at < length text →
-      rowsFrom form sofar place (linesOf (drop at text)) ≡ refused 1 place
-  unfolding rowsFrom
-  rows-cut text at r ensured unended inside = let (alone, some-byte) = lines-cut text at r ensured unended inside in rw (alone, some-byte)
+-- what is known of a line that is read: its fields are the row's, and an LF ends it
+abbrev RowLine : List ℕ → ℕ → Row → ℕ → Type 0
+RowLine text at row end =
+    (line : List ℕ) × (at ≤ end) × (end < length text) × (rowOf (fieldsOf line) ≡ some row) × (linesOf (drop at text) ≡ line ∷ linesOf (drop (end + 1) text))
 
-  module _ (line rest : List ℕ) where
+row-line : (text : List ℕ) (at : ℕ) (row : Row) (end : ℕ) → rowAt text at ≡ some (row, end) → RowLine text at row end
+row-line text at row end e = go (linesOf (drop at text)) refl e
+  where
+    go : (lines : List (List ℕ)) → linesOf (drop at text) ≡ lines → rowFrom [] at lines ≡ some (row, end) → RowLine text at row end
+    go [] q e = absurd (Option·none-ne-some (row, end) e)
+    go (line ∷ []) q e = absurd (Option·none-ne-some (row, end) e)
+    go (line ∷ next ∷ more) q e =
+        by-option (rowOf (fieldsOf line))
+        (λ bad. absurd (Option·none-ne-some (row, end) (sym (ap (ended (at + length line)) bad) ∙ e)))
+        λ found good.
+        let same : (found, at + length line) ≡ (row, end) = Option·some-injective _ _ (sym (ap (ended (at + length line)) good) ∙ e) in
+        let place : at + length line ≡ end = ap (λ (w : Row × ℕ). w .1) same in
+        let behind : linesOf (drop (at + length line + 1) text) ≡ next ∷ more = part-split LF at text line next more q .1 in (
+          line,
+          omega arith,
+          omega (arith, part-within LF at text line next more q),
+          good ∙ ap (λ (w : Row × ℕ). some (w .0)) same,
+          q ∙ rw (← behind, place),
+        )
+
+module _ (form : Form) (sofar : Sofar) (place : ℕ) (text : List ℕ) (at : ℕ) where
+  -- a line that is not read is where reading ends
+  rows-unread : rowAt text at ≡ none → at < length text → rowsFrom form sofar place (linesOf (drop at text)) ≡ refused 1 place
+  unfolding rowsFrom joinedBy
+  rows-unread e inside = go (linesOf (drop at text)) refl e
+    where
+      go : (lines : List (List ℕ)) → linesOf (drop at text) ≡ lines → rowFrom [] at lines ≡ none → rowsFrom form sofar place lines ≡ refused 1 place
+      go [] q e = let (line, others, some-line) = parted-some LF (drop at text) in absurd (nil≢cons (sym q ∙ some-line))
+      go (line ∷ []) q e =
+          let same : line ≡ drop at text = sym (ap (joinedBy LF) q) ∙ joined-parted LF (drop at text) in
+          rw (same, drop-some at text inside)
+      go (line ∷ next ∷ more) q e =
+          by-option (rowOf (fieldsOf line))
+          (λ bad. rw (rowsFrom, bad))
+          λ row good. absurd (Option·none-ne-some (row, at + length line) (sym e ∙ ap (ended (at + length line)) good))
+
+  module _ {row : Row} {end : ℕ} (e : rowAt text at ≡ some (row, end)) where
+    -- so is one whose row gives a number
+    rows-stopped : {number : ℕ} → refusal form sofar row ≡ some number → rowsFrom form sofar place (linesOf (drop at text)) ≡ refused number place
+    unfolding rowsFrom
+    rows-stopped stopped =
+        let (line, _, _, read-row, lines) = row-line text at row end e in
+        rw (lines, parted-some LF (drop (end + 1) text) .2, rowsFrom, read-row, stopped)
+
     -- a row that is not refused comes before those of the lines behind it
-    rows-next : (row : Row) → rowOf (fieldsOf line) ≡ some row → refusal form sofar row ≡ none →
-        rowsFrom form sofar place (line ∷ linesOf rest) ≡ before row (rowsFrom form (past sofar row) (place + 1) (linesOf rest))
+    rows-next : refusal form sofar row ≡ none →
+        rowsFrom form sofar place (linesOf (drop at text)) ≡ before row (rowsFrom form (past sofar row) (place + 1) (linesOf (drop (end + 1) text)))
     unfolding rowsFrom
-    rows-next row e unrefused = rw (parted-some LF rest .2, rowsFrom, e, unrefused)
-
-    -- a line that gives a number is where reading ends
-    rows-stopped : (number : ℕ) → refusalFor form sofar (rowOf (fieldsOf line)) ≡ some number → rowsFrom form sofar place (line ∷ linesOf rest) ≡ refused number place
-    unfolding rowsFrom
-    rows-stopped number stopped = go (rowOf (fieldsOf line)) refl stopped
-      where
-        go : (row : Option Row) → rowOf (fieldsOf line) ≡ row → refusalFor form sofar row ≡ some number → rowsFrom form sofar place (line ∷ linesOf rest) ≡ refused number place
-        go none q e = rw (parted-some LF rest .2, rowsFrom, q, Option·some-injective 1 number e)
-        go (some row) q e = rw (parted-some LF rest .2, rowsFrom, q, e)
+    rows-next unrefused =
+        let (line, _, _, read-row, lines) = row-line text at row end e in
+        rw (lines, parted-some LF (drop (end + 1) text) .2, rowsFrom, read-row, unrefused)
 
 -- ---- reading from line to line
 
@@ -588,24 +725,28 @@ module _ {limits : Limits} {text : List ℕ} {kept : Kept} {path rows : List ℕ
   unfolding rowsFrom parted
   reading-all h = sym (reading .left ∙ rw (drop-of-length-le text h, append-nil))
 
-  -- the next line has no LF
-  pub reading-cut : {r : Line} → r ≡ lineAt text at → ((end : ℕ) → r ≡ Whole end → ⊥) → at < length text →
-      refused 1 line ≡ wordsFor (rowsBy limits text)
-  reading-cut {r} ensured unended more =
-      sym (reading .left ∙ rw (rows-cut (formFor limits) (sofarIn kept path) line text at r ensured unended more))
+  -- the next line is not read
+  pub reading-unread : rowAt text at ≡ none → at < length text → refused 1 line ≡ wordsFor (rowsBy limits text)
+  reading-unread e more = sym (reading .left ∙ rw (rows-unread (formFor limits) (sofarIn kept path) line text at e more))
 
-  module _ {end : ℕ} {r : Line} (ensured : r ≡ lineAt text at) (e : r ≡ Whole end) where
-    -- the next line is refused
-    pub reading-stopped : {number : ℕ} → refusalFor (formFor limits) (sofarIn kept path) (rowOf (fieldsOf (take (end - at) (drop at text)))) ≡ some number →
-        refused number line ≡ wordsFor (rowsBy limits text)
-    reading-stopped {number} stopped =
-        sym (reading .left ∙ rw (lines-whole text at end r ensured e, rows-stopped (formFor limits) (sofarIn kept path) line _ _ number stopped))
+  module _ {row : Row} {end : ℕ} (e : rowAt text at ≡ some (row, end)) where
+    -- the next line's LF stands in the text
+    pub reading-within : (at ≤ end) × (end < length text)
+    reading-within = let (_, behind, within, _, _) = row-line text at row end e in (behind, within)
 
-    -- the next line is taken
-    pub reading-next : {path′ rows′ : List ℕ} {next : Kept} → Passed limits kept (take (end - at) (drop at text)) path rows path′ rows′ next →
+    -- its row can be stored
+    pub reading-fits : RowFits row
+    reading-fits = let (_, _, _, read-row, _) = row-line text at row end e in row-fits _ row read-row
+
+    -- its row is refused
+    pub reading-stopped : {number : ℕ} → refusal (formFor limits) (sofarIn kept path) row ≡ some number → refused number line ≡ wordsFor (rowsBy limits text)
+    reading-stopped stopped = sym (reading .left ∙ rw (rows-stopped (formFor limits) (sofarIn kept path) line text at e stopped))
+
+    -- its row is taken
+    pub reading-next : {path′ rows′ : List ℕ} {next : Kept} → Passed limits kept row path rows path′ rows′ next →
         Reading limits text next path′ rows′ (end + 1) (line + 1)
     reading-next passed =
-        let (behind-at, within) = whole-within text at end r ensured e in
+        let (behind-at, within) = reading-within in
         record {
           room = passed .room;
           inside = omega arith;
@@ -613,9 +754,8 @@ module _ {limits : Limits} {text : List ℕ} {kept : Kept} {path rows : List ℕ
           left =
               reading .left
               ∙ rw (
-                lines-whole text at end r ensured e,
-                rows-next (formFor limits) (sofarIn kept path) line _ _ (passed .row) (passed .read-row) (passed .unrefused),
-                behind-row (stored (kept .entries + kept .nodes) rows) (passed .row) _,
+                rows-next (formFor limits) (sofarIn kept path) line text at e (passed .unrefused),
+                behind-row (stored (kept .entries + kept .nodes) rows) row _,
                 ← passed .stored-row,
                 ← passed .comes-past,
               );

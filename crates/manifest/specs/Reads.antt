@@ -1,5 +1,5 @@
 -- What reading a listing keeps from line to line, for the contracts of `line` and `reading`.
-use Prim.Native.Nat.{ℕ, _+_, _≤_, _<_}
+use Prim.Native.Nat.{ℕ, _+_, _^_, _≤_, _<_}
 use mathlib.Core.Bool.{true, false, cond}
 use mathlib.Core.List.{List, [], _∷_, _++_, map}
 use mathlib.Core.Option.{Option, none, some}
@@ -7,9 +7,9 @@ use mathlib.Core.Path.{_≡_}
 use lib.Dec.{eqb}
 use lib.ListN.{length, take, drop}
 use Rattle.rules.specs.Numbers.{Answer, accepted, refused}
-use Rattle.rules.specs.Text.{linesOf, fieldsOf}
-use Rattle.rules.specs.Tries.{Row, Form, stepOf}
-use Rattle.rules.specs.Listing.{Sofar, read, ofForm, rowOf, refusal, start, past, rowsFrom, _>>=_}
+use Rattle.rules.specs.Text.{linesOf}
+use Rattle.rules.specs.Tries.{Row, Form, stepOf, isEntry}
+use Rattle.rules.specs.Listing.{Sofar, read, ofForm, refusal, start, past, rowsFrom, _>>=_}
 use Rattle.trie.specs.Words.{wordOf}
 use Rattle.trie.specs.declared.Limits.{Limits}
 use Rattle.manifest.specs.declared.reading.Sofar.{Sofar as Kept}
@@ -36,11 +36,6 @@ sofarIn kept path = record { place = take (kept .len) path; entries = kept .entr
 abbrev pub numbered : ℕ → Option ℕ
 numbered number = cond (eqb number 0) none (some number)
 
--- the number that a line gives after others, if any: 1 where it has no row
-abbrev pub refusalFor : Form → Sofar → Option Row → Option ℕ
-refusalFor form sofar none = some 1
-refusalFor form sofar (some row) = refusal form sofar row
-
 -- so many words are stored, from place 1 on
 abbrev pub stored : ℕ → List ℕ → List ℕ
 stored count rows = take count (drop 1 rows)
@@ -53,20 +48,21 @@ pub record Room (limits : Limits) (kept : Kept) (path rows : List ℕ) : Type 0 
   pub few-nodes : kept .nodes ≤ limits .nodes
   pub in-rows : limits .entries + limits .nodes < length rows
 
+-- a row fits its word: an entry's request type has 48 bits and no mark, a node's step 19
+abbrev pub RowFits : Row → Type 0
+RowFits row = (row .step < cond (isEntry row) (2 ^ 48) (2 ^ 19)) × (row .depth ≡ 0 → row .mark ≡ false)
+
 -- a row was taken: its word is stored behind the others, and reading has come past it
-pub record Passed (limits : Limits) (kept : Kept) (line path rows path′ rows′ : List ℕ) (next : Kept) : Type 0 where
-  pub row : Row
-  pub read-row : rowOf (fieldsOf line) ≡ some row
+pub record Passed (limits : Limits) (kept : Kept) (row : Row) (path rows path′ rows′ : List ℕ) (next : Kept) : Type 0 where
   pub unrefused : refusal (formFor limits) (sofarIn kept path) row ≡ none
   pub comes-past : sofarIn next path′ ≡ past (sofarIn kept path) row
   pub stored-row : stored (next .entries + next .nodes) rows′ ≡ stored (kept .entries + kept .nodes) rows ++ (wordOf row ∷ [])
   pub room : Room limits next path′ rows′
 
--- what taking a line answers
-abbrev pub Taken : Limits → Kept → List ℕ → List ℕ → List ℕ → List ℕ → List ℕ → Took → Type 0
-Taken limits kept line path rows path′ rows′ (Next next) = Passed limits kept line path rows path′ rows′ next
-Taken limits kept line path rows path′ rows′ (Stopped number) =
-    refusalFor (formFor limits) (sofarIn kept path) (rowOf (fieldsOf line)) ≡ some number
+-- what taking a row answers
+abbrev pub Taken : Limits → Kept → Row → List ℕ → List ℕ → List ℕ → List ℕ → Took → Type 0
+Taken limits kept row path rows path′ rows′ (Next next) = Passed limits kept row path rows path′ rows′ next
+Taken limits kept row path rows path′ rows′ (Stopped number) = refusal (formFor limits) (sofarIn kept path) row ≡ some number
 
 -- what a text gives, line after line
 abbrev pub rowsBy : Limits → List ℕ → Answer (List Row)

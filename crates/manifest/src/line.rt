@@ -1,17 +1,18 @@
-// A line of the listing as a row.
+// A line of the listing as a row, read in one pass.
 ghost use mathlib.Core.Path.{_≡_};
-ghost use Prim.Native.Nat.{_≤_};
-ghost use mathlib.Core.List.{_∷_};
-ghost use lib.ListN.{drop};
-ghost use Rattle.rules.specs.Text.{bytes, fieldsOf};
-ghost use Rattle.rules.specs.Listing.{rowOf};
-ghost use Rattle.manifest.specs.Lines.{rowRead, kindRead, kindIn};
+ghost use mathlib.Core.List.{[], _∷_};
+ghost use Prim.Native.Nat.{_≤_, _<_};
+ghost use lib.ListN.{length, drop};
+ghost use Rattle.rules.specs.Text.{bytes, linesOf, fieldsOf};
+ghost use Rattle.manifest.specs.Lines.{rowRead, rowFrom, rowAt, ended, kindRead, kindIn};
 ghost use Rattle.manifest.specs.Reads.{nodeRow};
+use text::LF;
 use text::Number;
+use text::TAB;
 
-// What a line is read as: a row's depth, step and mark, or not of the stated form.
+// What a line is read as: a row's depth, step and mark and the place of the line's LF, or not of the stated form.
 pub enum Parsed {
-    Of(u64, u64, bool),
+    Of(u64, u64, bool, usize),
     Bad,
 }
 
@@ -22,20 +23,20 @@ enum StepKind {
 }
 
 // The kind of the step that is the field at a place, with a tab behind it.
-fn step_kind(line: &[u8], at: usize) -> StepKind
-    ensures { λ r. ⌜ kindRead r ≡ kindIn (fieldsOf (drop at (now (line .entry)))) ⌝ }
+fn step_kind(text: &[u8], at: usize) -> StepKind
+    ensures { λ r. ⌜ kindRead r ≡ kindIn (fieldsOf (drop at (now (text .entry)))) ⌝ }
 {
-    if line.len() <= at {
+    if text.len() <= at {
         return StepKind::Other;
     }
     let tab = at + 1;
-    if line.len() <= tab {
+    if text.len() <= tab {
         return StepKind::Other;
     }
-    if line[tab] != text::TAB {
+    if text[tab] != TAB {
         return StepKind::Other;
     }
-    let b = line[at];
+    let b = text[at];
     match b {
         b'f' => StepKind::Of(0),
         b'p' => StepKind::Of(1),
@@ -47,26 +48,26 @@ fn step_kind(line: &[u8], at: usize) -> StepKind
     }
 }
 
-// The row of an entry, by the fields behind its letter.
-fn entry(line: &[u8], at: usize) -> Parsed
-    ensures { λ r. ⌜ rowRead r ≡ rowOf (bytes "A" ∷ fieldsOf (drop at (now (line .entry)))) ⌝ }
+// The row of an entry, by what stands behind its letter up to the line's LF.
+fn entry(text: &[u8], at: usize) -> Parsed
+    ensures { λ r. ⌜ rowRead r ≡ rowFrom (bytes "A" ∷ []) at (linesOf (drop at (now (text .entry)))) ⌝ }
 {
-    let Number::More(p, p_end) = Number::at(line, at, text::TAB) else {
+    let Number::Of(p, p_end) = Number::at(text, at, TAB) else {
         return Parsed::Bad;
     };
-    let Number::More(a, a_end) = Number::at(line, p_end + 1, text::TAB) else {
+    let Number::Of(a, a_end) = Number::at(text, p_end + 1, TAB) else {
         return Parsed::Bad;
     };
-    let Number::Last(r) = Number::at(line, a_end + 1, text::TAB) else {
+    let Number::Of(r, end) = Number::at(text, a_end + 1, LF) else {
         return Parsed::Bad;
     };
-    Parsed::Of(0, (p * 0x1_0000 + a) * 0x1_0000 + r, false)
+    Parsed::Of(0, (p * 0x1_0000 + a) * 0x1_0000 + r, false, end)
 }
 
 // A node's row, where it is of its form: a root at depth 1, an id for fields and literal entities only, a mark of 0 or 1.
-fn node_row(depth: u64, kind: u64, id: u64, mark: u64) -> Parsed
+fn node_row(depth: u64, kind: u64, id: u64, mark: u64, end: usize) -> Parsed
     requires { ⌜ (kind ≤ 5) × (id ≤ 65535) ⌝ }
-    ensures { λ r. ⌜ rowRead r ≡ nodeRow depth kind id mark ⌝ }
+    ensures { λ r. ⌜ rowRead r ≡ ended end (nodeRow depth kind id mark) ⌝ }
 {
     if depth == 0 {
         return Parsed::Bad;
@@ -86,43 +87,45 @@ fn node_row(depth: u64, kind: u64, id: u64, mark: u64) -> Parsed
             }
         }
     }
-    Parsed::Of(depth, kind * 0x1_0000 + id, mark == 1)
+    Parsed::Of(depth, kind * 0x1_0000 + id, mark == 1, end)
 }
 
-// The row of a node, by the fields behind its letter.
-fn node(line: &[u8], at: usize) -> Parsed
-    ensures { λ r. ⌜ rowRead r ≡ rowOf (bytes "N" ∷ fieldsOf (drop at (now (line .entry)))) ⌝ }
+// The row of a node, by what stands behind its letter up to the line's LF.
+fn node(text: &[u8], at: usize) -> Parsed
+    ensures { λ r. ⌜ rowRead r ≡ rowFrom (bytes "N" ∷ []) at (linesOf (drop at (now (text .entry)))) ⌝ }
 {
-    let Number::More(depth, depth_end) = Number::at(line, at, text::TAB) else {
+    let Number::Of(depth, depth_end) = Number::at(text, at, TAB) else {
         return Parsed::Bad;
     };
     let step = depth_end + 1;
-    let StepKind::Of(kind) = step_kind(line, step) else {
+    let StepKind::Of(kind) = step_kind(text, step) else {
         return Parsed::Bad;
     };
-    let Number::More(id, id_end) = Number::at(line, step + 2, text::TAB) else {
+    let Number::Of(id, id_end) = Number::at(text, step + 2, TAB) else {
         return Parsed::Bad;
     };
-    let Number::Last(mark) = Number::at(line, id_end + 1, text::TAB) else {
+    let Number::Of(mark, end) = Number::at(text, id_end + 1, LF) else {
         return Parsed::Bad;
     };
-    node_row(depth, kind, id, mark)
+    node_row(depth, kind, id, mark, end)
 }
 
-// The row of a line, by its letter and the fields behind it.
-pub fn parse(line: &[u8]) -> Parsed
-    ensures { λ r. ⌜ rowRead r ≡ rowOf (fieldsOf (now (line .entry))) ⌝ }
+// The row of the line that begins at a place of a text, by its letter and what stands behind it.
+pub fn parse(text: &[u8], at: usize) -> Parsed
+    requires { ⌜ at < length (now text) ⌝ }
+    ensures { λ r. ⌜ rowRead r ≡ rowAt (now (text .entry)) at ⌝ }
 {
-    if line.len() < 2 {
+    let tab = at + 1;
+    if text.len() <= tab {
         return Parsed::Bad;
     }
-    if line[1] != text::TAB {
+    if text[tab] != TAB {
         return Parsed::Bad;
     }
-    let letter = line[0];
+    let letter = text[at];
     match letter {
-        b'A' => entry(line, 2),
-        b'N' => node(line, 2),
+        b'A' => entry(text, at + 2),
+        b'N' => node(text, at + 2),
         _ => Parsed::Bad,
     }
 }

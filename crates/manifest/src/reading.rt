@@ -4,10 +4,9 @@ ghost use mathlib.Core.Bool.{false};
 ghost use Prim.Native.Nat.{_+_, _<_, _≤_};
 ghost use lib.ListN.{length};
 ghost use Rattle.rules.specs.Listing.{read, refusal as refusalOf};
-ghost use Rattle.manifest.specs.Reads.{formFor, sofarIn, numbered, Room, Taken, rowsBy, wordsFor, gotIn, countOf};
+ghost use Rattle.manifest.specs.Reads.{formFor, sofarIn, numbered, Room, RowFits, Taken, rowsBy, wordsFor, gotIn, countOf};
 use crate::line::Parsed;
 use crate::line::parse;
-use text::Line;
 use trie::Kind;
 use trie::Limits;
 use trie::Row;
@@ -19,7 +18,7 @@ pub struct Sofar {
     pub nodes: u64,
 }
 
-// What a line gives: the next state of reading, or a refusal's number.
+// What a row gives: the next state of reading, or a refusal's number.
 enum Took {
     Next(Sofar),
     Refused(u64),
@@ -68,14 +67,20 @@ fn refusal(limits: Limits, path: &[u64], sofar: Sofar, depth: u64, step: u64) ->
     0
 }
 
-// Takes one line: its row goes behind the others, its step into the path.
-fn take_line(limits: Limits, line: &[u8], path: &mut [u64], rows: &mut [u64], sofar: Sofar) -> Took
+// Takes one row: it goes behind the others, its step into the path.
+fn take_row(
+    limits: Limits,
+    depth: u64,
+    step: u64,
+    marked: bool,
+    path: &mut [u64],
+    rows: &mut [u64],
+    sofar: Sofar,
+) -> Took
     requires { ⌜ Room limits sofar (now path) (now rows) ⌝ }
-    ensures { λ r. ⌜ Taken limits sofar (now (line .entry)) (now (path .entry)) (now (rows .entry)) (now (path .exit)) (now (rows .exit)) r ⌝ }
+    requires { ⌜ RowFits (read depth step marked) ⌝ }
+    ensures { λ r. ⌜ Taken limits sofar (read depth step marked) (now (path .entry)) (now (rows .entry)) (now (path .exit)) (now (rows .exit)) r ⌝ }
 {
-    let Parsed::Of(depth, step, marked) = parse(line) else {
-        return Took::Refused(1);
-    };
     let number = refusal(limits, path, sofar, depth, step);
     if number != 0 {
         return Took::Refused(number);
@@ -114,10 +119,10 @@ pub fn read_rows(limits: Limits, text: &[u8], rows: &mut [u64]) -> Got
     let mut at = 0;
     let mut line: u64 = 0;
     while at < text.len() {
-        let Line::Whole(end) = Line::at(text, at) else {
+        let Parsed::Of(depth, step, marked, end) = parse(text, at) else {
             return Got::Refused(1, line);
         };
-        let took = take_line(limits, &text[at..end], &mut path, rows, sofar);
+        let took = take_row(limits, depth, step, marked, &mut path, rows, sofar);
         match took {
             Took::Next(next) => {
                 sofar = next;

@@ -4,7 +4,7 @@ use native.Mathlib.Nat.{add-zero, add-suc, suc-add, add-assoc}
 use native.Mathlib.Numerals.{add-one}
 use native.Mathlib.Omega.{arith}
 use mathlib.Core.Bool.{Bool, true, false, cond}
-use mathlib.Core.List.{List, [], _∷_, _++_, tail-eq-of-cons-eq}
+use mathlib.Core.List.{List, [], _∷_, _++_}
 use mathlib.Core.Logic.{_≢_, _⊎_, inl, inr, ⊎-elim}
 use mathlib.Core.Option.{Option, none, some}
 use mathlib.Core.Path.{_≡_, refl, sym, ap, _∙_}
@@ -16,7 +16,7 @@ use Rattle.rules.specs.Text.{parted, onto, linesOf, fieldsOf, decimalOf, decima
 use Rattle.rules.specs.TextLaws.{Free, free-empty, free-more, parted-free, parted-first, parted-some, parted-split, decimal-written}
 use Rattle.rules.specs.Facts.{by-option}
 use Rattle.rules.specs.Listing.{isLetter}
-use Rattle.text.specs.Answers.{lineAt, firstLine, fieldAt, firstField, numberOf, firstNumber, numberAt, told}
+use Rattle.text.specs.Answers.{lineAt, firstLine, fieldAt, firstField, numberOf, firstNumber, numberAt, ending}
 use Rattle.text.specs.Before.{before}
 use Rattle.text.specs.declared.Line.{Line}
 use Rattle.text.specs.declared.Line.the-variants.{End, Whole, Cut}
@@ -25,7 +25,7 @@ use Rattle.text.specs.declared.Decimal.the-variants.{Value}
 use Rattle.text.specs.declared.Field.{Field}
 use Rattle.text.specs.declared.Field.the-variants.{More}
 use Rattle.text.specs.declared.Number.{Number}
-use Rattle.text.specs.declared.Number.the-variants.{More as MoreOf, Last as LastOf, Bad as BadNumber}
+use Rattle.text.specs.declared.Number.the-variants.{Of, Bad as BadNumber}
 
 -- ---- what a scan passes
 
@@ -90,20 +90,26 @@ parted-cut b at s h =
     (before-split b (drop at s))
 
 -- a part that another follows ends at a b, and behind that stand the parts of what is left
-pub parted-next : (b at : ℕ) (s part next : List ℕ) (more : List (List ℕ)) → parted b (drop at s) ≡ part ∷ next ∷ more →
-    parted b (drop at s) ≡ take (length part) (drop at s) ∷ parted b (drop (at + length part + 1) s)
-parted-next b at s part next more e =
+pub part-split : (b at : ℕ) (s part next : List ℕ) (more : List (List ℕ)) → parted b (drop at s) ≡ part ∷ next ∷ more →
+    (drop at s ≡ part ++ b ∷ drop (at + length part + 1) s) × (parted b (drop (at + length part + 1) s) ≡ next ∷ more)
+part-split b at s part next more e =
     let split = parted-split b (drop at s) part next more e in
-    let first : take (length part) (drop at s) ≡ part = ap (take (length part)) (split .1) ∙ take-append-seam part (b ∷ split .0) in
     let behind : drop (at + length part + 1) s ≡ split .0 =
     ap (λ (n : ℕ). drop n s) (add-assoc at (length part) 1)
     ∙ sym (drop-drop (length part + 1) at s)
     ∙ ap (drop (length part + 1)) (split .1)
     ∙ drop-append-add part (b ∷ split .0) 1 in
-    e ∙ sym (rw (first, behind, split .2))
+    (split .1 ∙ rw behind, ap (parted b) behind ∙ split .2)
+
+pub parted-next : (b at : ℕ) (s part next : List ℕ) (more : List (List ℕ)) → parted b (drop at s) ≡ part ∷ next ∷ more →
+    parted b (drop at s) ≡ take (length part) (drop at s) ∷ parted b (drop (at + length part + 1) s)
+parted-next b at s part next more e =
+    let (split, others) = part-split b at s part next more e in
+    let first : take (length part) (drop at s) ≡ part = ap (take (length part)) split ∙ take-append-seam part (b ∷ drop (at + length part + 1) s) in
+    e ∙ sym (rw (first, others))
 
 -- a part that another follows, from a place on, ends before the end
-part-within : (b at : ℕ) (s part next : List ℕ) (more : List (List ℕ)) → parted b (drop at s) ≡ part ∷ next ∷ more → at + length part < length s
+pub part-within : (b at : ℕ) (s part next : List ℕ) (more : List (List ℕ)) → parted b (drop at s) ≡ part ∷ next ∷ more → at + length part < length s
 part-within b at s part next more e =
     let split = parted-split b (drop at s) part next more e in
     omega (arith, length-drop at s, ap length (split .1) ∙ length-append part (b ∷ split .0))
@@ -140,14 +146,14 @@ value-most field r n ensured e = decimal-written field n (sym ensured ∙ ap num
 -- ---- a number that is read from a place to the next b
 
 module _ (reads : List ℕ → Option ℕ) (b i : ℕ) (s : List ℕ) where
-  -- it ends with the bytes
-  pub number-past : length s ≤ i → firstNumber reads i (parted b (drop i s)) ≡ told LastOf (reads [])
+  -- no b ends it
+  pub number-past : length s ≤ i → firstNumber reads i (parted b (drop i s)) ≡ BadNumber
   unfolding parted
   number-past h = rw (drop-of-length-le s h)
 
   module _ (inside : i < length s) where
     -- it ends at a b
-    pub number-found : getD s i 0 ≡ b → firstNumber reads i (parted b (drop i s)) ≡ told (λ n. MoreOf n i) (reads [])
+    pub number-found : getD s i 0 ≡ b → firstNumber reads i (parted b (drop i s)) ≡ ending i (reads [])
     unfolding parted
     number-found e = rw (drop-cons s i 0 inside, eq-eqb (getD s i 0) b e, parted-some b (drop (suc i) s) .2, add-zero)
 
@@ -160,7 +166,7 @@ module _ (reads : List ℕ → Option ℕ) (b i : ℕ) (s : List ℕ) where
         where
           go : (parts : List (List ℕ)) → firstNumber reads i (onto (getD s i 0) parts) ≡ firstNumber reads′ (suc i) parts
           go [] = refl
-          go (part ∷ []) = rw (same part)
+          go (part ∷ []) = refl
           go (part ∷ next ∷ more) = rw (same part, add-suc, suc-add)
 
       -- no number is read where none goes on after that byte
@@ -172,64 +178,37 @@ module _ (reads : List ℕ → Option ℕ) (b i : ℕ) (s : List ℕ) where
           go (part ∷ []) = refl
           go (part ∷ next ∷ more) = refl
 
--- what a number is told as, by what it was read as
-told-more : (place : ℕ) (o : Option ℕ) {n end : ℕ} → told (λ n. MoreOf n place) o ≡ MoreOf n end → (o ≡ some n) × (place ≡ end)
-told-more place none e = absurd (let z : _≡_ {A = ℕ} 0 1 = cc in omega arith)
-told-more place (some m) e = (cc, cc)
+-- what a number is, by the answer
+ending-of : (place : ℕ) (o : Option ℕ) {n end : ℕ} → ending place o ≡ Of n end → (o ≡ some n) × (place ≡ end)
+ending-of place none e = absurd (let z : _≡_ {A = ℕ} 0 1 = cc in omega arith)
+ending-of place (some m) e = (cc, cc)
 
-told-last : (o : Option ℕ) {n : ℕ} → told LastOf o ≡ LastOf n → o ≡ some n
-told-last none e = absurd (let z : _≡_ {A = ℕ} 0 1 = cc in omega arith)
-told-last (some m) e = cc
-
-last-more : (o : Option ℕ) {n end : ℕ} → told LastOf o ≡ MoreOf n end → ⊥
-last-more none e = let z : _≡_ {A = ℕ} 0 1 = cc in omega arith
-last-more (some m) e = let z : _≡_ {A = ℕ} 0 1 = cc in omega arith
-
-more-last : (place : ℕ) (o : Option ℕ) {n : ℕ} → told (λ n. MoreOf n place) o ≡ LastOf n → ⊥
-more-last place none e = let z : _≡_ {A = ℕ} 0 1 = cc in omega arith
-more-last place (some m) e = let z : _≡_ {A = ℕ} 0 1 = cc in omega arith
-
--- what is known of a number that a b ends: it stands in front of the parts behind that b
+-- what is known of a number that a b ends: it is what would be written, and the b stands behind it
 abbrev pub NumberEnds : ℕ → List ℕ → ℕ → ℕ → ℕ → Type 0
-NumberEnds b s at n end = (n ≤ 65535) × (end < length s) × (parted b (drop at s) ≡ decimal n ∷ parted b (drop (end + 1) s))
+NumberEnds b s at n end =
+    (n ≤ 65535) × (end < length s) × (at + length (decimal n) ≡ end) × (drop at s ≡ decimal n ++ b ∷ drop (end + 1) s)
 
 module _ (b : ℕ) (s : List ℕ) (at : ℕ) {r : Number} (ensured : r ≡ numberAt b s at) where
-  pub number-ends : {n end : ℕ} → r ≡ MoreOf n end → NumberEnds b s at n end
+  pub number-ends : {n end : ℕ} → r ≡ Of n end → NumberEnds b s at n end
   number-ends {n} {end} e = go (parted b (drop at s)) refl (sym ensured ∙ e)
     where
-      go : (parts : List (List ℕ)) → parted b (drop at s) ≡ parts → firstNumber decimalOf at parts ≡ MoreOf n end → NumberEnds b s at n end
+      go : (parts : List (List ℕ)) → parted b (drop at s) ≡ parts → firstNumber decimalOf at parts ≡ Of n end → NumberEnds b s at n end
       go [] q e = absurd (let z : _≡_ {A = ℕ} 0 1 = cc in omega arith)
-      go (part ∷ []) q e = absurd (last-more (decimalOf part) e)
+      go (part ∷ []) q e = absurd (let z : _≡_ {A = ℕ} 0 1 = cc in omega arith)
       go (part ∷ next ∷ more) q e =
-          let (value, place) = told-more (at + length part) (decimalOf part) e in
+          let (value, place) = ending-of (at + length part) (decimalOf part) e in
           let (written, small) = decimal-written part n value in
-          let behind : next ∷ more ≡ parted b (drop (at + length part + 1) s) = tail-eq-of-cons-eq (sym q ∙ parted-next b at s part next more q) in
-          (small, omega (arith, part-within b at s part next more q), q ∙ rw (behind, place, written))
+          let split : drop at s ≡ part ++ b ∷ drop (end + 1) s = rw place at (part-split b at s part next more q .0) in
+          (small, omega (arith, part-within b at s part next more q), rw (← written, place), split ∙ rw written)
 
   -- what stands there otherwise, where a b ends it, is no decimal
-  pub number-unended : ((n end : ℕ) → r ≡ MoreOf n end → ⊥) →
-      (part next : List ℕ) (more : List (List ℕ)) → parted b (drop at s) ≡ part ∷ next ∷ more → decimalOf part ≡ none
-  number-unended unended part next more q =
+  pub number-unended : r ≡ BadNumber → (part next : List ℕ) (more : List (List ℕ)) → parted b (drop at s) ≡ part ∷ next ∷ more → decimalOf part ≡ none
+  number-unended bad part next more q =
       by-option (decimalOf part) (λ e. e)
-      (λ n e. absurd (unended n (at + length part) (ensured ∙ ap (firstNumber decimalOf at) q ∙ ap (told (λ n. MoreOf n (at + length part))) e)))
-
-  -- a number that ends with the bytes is the only part
-  pub number-last : {n : ℕ} → r ≡ LastOf n → (n ≤ 65535) × (parted b (drop at s) ≡ decimal n ∷ [])
-  number-last {n} e = go (parted b (drop at s)) refl (sym ensured ∙ e)
-    where
-      go : (parts : List (List ℕ)) → parted b (drop at s) ≡ parts → firstNumber decimalOf at parts ≡ LastOf n →
-          (n ≤ 65535) × (parted b (drop at s) ≡ decimal n ∷ [])
-      go [] q e = absurd (let z : _≡_ {A = ℕ} 0 1 = cc in omega arith)
-      go (part ∷ []) q e =
-          let (written, small) = decimal-written part n (told-last (decimalOf part) e) in
-          (small, q ∙ rw written)
-      go (part ∷ next ∷ more) q e = absurd (more-last (at + length part) (decimalOf part) e)
-
-  -- what stands there otherwise, where nothing follows it, is no decimal
-  pub number-unlast : ((n : ℕ) → r ≡ LastOf n → ⊥) → (part : List ℕ) → parted b (drop at s) ≡ part ∷ [] → decimalOf part ≡ none
-  number-unlast unended part q =
-      by-option (decimalOf part) (λ e. e)
-      (λ n e. absurd (unended n (ensured ∙ ap (firstNumber decimalOf at) q ∙ ap (told LastOf) e)))
+      (λ n e.
+      let read : BadNumber ≡ Of n (at + length part) =
+      sym bad ∙ ensured ∙ ap (firstNumber decimalOf at) q ∙ ap (ending (at + length part)) e in
+      absurd (let z : _≡_ {A = ℕ} 0 1 = cc in omega arith))
 
 -- ---- a run of stores
 

@@ -13,7 +13,7 @@ use Rattle.text.specs.declared.Field.the-variants.{More, Last}
 use Rattle.text.specs.declared.Decimal.{Decimal}
 use Rattle.text.specs.declared.Decimal.the-variants.{Value, Bad}
 use Rattle.text.specs.declared.Number.{Number}
-use Rattle.text.specs.declared.Number.the-variants.{More as MoreOf, Last as LastOf, Bad as BadNumber}
+use Rattle.text.specs.declared.Number.the-variants.{Of, Bad as BadNumber}
 
 -- of the lines of what is left from a place on, the first: none, one that an LF ends at a place, or a last one without LF
 abbrev pub firstLine : ℕ → List (List ℕ) → Line
@@ -40,17 +40,17 @@ abbrev pub numberOf : Decimal → Option ℕ
 numberOf (Value n) = some n
 numberOf Bad = none
 
--- an answer by the number that was read, if any
-abbrev pub told : (ℕ → Number) → Option ℕ → Number
-told answer none = BadNumber
-told answer (some n) = answer n
+-- a number that was read, if any, with the place where it ends
+abbrev pub ending : ℕ → Option ℕ → Number
+ending end none = BadNumber
+ending end (some n) = Of n end
 
--- of the parts of what is left from a place on, the first by a way to read it, and whether another follows
+-- of the parts of what is left from a place on, the first by a way to read it, where another follows
 abbrev pub firstNumber : (List ℕ → Option ℕ) → ℕ → List (List ℕ) → Number
 firstNumber reads at [] = BadNumber
-firstNumber reads at (part ∷ []) = told LastOf (reads part)
-firstNumber reads at (part ∷ next ∷ more) = told (λ n. MoreOf n (at + length part)) (reads part)
+firstNumber reads at (part ∷ []) = BadNumber
+firstNumber reads at (part ∷ next ∷ more) = ending (at + length part) (reads part)
 
--- the decimal that begins at a place and that a byte b or the end ends
+-- the decimal that begins at a place and that a byte b ends
 abbrev pub numberAt : ℕ → List ℕ → ℕ → Number
 numberAt b s at = firstNumber decimalOf at (parted b (drop at s))

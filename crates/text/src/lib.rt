@@ -32,10 +32,9 @@ pub enum Decimal {
     Bad,
 }
 
-// What begins at a place as a decimal: one that ends at a place, one that ends with the bytes, or no decimal.
+// What begins at a place as a decimal: a number that a byte at a place ends, or no such decimal.
 pub enum Number {
-    More(u64, usize),
-    Last(u64),
+    Of(u64, usize),
     Bad,
 }
 
@@ -168,10 +167,10 @@ impl Number {
         ensures { λ r. ⌜ r ≡ firstNumber (λ field. decimalOf (48 ∷ field)) at (parted b (drop at (now (s .entry)))) ⌝ }
     {
         if s.len() <= at {
-            return Number::Last(0);
+            return Number::Bad;
         }
         if s[at] == b {
-            return Number::More(0, at);
+            return Number::Of(0, at);
         }
         Number::Bad
     }
@@ -186,7 +185,7 @@ impl Number {
         while i < s.len() {
             let digit = s[i];
             if digit == b {
-                return Number::More(value, i);
+                return Number::Of(value, i);
             }
             if digit < 48 || 57 < digit {
                 return Number::Bad;
@@ -197,6 +196,6 @@ impl Number {
             }
             i += 1;
         }
-        Number::Last(value)
+        Number::Bad
     }
 }

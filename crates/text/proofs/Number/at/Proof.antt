@@ -15,7 +15,6 @@ use Rattle.text.proofs.Number.at.Statement.{statement}
 use Rattle.text.proofs.Number.at.Tie as tie
 
 returns : tie.Need-returns
-unfolding decimalUpTo
 returns c = let a = c .before .before .args in sym (number-past decimalOf (a .b) (a .at) (a .s .now) (c .if1 .taken))
 
 shared-slice-read-first : tie.Need-shared-slice-read-first

@@ -81,7 +81,6 @@ loop-again c =
     )
 
 returns-4 : tie.Need-returns-4 Inv-loop μ-loop
-unfolding numberFrom
 returns-4 c =
     let a = c .before .before .args in
     let loop = c .before .loop in

@@ -11,7 +11,6 @@ use Rattle.text.proofs.Number.zero.Statement.{statement}
 use Rattle.text.proofs.Number.zero.Tie as tie
 
 returns : tie.Need-returns
-unfolding decimalUpTo numberFrom
 returns c = let a = c .before .args in sym (number-past (λ field. decimalOf (48 ∷ field)) (a .b) (a .at) (a .s .now) (c .if1 .taken))
 
 shared-slice-read-if2 : tie.Need-shared-slice-read-if2
