@@ -13,7 +13,21 @@ use lib.Dec.{eqb, ltb, leb}
 use lib.ListN.{length, getD, take, drop, set, length-drop, length-set, length-map, length-append, drop-of-length-le}
 use lib.Seq.{drop-cons, take-all, length-take-le, getD-take, getD-drop, getD-set-same, take-take, take-suc-set, drop-set-add, append-snoc, sets}
 use Rattle.rules.specs.Text.{bytes, parted, linesOf, fieldsOf, decimalOf, decimal, LF, TAB}
-use Rattle.rules.specs.TextLaws.{Free, free-empty, free-more, free-append, free-decimal, parted-free, parted-first, parted-split, parted-some, joinedBy, joined-parted, decimal-read, decimal-written}
+use Rattle.rules.specs.TextLaws.{
+  Free,
+  free-empty,
+  free-more,
+  free-append,
+  free-decimal,
+  parted-free,
+  parted-first,
+  parted-split,
+  parted-some,
+  joinedBy,
+  joined-parted,
+  decimal-read,
+  decimal-written,
+}
 use Rattle.rules.specs.Numbers.{Answer, accepted, refused, mostSteps}
 use Rattle.rules.specs.Facts.{by-test, by-option, compared, cond-some, cond-other, cond-none}
 use Rattle.rules.specs.Tries.{Row, Form, stepOf, requestOf, isEntry, isRow, at, follows}
@@ -226,12 +240,14 @@ letter-free f kind e =
 -- ---- the line that begins at a place of a text, field after field
 
 -- a run without b stands in front of the first part of what follows
-parted-front : {b : ℕ} {xs : List ℕ} (ys part : List ℕ) (parts : List (List ℕ)) → Free b xs → parted b ys ≡ part ∷ parts → parted b (xs ++ ys) ≡ (xs ++ part) ∷ parts
+parted-front : {b : ℕ} {xs : List ℕ} (ys part : List ℕ) (parts : List (List ℕ)) → Free b xs → parted b ys ≡ part ∷ parts → parted b
+    (xs ++ ys) ≡ (xs ++ part) ∷ parts
 unfolding parted
 parted-front ys part parts free-empty e = e
 parted-front {b} ys part parts (free-more {x} h xs) e = rw (ne-eqb x b h, parted-front ys part parts xs e)
 
-module _ (fields : List (List ℕ)) (text : List ℕ) (at end : ℕ) (f : List ℕ) (tabless : Free TAB f) (lineless : Free LF f) (place : at + length f ≡ end) where
+module _ (fields : List (List ℕ)) (text : List ℕ) (at end : ℕ) (f : List ℕ) (tabless : Free TAB f) (lineless : Free LF f)
+    (place : at + length f ≡ end) where
   -- a field that a tab ends goes to the fields before
   pub row-field : drop at text ≡ f ++ TAB ∷ drop (end + 1) text →
       rowFrom fields at (linesOf (drop at text)) ≡ rowFrom (fields ++ (f ∷ [])) (end + 1) (linesOf (drop (end + 1) text))
@@ -265,7 +281,8 @@ module _ (fields : List (List ℕ)) (text : List ℕ) (at : ℕ) where
   row-number {n} {end} ends =
       row-field fields text at end (decimal n) (free-decimal TAB n (omega arith)) (free-decimal LF n (omega arith)) (ends .2) (ends .3)
 
-  pub row-ends : {n end : ℕ} → NumberEnds LF text at n end → rowFrom fields at (linesOf (drop at text)) ≡ ended end (rowOf (fields ++ (decimal n ∷ [])))
+  pub row-ends : {n end : ℕ} → NumberEnds LF text at n end → rowFrom fields at (linesOf (drop at text)) ≡ ended end
+      (rowOf (fields ++ (decimal n ∷ [])))
   row-ends {n} {end} ends =
       row-last fields text at end (decimal n) (free-decimal TAB n (omega arith)) (free-decimal LF n (omega arith)) (ends .2) (ends .3)
 
@@ -286,7 +303,8 @@ module _ (fields : List (List ℕ)) (text : List ℕ) (at : ℕ) where
       rowFrom fields at (linesOf (drop at text)) ≡ none
   row-none bad = go (linesOf (drop at text)) bad
     where
-      go : (lines : List (List ℕ)) → ((line next : List ℕ) (more : List (List ℕ)) → lines ≡ line ∷ next ∷ more → rowOf (fields ++ fieldsOf line) ≡ none) →
+      go : (lines : List (List ℕ)) → ((line next : List ℕ) (more : List (List ℕ)) → lines ≡ line ∷ next ∷ more → rowOf
+          (fields ++ fieldsOf line) ≡ none) →
           rowFrom fields at lines ≡ none
       go [] bad = refl
       go (line ∷ []) bad = refl
@@ -318,7 +336,8 @@ module _ (fields : List (List ℕ)) (text : List ℕ) (at : ℕ) where
       rw same (unread line next more q)
 
 -- a line that is read begins with A or N and a tab
-pub row-begins : (text : List ℕ) (at : ℕ) → (at + 1 < length text → getD text (at + 1) 0 ≡ TAB → (getD text at 0 ≡ 65) ⊎ (getD text at 0 ≡ 78) → ⊥) → rowAt text at ≡ none
+pub row-begins : (text : List ℕ) (at : ℕ) → (at + 1 < length text → getD text (at + 1) 0 ≡ TAB → (getD text at 0 ≡ 65) ⊎ (getD text at 0 ≡ 78) → ⊥) →
+    rowAt text at ≡ none
 row-begins text at h =
     row-none [] text at λ line next more q.
     by-option (rowOf (fieldsOf line)) (λ e. e) λ row e.
@@ -326,7 +345,8 @@ row-begins text at h =
     let split = parted-split LF (drop at text) line next more q in
     absurd (begins line (split .0) (split .1) inside tab first)
   where
-    begins : (line rest : List ℕ) → drop at text ≡ line ++ LF ∷ rest → 1 < length line → getD line 1 0 ≡ TAB → (getD line 0 0 ≡ 65) ⊎ (getD line 0 0 ≡ 78) → ⊥
+    begins : (line rest : List ℕ) → drop at text ≡ line ++ LF ∷ rest → 1 < length line → getD line 1 0 ≡ TAB → (getD line 0 0 ≡ 65) ⊎
+        (getD line 0 0 ≡ 78) → ⊥
     begins [] rest split inside tab first = omega arith
     begins (x ∷ []) rest split inside tab first = omega arith
     begins (x ∷ y ∷ line) rest split inside tab first =
@@ -631,7 +651,8 @@ lines-cut text at r ensured unended more =
 -- what is known of a line that is read: its fields are the row's, and an LF ends it
 abbrev RowLine : List ℕ → ℕ → Row → ℕ → Type 0
 RowLine text at row end =
-    (line : List ℕ) × (at ≤ end) × (end < length text) × (rowOf (fieldsOf line) ≡ some row) × (linesOf (drop at text) ≡ line ∷ linesOf (drop (end + 1) text))
+    (line : List ℕ) × (at ≤ end) × (end < length text) × (rowOf (fieldsOf line) ≡ some row)
+    × (linesOf (drop at text) ≡ line ∷ linesOf (drop (end + 1) text))
 
 row-line : (text : List ℕ) (at : ℕ) (row : Row) (end : ℕ) → rowAt text at ≡ some (row, end) → RowLine text at row end
 row-line text at row end e = go (linesOf (drop at text)) refl e
@@ -739,7 +760,8 @@ module _ {limits : Limits} {text : List ℕ} {kept : Kept} {path rows : List ℕ
     reading-fits = let (_, _, _, read-row, _) = row-line text at row end e in row-fits _ row read-row
 
     -- its row is refused
-    pub reading-stopped : {number : ℕ} → refusal (formFor limits) (sofarIn kept path) row ≡ some number → refused number line ≡ wordsFor (rowsBy limits text)
+    pub reading-stopped : {number : ℕ} → refusal (formFor limits) (sofarIn kept path) row ≡ some number → refused number line ≡ wordsFor
+        (rowsBy limits text)
     reading-stopped stopped = sym (reading .left ∙ rw (rows-stopped (formFor limits) (sofarIn kept path) line text at e stopped))
 
     -- its row is taken

@@ -4,6 +4,7 @@ ghost use lib.ListN.{length};
 use text::Decimal;
 use text::Field;
 use text::Line;
+use text::Number;
 
 // The longest input and the longest answer of a case.
 const ROOM: usize = 256;
@@ -16,6 +17,18 @@ fn decimal_case(input: &[u8], out: &mut [u8]) -> usize
         return cases::say(out, 0, b"bad");
     };
     cases::say_number(out, 0, n)
+}
+
+// number: the number that a tab ends and the place of that tab, or `bad`.
+fn number_case(input: &[u8], out: &mut [u8]) -> usize
+    ensures { λ r. ⌜ r ≤ length (now (out .exit)) ⌝ }
+{
+    let Number::Of(n, end) = Number::at(input, 0, text::TAB) else {
+        return cases::say(out, 0, b"bad");
+    };
+    let to = cases::say_number(out, 0, n);
+    let next = cases::say(out, to, b" ");
+    cases::say_number(out, next, end as u64)
 }
 
 // write: the decimal of the number that the input has in hexadecimal.
@@ -72,6 +85,7 @@ fn answer(kind: &[u8], input: &[u8], out: &mut [u8]) -> usize
     let first = kind[0];
     match first {
         b'd' => decimal_case(input, out),
+        b'n' => number_case(input, out),
         b'w' => write_case(input, out),
         b'f' => fields_case(input, out),
         b'l' => lines_case(input, out),

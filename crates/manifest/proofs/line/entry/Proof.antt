@@ -8,7 +8,16 @@ use Rattle.rules.specs.Text.{TAB, LF, bytes, decimalOf, decimal}
 use Rattle.rules.specs.TextLaws.{decimal-read}
 use Rattle.rules.specs.Listing.{rowOf}
 use Rattle.text.proofs.Laws.{NumberEnds, number-ends, number-unended}
-use Rattle.manifest.specs.ReadLaws.{decimal-free, row-number, row-ends, row-unread, row-unended, entry-no-principal, entry-no-action, entry-no-resource}
+use Rattle.manifest.specs.ReadLaws.{
+  decimal-free,
+  row-number,
+  row-ends,
+  row-unread,
+  row-unended,
+  entry-no-principal,
+  entry-no-action,
+  entry-no-resource,
+}
 use borrow.Author.Needs.{needs}
 use Rattle.manifest.proofs.line.entry.Statement.{statement}
 use Rattle.manifest.proofs.line.entry.Tie as tie
@@ -23,19 +32,30 @@ enum-told : tie.Need-enum-told
 enum-told c = search needs
 
 -- what is known of each number
-principal-ends : (c : tie.After-p) → NumberEnds TAB (c .before .before .before .before .args .text .now) (c .before .before .before .before .args .at) (c .p .given .0 .0) (c .p .given .0 .1 .0)
-principal-ends c = number-ends TAB (c .before .before .before .before .args .text .now) (c .before .before .before .before .args .at) (c .before .before .at .ensures) (c .p .given .1)
+principal-ends : (c : tie.After-p) → NumberEnds TAB (c .before .before .before .before .args .text .now)
+    (c .before .before .before .before .args .at) (c .p .given .0 .0) (c .p .given .0 .1 .0)
+principal-ends c =
+    number-ends TAB (c .before .before .before .before .args .text .now) (c .before .before .before .before .args .at)
+    (c .before .before .at .ensures) (c .p .given .1)
 
-action-ends : (c : tie.After-a) → NumberEnds TAB (c .before .before .before .before .before .before .before .before .args .text .now) (c .before .before .before .before .p .given .0 .1 .0 + 1) (c .a .given .0 .0) (c .a .given .0 .1 .0)
-action-ends c = number-ends TAB (c .before .before .before .before .before .before .before .before .args .text .now) (c .before .before .before .before .p .given .0 .1 .0 + 1) (c .before .before .at2 .ensures) (c .a .given .1)
+action-ends : (c : tie.After-a) → NumberEnds TAB (c .before .before .before .before .before .before .before .before .args .text .now)
+    (c .before .before .before .before .p .given .0 .1 .0 + 1) (c .a .given .0 .0) (c .a .given .0 .1 .0)
+action-ends c =
+    number-ends TAB (c .before .before .before .before .before .before .before .before .args .text .now)
+    (c .before .before .before .before .p .given .0 .1 .0 + 1) (c .before .before .at2 .ensures) (c .a .given .1)
 
-resource-ends : (c : tie.After-r) → NumberEnds LF (c .before .before .before .before .before .before .before .before .before .before .before .before .args .text .now) (c .before .before .before .before .a .given .0 .1 .0 + 1) (c .r .given .0 .0) (c .r .given .0 .1 .0)
-resource-ends c = number-ends LF (c .before .before .before .before .before .before .before .before .before .before .before .before .args .text .now) (c .before .before .before .before .a .given .0 .1 .0 + 1) (c .before .before .at3 .ensures) (c .r .given .1)
+resource-ends : (c : tie.After-r) → NumberEnds LF
+    (c .before .before .before .before .before .before .before .before .before .before .before .before .args .text .now)
+    (c .before .before .before .before .a .given .0 .1 .0 + 1) (c .r .given .0 .0) (c .r .given .0 .1 .0)
+resource-ends c =
+    number-ends LF (c .before .before .before .before .before .before .before .before .before .before .before .before .args .text .now)
+    (c .before .before .before .before .a .given .0 .1 .0 + 1) (c .before .before .at3 .ensures) (c .r .given .1)
 
 returns : tie.Need-returns
 returns c =
     let a = c .before .before .before .before .args in
-    sym (row-unread (bytes "A" ∷ []) (a .text .now) (a .at) decimalOf decimal-free (number-unended TAB (a .text .now) (a .at) (c .before .before .at .ensures) (c .enum-told .given .1)) entry-no-principal)
+    sym (row-unread (bytes "A" ∷ []) (a .text .now) (a .at) decimalOf decimal-free
+    (number-unended TAB (a .text .now) (a .at) (c .before .before .at .ensures) (c .enum-told .given .1)) entry-no-principal)
 
 add-at : tie.Need-add-at
 add-at c = omega (arith, principal-ends (c .before))
@@ -56,7 +76,8 @@ returns-2 c =
     let principal = principal-ends (c .before .before .before .before) in
     sym
     (row-number (bytes "A" ∷ []) (a .text .now) (a .at) principal
-    ∙ row-unread (bytes "A" ∷ decimal _ ∷ []) (a .text .now) second decimalOf decimal-free (number-unended TAB (a .text .now) second (c .before .before .at2 .ensures) (c .enum-told2 .given .1)) λ others.
+    ∙ row-unread (bytes "A" ∷ decimal _ ∷ []) (a .text .now) second decimalOf decimal-free
+    (number-unended TAB (a .text .now) second (c .before .before .at2 .ensures) (c .enum-told2 .given .1)) λ others.
     entry-no-action others _ (principal .0))
 
 add-at-2 : tie.Need-add-at-2
@@ -80,20 +101,49 @@ returns-3 c =
     sym
     (row-number (bytes "A" ∷ []) (a .text .now) (a .at) principal
     ∙ row-number (bytes "A" ∷ decimal _ ∷ []) (a .text .now) _ action
-    ∙ row-unended (bytes "A" ∷ decimal _ ∷ decimal _ ∷ []) (a .text .now) third (number-unended LF (a .text .now) third (c .before .before .at3 .ensures) (c .enum-told3 .given .1)) λ others.
+    ∙ row-unended (bytes "A" ∷ decimal _ ∷ decimal _ ∷ []) (a .text .now) third
+    (number-unended LF (a .text .now) third (c .before .before .at3 .ensures) (c .enum-told3 .given .1)) λ others.
     entry-no-resource others _ (principal .0) _ (action .0))
 
 mul-t13 : tie.Need-mul-t13
-mul-t13 c = omega (arith, principal-ends (c .before .before .before .before .before .before .before .before .before), action-ends (c .before .before .before .before .before), resource-ends (c .before))
+mul-t13 c =
+    omega (
+      arith,
+      principal-ends (c .before .before .before .before .before .before .before .before .before),
+      action-ends
+          (c .before .before .before .before .before),
+      resource-ends (c .before),
+    )
 
 add-t14 : tie.Need-add-t14
-add-t14 c = omega (arith, principal-ends (c .before .before .before .before .before .before .before .before .before), action-ends (c .before .before .before .before .before), resource-ends (c .before))
+add-t14 c =
+    omega (
+      arith,
+      principal-ends (c .before .before .before .before .before .before .before .before .before),
+      action-ends
+          (c .before .before .before .before .before),
+      resource-ends (c .before),
+    )
 
 mul-t15 : tie.Need-mul-t15
-mul-t15 c = omega (arith, principal-ends (c .before .before .before .before .before .before .before .before .before), action-ends (c .before .before .before .before .before), resource-ends (c .before))
+mul-t15 c =
+    omega (
+      arith,
+      principal-ends (c .before .before .before .before .before .before .before .before .before),
+      action-ends
+          (c .before .before .before .before .before),
+      resource-ends (c .before),
+    )
 
 add-t16 : tie.Need-add-t16
-add-t16 c = omega (arith, principal-ends (c .before .before .before .before .before .before .before .before .before), action-ends (c .before .before .before .before .before), resource-ends (c .before))
+add-t16 c =
+    omega (
+      arith,
+      principal-ends (c .before .before .before .before .before .before .before .before .before),
+      action-ends
+          (c .before .before .before .before .before),
+      resource-ends (c .before),
+    )
 
 returns-4 : tie.Need-returns-4
 unfolding rowOf

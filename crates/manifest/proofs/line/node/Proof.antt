@@ -39,22 +39,36 @@ enum-told : tie.Need-enum-told
 enum-told c = search needs
 
 -- what is known of each field
-depth-ends : (c : tie.After-depth) → NumberEnds TAB (c .before .before .before .before .args .text .now) (c .before .before .before .before .args .at) (c .depth .given .0 .0) (c .depth .given .0 .1 .0)
-depth-ends c = number-ends TAB (c .before .before .before .before .args .text .now) (c .before .before .before .before .args .at) (c .before .before .at .ensures) (c .depth .given .1)
+depth-ends : (c : tie.After-depth) → NumberEnds TAB (c .before .before .before .before .args .text .now)
+    (c .before .before .before .before .args .at) (c .depth .given .0 .0) (c .depth .given .0 .1 .0)
+depth-ends c =
+    number-ends TAB (c .before .before .before .before .args .text .now) (c .before .before .before .before .args .at)
+    (c .before .before .at .ensures) (c .depth .given .1)
 
-kind-ends : (c : tie.After-kind) → StepEnds (c .before .before .before .before .before .before .before .before .args .text .now) (c .before .before .before .before .depth .given .0 .1 .0 + 1) (c .kind .given .0 .0)
-kind-ends c = step-ends (c .before .before .before .before .before .before .before .before .args .text .now) (c .before .before .before .before .depth .given .0 .1 .0 + 1) _ (sym (c .before .before .step-kind .ensures) ∙ ap kindRead (c .kind .given .1))
+kind-ends : (c : tie.After-kind) → StepEnds (c .before .before .before .before .before .before .before .before .args .text .now)
+    (c .before .before .before .before .depth .given .0 .1 .0 + 1) (c .kind .given .0 .0)
+kind-ends c =
+    step-ends (c .before .before .before .before .before .before .before .before .args .text .now)
+    (c .before .before .before .before .depth .given .0 .1 .0 + 1) _ (sym (c .before .before .step-kind .ensures) ∙ ap kindRead (c .kind .given .1))
 
-id-ends : (c : tie.After-id) → NumberEnds TAB (c .before .before .before .before .before .before .before .before .before .before .before .before .args .text .now) (c .before .before .before .before .before .before .before .before .depth .given .0 .1 .0 + 1 + 2) (c .id .given .0 .0) (c .id .given .0 .1 .0)
-id-ends c = number-ends TAB (c .before .before .before .before .before .before .before .before .before .before .before .before .args .text .now) (c .before .before .before .before .before .before .before .before .depth .given .0 .1 .0 + 1 + 2) (c .before .before .at2 .ensures) (c .id .given .1)
+id-ends : (c : tie.After-id) → NumberEnds TAB
+    (c .before .before .before .before .before .before .before .before .before .before .before .before .args .text .now)
+    (c .before .before .before .before .before .before .before .before .depth .given .0 .1 .0 + 1 + 2) (c .id .given .0 .0) (c .id .given .0 .1 .0)
+id-ends c =
+    number-ends TAB (c .before .before .before .before .before .before .before .before .before .before .before .before .args .text .now)
+    (c .before .before .before .before .before .before .before .before .depth .given .0 .1 .0 + 1 + 2) (c .before .before .at2 .ensures)
+    (c .id .given .1)
 
-mark-ends : (c : tie.After-mark) → NumberEnds LF (c .before .before .before .before .before .before .before .before .before .before .before .before .before .before .before .before .args .text .now) (c .before .before .before .before .id .given .0 .1 .0 + 1) (c .mark .given .0 .0) (c .mark .given .0 .1 .0)
-mark-ends c = number-ends LF (c .before .before .before .before .before .before .before .before .before .before .before .before .before .before .before .before .args .text .now) (c .before .before .before .before .id .given .0 .1 .0 + 1) (c .before .before .at3 .ensures) (c .mark .given .1)
+mark-ends : (c : tie.After-mark) → NumberEnds LF
+    (c .before .before .before .before .before .before .before .before .before .before .before .before .before .before .before .before .args .text .now) (c .before .before .before .before .id .given .0 .1 .0 + 1) (c .mark .given .0 .0) (c .mark .given .0 .1 .0)
+mark-ends c =
+    number-ends LF (c .before .before .before .before .before .before .before .before .before .before .before .before .before .before .before .before .args .text .now) (c .before .before .before .before .id .given .0 .1 .0 + 1) (c .before .before .at3 .ensures) (c .mark .given .1)
 
 returns : tie.Need-returns
 returns c =
     let a = c .before .before .before .before .args in
-    sym (row-unread (bytes "N" ∷ []) (a .text .now) (a .at) decimalOf decimal-free (number-unended TAB (a .text .now) (a .at) (c .before .before .at .ensures) (c .enum-told .given .1)) node-no-depth)
+    sym (row-unread (bytes "N" ∷ []) (a .text .now) (a .at) decimalOf decimal-free
+    (number-unended TAB (a .text .now) (a .at) (c .before .before .at .ensures) (c .enum-told .given .1)) node-no-depth)
 
 add-step : tie.Need-add-step
 add-step c = omega (arith, depth-ends (c .before))
@@ -74,7 +88,8 @@ returns-2 c =
     let depth = depth-ends (c .before .before .before .before) in
     sym
     (row-number (bytes "N" ∷ []) (a .text .now) (a .at) depth
-    ∙ row-unread (bytes "N" ∷ decimal _ ∷ []) (a .text .now) (c .before .before .before .before .depth .given .0 .1 .0 + 1) (placeIn letters) letter-free (kind-none-first _ (sym (c .before .before .step-kind .ensures) ∙ ap kindRead (c .enum-told2 .given .1))) λ others.
+    ∙ row-unread (bytes "N" ∷ decimal _ ∷ []) (a .text .now) (c .before .before .before .before .depth .given .0 .1 .0 + 1) (placeIn letters)
+    letter-free (kind-none-first _ (sym (c .before .before .step-kind .ensures) ∙ ap kindRead (c .enum-told2 .given .1))) λ others.
     node-no-kind others _ (depth .0))
 
 add-at : tie.Need-add-at
@@ -98,7 +113,8 @@ returns-3 c =
     sym
     (row-number (bytes "N" ∷ []) (a .text .now) (a .at) depth
     ∙ row-step (bytes "N" ∷ decimal _ ∷ []) (a .text .now) _ kind
-    ∙ row-unread (bytes "N" ∷ decimal _ ∷ _ ∷ []) (a .text .now) third decimalOf decimal-free (number-unended TAB (a .text .now) third (c .before .before .at2 .ensures) (c .enum-told3 .given .1)) λ others.
+    ∙ row-unread (bytes "N" ∷ decimal _ ∷ _ ∷ []) (a .text .now) third decimalOf decimal-free
+    (number-unended TAB (a .text .now) third (c .before .before .at2 .ensures) (c .enum-told3 .given .1)) λ others.
     node-no-id others _ (depth .0) _ _ (kind .3))
 
 add-at-2 : tie.Need-add-at-2
@@ -124,11 +140,13 @@ returns-4 c =
     (row-number (bytes "N" ∷ []) (a .text .now) (a .at) depth
     ∙ row-step (bytes "N" ∷ decimal _ ∷ []) (a .text .now) _ kind
     ∙ row-number (bytes "N" ∷ decimal _ ∷ _ ∷ []) (a .text .now) _ id
-    ∙ row-unended (bytes "N" ∷ decimal _ ∷ _ ∷ decimal _ ∷ []) (a .text .now) fourth (number-unended LF (a .text .now) fourth (c .before .before .at3 .ensures) (c .enum-told4 .given .1)) λ others.
+    ∙ row-unended (bytes "N" ∷ decimal _ ∷ _ ∷ decimal _ ∷ []) (a .text .now) fourth
+    (number-unended LF (a .text .now) fourth (c .before .before .at3 .ensures) (c .enum-told4 .given .1)) λ others.
     node-no-mark others _ (depth .0) _ _ (kind .3) _ (id .0))
 
 node-row-requires : tie.Need-node-row-requires
-node-row-requires c κs = (kind-ends (c .before .before .before .before .before .before .before .before .before) .0, id-ends (c .before .before .before .before .before) .0)
+node-row-requires c κs =
+    (kind-ends (c .before .before .before .before .before .before .before .before .before) .0, id-ends (c .before .before .before .before .before) .0)
 
 returns-5 : tie.Need-returns-5
 unfolding rowOf

@@ -21,12 +21,16 @@ returns-2 c =
 returns-3 : tie.Need-returns-3
 returns-3 c =
     let a = c .before .before .before .before .args in
-    sym (ap (ended (a .end)) (node-rootless (a .depth) (a .kind) (a .id) (a .mark) (c .before .before .before .before .pre .0) (c .before .before .before .before .pre .1) (c .before .before .before .if1 .left) (c .before .before .if2 .left) (c .before .if3 .taken) (c .if4 .taken)))
+    sym (ap (ended (a .end)) (node-rootless (a .depth) (a .kind) (a .id) (a .mark) (c .before .before .before .before .pre .0)
+    (c .before .before .before .before .pre .1) (c .before .before .before .if1 .left) (c .before .before .if2 .left) (c .before .if3 .taken)
+    (c .if4 .taken)))
 
 returns-4 : tie.Need-returns-4
 returns-4 c =
     let a = c .before .before .before .before .before .before .args in
-    sym (ap (ended (a .end)) (node-id (a .depth) (a .kind) (a .id) (a .mark) (c .before .before .before .before .before .before .pre .0) (c .before .before .before .before .before .before .pre .1) (c .before .before .before .before .before .if1 .left) (c .before .before .before .before .if2 .left) (c .before .before .if5 .taken) (c .before .if6 .taken) (c .if7 .taken)))
+    sym (ap (ended (a .end)) (node-id (a .depth) (a .kind) (a .id) (a .mark) (c .before .before .before .before .before .before .pre .0)
+    (c .before .before .before .before .before .before .pre .1) (c .before .before .before .before .before .if1 .left)
+    (c .before .before .before .before .if2 .left) (c .before .before .if5 .taken) (c .before .if6 .taken) (c .if7 .taken)))
 
 mul-t10 : tie.Need-mul-t10
 mul-t10 c = search needs
@@ -37,7 +41,8 @@ add-t11 c = search needs
 returns-5 : tie.Need-returns-5
 returns-5 c =
     let a = c .before .before .before .before .args in
-    sym (ap (ended (a .end)) (node-good (a .depth) (a .kind) (a .id) (a .mark) (c .before .before .before .before .pre .0) (c .before .before .before .before .pre .1) (c .before .before .before .if1 .left) (c .before .before .if2 .left)
+    sym (ap (ended (a .end)) (node-good (a .depth) (a .kind) (a .id) (a .mark) (c .before .before .before .before .pre .0)
+    (c .before .before .before .before .pre .1) (c .before .before .before .if1 .left) (c .before .before .if2 .left)
     (λ e. ⊎-elim (λ w. w .1 .left) (λ w. absurd (w .left e)) (c .before .if3 .came))
     (⊎-elim (λ w. inr (inr (w .2 .left))) (⊎-elim (λ w. inr (inl (w .1 .left))) (λ w. inl (w .left))) (c .if5 .came))))
 

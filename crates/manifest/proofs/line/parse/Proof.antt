@@ -41,14 +41,16 @@ returns-3 c =
     let tested = c .before .before .before in
     let a = tested .before .before .before .before .args in
     c .entry .ensures
-    ∙ sym (row-letter [] (a .text .now) (a .at) (omega arith) (omega arith) (tested .before .before .if1 .left) (tested .if2 .left) (c .before .match .keys1))
+    ∙ sym (row-letter [] (a .text .now) (a .at) (omega arith) (omega arith) (tested .before .before .if1 .left) (tested .if2 .left)
+    (c .before .match .keys1))
 
 returns-4 : tie.Need-returns-4
 returns-4 c =
     let tested = c .before .before .before in
     let a = tested .before .before .before .before .args in
     c .node .ensures
-    ∙ sym (row-letter [] (a .text .now) (a .at) (omega arith) (omega arith) (tested .before .before .if1 .left) (tested .if2 .left) (c .before .match .keys2))
+    ∙ sym (row-letter [] (a .text .now) (a .at) (omega arith) (omega arith) (tested .before .before .if1 .left) (tested .if2 .left)
+    (c .before .match .keys2))
 
 returns-5 : tie.Need-returns-5
 returns-5 c =

@@ -9,7 +9,16 @@ use lib.ListN.{length}
 use Rattle.rules.specs.Tries.{Row}
 use Rattle.rules.specs.Listing.{read}
 use Rattle.manifest.specs.Lines.{rowRead, rowAt}
-use Rattle.manifest.specs.ReadLaws.{Reading, reading-none, reading-all, reading-unread, reading-within, reading-fits, reading-stopped, reading-next}
+use Rattle.manifest.specs.ReadLaws.{
+  Reading,
+  reading-none,
+  reading-all,
+  reading-unread,
+  reading-within,
+  reading-fits,
+  reading-stopped,
+  reading-next,
+}
 use borrow.Author.Needs.{needs}
 use Rattle.manifest.proofs.reading.read_rows.Statement.{statement}
 use Rattle.manifest.proofs.reading.read_rows.Tie as tie
@@ -24,14 +33,20 @@ abbrev μ-loop : tie.MeasureT-loop
 abbrev row-at : tie.After-depth Inv-loop μ-loop → Row
 row-at c = let parts = c .depth .given .0 in read (parts .0) (parts .1 .0) (parts .1 .1 .0)
 
-row-read : (c : tie.After-depth Inv-loop μ-loop) → rowAt (c .before .before .before .before .before .before .before .args .text .now) (c .before .before .before .before .loop .at) ≡ some (row-at c, c .depth .given .0 .1 .1 .1 .0)
+row-read : (c : tie.After-depth Inv-loop μ-loop) → rowAt (c .before .before .before .before .before .before .before .args .text .now)
+    (c .before .before .before .before .loop .at) ≡ some (row-at c, c .depth .given .0 .1 .1 .1 .0)
 row-read c = sym (c .before .before .parse .ensures) ∙ ap rowRead (c .depth .given .1)
 
-within : (c : tie.After-depth Inv-loop μ-loop) → (c .before .before .before .before .loop .at ≤ c .depth .given .0 .1 .1 .1 .0) × (c .depth .given .0 .1 .1 .1 .0 < length (c .before .before .before .before .before .before .before .args .text .now))
+within : (c : tie.After-depth Inv-loop μ-loop) → (c .before .before .before .before .loop .at ≤ c .depth .given .0 .1 .1 .1 .0)
+    × (c .depth .given .0 .1 .1 .1 .0 < length (c .before .before .before .before .before .before .before .args .text .now))
 within c = reading-within (c .before .before .before .before .loop .inv .0) (row-read c)
 
 loop-holds : tie.Need-loop-holds Inv-loop μ-loop
-loop-holds c = (reading-none (c .before .before .args .limits) (c .before .before .args .text .now) _ (c .before .before .args .rows .now) refl (c .before .before .pre), refl)
+loop-holds c = (
+  reading-none (c .before .before .args .limits) (c .before .before .args .text .now) _ (c .before .before .args .rows .now) refl
+      (c .before .before .pre),
+  refl,
+)
 
 parse-requires : tie.Need-parse-requires Inv-loop μ-loop
 parse-requires c κs = search needs
@@ -54,7 +69,9 @@ slice-aggregate-take-row : tie.Need-slice-aggregate-take-row Inv-loop μ-loop
 slice-aggregate-take-row c = sym (c .before .before .before .before .before .before .loop .inv .0 .room .path-length)
 
 take-row-requires : tie.Need-take-row-requires Inv-loop μ-loop
-take-row-requires c κs = let reading = c .before .before .before .before .before .before .before .loop .inv .0 in (reading .room, reading-fits reading (row-read (c .before .before .before)))
+take-row-requires c κs =
+    let reading = c .before .before .before .before .before .before .before .loop .inv .0 in
+    (reading .room, reading-fits reading (row-read (c .before .before .before)))
 
 enum-known-took : tie.Need-enum-known-took Inv-loop μ-loop
 enum-known-took c = search needs
@@ -63,7 +80,9 @@ enum-known-took-2 : tie.Need-enum-known-took-2 Inv-loop μ-loop
 enum-known-took-2 c = search needs
 
 same-length-2 : tie.Need-same-length-2 Inv-loop μ-loop
-same-length-2 c = c .before .before .before .before .before .before .take-row .kept .1 .1 .1 .1 .1 .0 ∙ c .before .before .before .before .before .before .before .before .before .before .before .before .before .before .loop .inv .1
+same-length-2 c =
+    c .before .before .before .before .before .before .take-row .kept .1 .1 .1 .1 .1 .0
+    ∙ c .before .before .before .before .before .before .before .before .before .before .before .before .before .before .loop .inv .1
 
 returns-2 : tie.Need-returns-2 Inv-loop μ-loop
 returns-2 c =
@@ -74,7 +93,12 @@ add-at : tie.Need-add-at Inv-loop μ-loop
 add-at c = omega (arith, within (c .before .before .before .before .before .before .before .before .before .before))
 
 add-line : tie.Need-add-line Inv-loop μ-loop
-add-line c = omega (arith, within (c .before .before .before .before .before .before .before .before .before .before), c .before .before .before .before .before .before .before .before .before .before .before .before .before .before .loop .inv .0 .lines-passed)
+add-line c =
+    omega (
+      arith,
+      within (c .before .before .before .before .before .before .before .before .before .before),
+      c .before .before .before .before .before .before .before .before .before .before .before .before .before .before .loop .inv .0 .lines-passed,
+    )
 
 loop-less : tie.Need-loop-less Inv-loop μ-loop
 loop-less c = omega (arith, within (c .before .before .before .before .before .before .before .before .before .before))
@@ -82,8 +106,10 @@ loop-less c = omega (arith, within (c .before .before .before .before .before .b
 loop-again : tie.Need-loop-again Inv-loop μ-loop
 loop-again c =
     let (reading, kept) = c .before .before .before .before .before .before .before .before .before .before .before .before .before .before .loop .inv in
-    let passed = rw (c .before .took .given .1) at (c .before .before .before .before .before .before .take-row .ensures) in
-    (reading-next reading (row-read (c .before .before .before .before .before .before .before .before .before .before)) passed, c .before .before .before .before .before .before .take-row .kept .1 .1 .1 .1 .1 .0 ∙ kept)
+    let passed = rw (c .before .took .given .1) at (c .before .before .before .before .before .before .take-row .ensures) in (
+      reading-next reading (row-read (c .before .before .before .before .before .before .before .before .before .before)) passed,
+      c .before .before .before .before .before .before .take-row .kept .1 .1 .1 .1 .1 .0 ∙ kept,
+    )
 
 add-t22 : tie.Need-add-t22 Inv-loop μ-loop
 add-t22 c = omega (arith, c .before .before .loop .inv .0 .room)

@@ -17,10 +17,12 @@ abbrev row-of : tie.Start → Row
 row-of s = read (s .args .depth) (s .args .step) (s .args .marked)
 
 -- past the first test it is not refused
-unrefused : (c : tie.Else1) → let s = c .before .before .before .before .before in refusal (formFor (s .args .limits)) (sofarIn (s .args .sofar) (s .args .path .now)) (row-of s) ≡ none
+unrefused : (c : tie.Else1) → let s = c .before .before .before .before .before in refusal (formFor (s .args .limits))
+    (sofarIn (s .args .sofar) (s .args .path .now)) (row-of s) ≡ none
 unrefused c = sym (c .before .refusal .ensures) ∙ ap numbered (c .if1 .left)
 
-allowed : (c : tie.Else1) → let s = c .before .before .before .before .before in Allowed (formFor (s .args .limits)) (sofarIn (s .args .sofar) (s .args .path .now)) (row-of s)
+allowed : (c : tie.Else1) → let s = c .before .before .before .before .before in Allowed (formFor (s .args .limits))
+    (sofarIn (s .args .sofar) (s .args .path .now)) (row-of s)
 allowed c = refusal-none _ _ _ (unrefused c)
 
 refusal-requires : tie.Need-refusal-requires
@@ -45,13 +47,21 @@ add-end-2 : tie.Need-add-end-2
 add-end-2 c = omega (arith, c .before .before .before .before .before .before .pre .0)
 
 entry-requires : tie.Need-entry-requires
-entry-requires c κs = rw (eq-eqb (c .before .before .before .before .before .before .before .args .depth) 0 (c .if2 .taken)) at (c .before .before .before .before .before .before .before .pre .1 .0)
+entry-requires c κs =
+    rw (eq-eqb (c .before .before .before .before .before .before .before .args .depth) 0 (c .if2 .taken))
+    at (c .before .before .before .before .before .before .before .pre .1 .0)
 
 mul-rows : tie.Need-mul-rows
 mul-rows c = omega (arith, c .before .before .before .before .before .before .before .before .pre .0)
 
 slice-write-rows : tie.Need-slice-write-rows
-slice-write-rows c = omega (arith, c .before .before .before .before .before .before .before .before .pre .0, allowed (c .before .before .before) .entry-fits (c .before .if2 .taken))
+slice-write-rows c =
+    omega (
+      arith,
+      c .before .before .before .before .before .before .before .before .pre .0,
+      allowed (c .before .before .before) .entry-fits
+          (c .before .if2 .taken),
+    )
 
 add-t20 : tie.Need-add-t20
 add-t20 c = omega (arith, c .before .before .before .before .before .before .before .before .before .pre .0)
@@ -67,17 +77,28 @@ returns-2 c =
     let s = c .before .before .before .before .before .before .before .before .before in
     let entry = c .before .before .if2 .taken in
     let flat = eq-eqb (s .args .depth) 0 entry in
-    row-passed (s .args .limits) (s .args .sofar) (s .args .path .now) (s .args .rows .now) (row-of s) (s .pre .0) (unrefused (c .before .before .before .before))
+    row-passed (s .args .limits) (s .args .sofar) (s .args .path .now) (s .args .rows .now) (row-of s) (s .pre .0)
+    (unrefused (c .before .before .before .before))
     (c .before .entry .ensures ∙ rw (entry, s .pre .1 .1 entry)) (omega arith) (rw flat) (rw flat)
 
 node-requires : tie.Need-node-requires
-node-requires c κs = (omega (arith, allowed (c .before .before) .shallow), rw (ne-eqb (c .before .before .before .before .before .before .before .args .depth) 0 (c .if2 .left)) at (c .before .before .before .before .before .before .before .pre .1 .0))
+node-requires c κs = (
+  omega (arith, allowed (c .before .before) .shallow),
+  rw (ne-eqb (c .before .before .before .before .before .before .before .args .depth) 0 (c .if2 .left))
+      at (c .before .before .before .before .before .before .before .pre .1 .0),
+)
 
 mul-rows-2 : tie.Need-mul-rows-2
 mul-rows-2 c = search needs
 
 slice-write-rows-2 : tie.Need-slice-write-rows-2
-slice-write-rows-2 c = omega (arith, c .before .before .before .before .before .before .before .before .pre .0, allowed (c .before .before .before) .node-fits (c .before .if2 .left))
+slice-write-rows-2 c =
+    omega (
+      arith,
+      c .before .before .before .before .before .before .before .before .pre .0,
+      allowed (c .before .before .before) .node-fits
+          (c .before .if2 .left),
+    )
 
 add-t14 : tie.Need-add-t14
 add-t14 c = omega (arith, allowed (c .before .before .before) .shallow)
@@ -95,7 +116,8 @@ returns-3 : tie.Need-returns-3
 returns-3 c =
     let s = c .before .before .before .before .before .before .before .before .before in
     let deep = ne-eqb (s .args .depth) 0 (c .before .before .if2 .left) in
-    row-passed (s .args .limits) (s .args .sofar) (s .args .path .now) (s .args .rows .now) (row-of s) (s .pre .0) (unrefused (c .before .before .before .before))
+    row-passed (s .args .limits) (s .args .sofar) (s .args .path .now) (s .args .rows .now) (row-of s) (s .pre .0)
+    (unrefused (c .before .before .before .before))
     (c .before .node .ensures) refl (rw deep) (rw deep)
 
 pub take-row-spec : {M : Type 1} → statement M

@@ -22,7 +22,9 @@ shared-slice-read-first c = search needs
 
 returns-2 : tie.Need-returns-2
 unfolding decimalUpTo
-returns-2 c = let a = c .before .before .before .before .args in sym (number-found decimalOf (a .b) (a .at) (a .s .now) (c .before .before .if1 .left) (c .if2 .taken))
+returns-2 c =
+    let a = c .before .before .before .before .args in
+    sym (number-found decimalOf (a .b) (a .at) (a .s .now) (c .before .before .if1 .left) (c .if2 .taken))
 
 add-zero : tie.Need-add-zero
 add-zero c = search needs
@@ -35,7 +37,8 @@ returns-3 c =
     let tested = c .before .before in
     let a = tested .before .before .before .before .args in
     c .zero .ensures
-    ∙ sym (number-passed decimalOf (a .b) (a .at) (a .s .now) (tested .before .before .if1 .left) (tested .if2 .left) (λ field. decimalOf (48 ∷ field)) λ part. rw (c .before .if3 .taken))
+    ∙ sym (number-passed decimalOf (a .b) (a .at) (a .s .now) (tested .before .before .if1 .left) (tested .if2 .left)
+    (λ field. decimalOf (48 ∷ field)) λ part. rw (c .before .if3 .taken))
 
 returns-4 : tie.Need-returns-4
 returns-4 c =
@@ -64,7 +67,8 @@ returns-5 c =
     let same : 0 * 10 + (first - 48) ≡ first - 48 = omega arith in
     c .digits .ensures
     ∙ sym
-    (number-passed decimalOf (a .b) (a .at) (a .s .now) (tested .before .before .if1 .left) (tested .if2 .left) (numberFrom 65535 (first - 48)) λ part.
+    (number-passed decimalOf (a .b) (a .at) (a .s .now) (tested .before .before .if1 .left) (tested .if2 .left)
+    (numberFrom 65535 (first - 48)) λ part.
     decimalUpTo-more 65535 _ (omega arith) (c .before .before .before .if3 .left)
     ∙ numberFrom-digit 65535 0 first part (omega arith) (omega (arith, ltb-false)) (omega (arith, ltb-false))
     ∙ rw same)

@@ -33,7 +33,8 @@ unfolding numberFrom
 returns c =
     let a = c .before .before .before .before .args in
     let loop = c .before .before .before .loop in
-    sym (loop .inv .1 ∙ number-found (numberFrom 65535 (loop .value)) (a .b) (loop .i) (a .s .now) (c .before .before .loop-test .taken) (c .if1 .taken))
+    sym (loop .inv .1 ∙ number-found (numberFrom 65535 (loop .value)) (a .b) (loop .i) (a .s .now) (c .before .before .loop-test .taken)
+    (c .if1 .taken))
 
 returns-2 : tie.Need-returns-2 Inv-loop μ-loop
 returns-2 c =
@@ -41,7 +42,8 @@ returns-2 c =
     let loop = c .before .before .before .before .loop in
     sym
     (loop .inv .1
-    ∙ number-bad (numberFrom 65535 (loop .value)) (a .b) (loop .i) (a .s .now) (c .before .before .before .loop-test .taken) (c .before .if1 .left) λ part.
+    ∙ number-bad (numberFrom 65535 (loop .value)) (a .b) (loop .i) (a .s .now) (c .before .before .before .loop-test .taken)
+    (c .before .if1 .left) λ part.
     numberFrom-none _ _ _ _ λ low high fits.
     ⊎-elim (λ w. omega arith) (λ w. omega (arith, ltb-true)) (c .if2 .came))
 
@@ -60,7 +62,8 @@ returns-3 c =
     let loop = c .before .before .before .before .before .before .loop in
     sym
     (loop .inv .1
-    ∙ number-bad (numberFrom 65535 (loop .value)) (a .b) (loop .i) (a .s .now) (c .before .before .before .before .before .loop-test .taken) (c .before .before .before .if1 .left) λ part.
+    ∙ number-bad (numberFrom 65535 (loop .value)) (a .b) (loop .i) (a .s .now) (c .before .before .before .before .before .loop-test .taken)
+    (c .before .before .before .if1 .left) λ part.
     numberFrom-none _ _ _ _ (omega arith))
 
 add-i : tie.Need-add-i Inv-loop μ-loop
@@ -76,7 +79,8 @@ loop-again c =
     let digit = getD (a .s .now) (loop .i) 0 in (
       omega arith,
       loop .inv .1
-          ∙ number-passed (numberFrom 65535 (loop .value)) (a .b) (loop .i) (a .s .now) (c .before .before .before .before .before .loop-test .taken) (c .before .before .before .if1 .left) (numberFrom 65535 (loop .value * 10 + (digit - 48))) λ part.
+          ∙ number-passed (numberFrom 65535 (loop .value)) (a .b) (loop .i) (a .s .now) (c .before .before .before .before .before .loop-test .taken)
+          (c .before .before .before .if1 .left) (numberFrom 65535 (loop .value * 10 + (digit - 48))) λ part.
           numberFrom-digit _ _ _ _ (omega arith) (omega (arith, ltb-false)) (omega arith),
     )
 

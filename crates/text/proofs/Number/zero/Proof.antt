@@ -18,12 +18,15 @@ shared-slice-read-if2 c = search needs
 
 returns-2 : tie.Need-returns-2
 unfolding decimalUpTo numberFrom
-returns-2 c = let a = c .before .before .before .args in sym (number-found (λ field. decimalOf (48 ∷ field)) (a .b) (a .at) (a .s .now) (c .before .before .if1 .left) (c .if2 .taken))
+returns-2 c =
+    let a = c .before .before .before .args in
+    sym (number-found (λ field. decimalOf (48 ∷ field)) (a .b) (a .at) (a .s .now) (c .before .before .if1 .left) (c .if2 .taken))
 
 returns-3 : tie.Need-returns-3
 returns-3 c =
     let a = c .before .before .before .args in
-    sym (number-bad (λ field. decimalOf (48 ∷ field)) (a .b) (a .at) (a .s .now) (c .before .before .if1 .left) (c .if2 .left) λ part. decimalUpTo-zero 65535 _ (omega arith) refl)
+    sym (number-bad (λ field. decimalOf (48 ∷ field)) (a .b) (a .at) (a .s .now) (c .before .before .if1 .left) (c .if2 .left) λ part.
+    decimalUpTo-zero 65535 _ (omega arith) refl)
 
 pub zero-spec : {M : Type 1} → statement M
 zero-spec = tie.close (tie.spec returns shared-slice-read-if2 returns-2 returns-3)
