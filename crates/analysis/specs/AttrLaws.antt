@@ -322,6 +322,18 @@ mutual
       let (a, b) = each-split IsPath (pathsIn paths) (pathsInFields fields) h in
       omega (arith, words-few paths a, fields-few fields b, length-append (code paths) (codeFields fields))
 
+-- a result's paths: at most the head of a literal, and 26 words for each of 255 nodes
+pub words-most : (q : Paths) → AllPaths (pathsIn q) → nodesOf q ≤ 256 → length (code q) ≤ 6631
+unfolding pathsIn nodesOf code Each
+words-most Empty h few = omega arith
+words-most (AccessPath path) h few = omega (arith, h .0 .short)
+words-most (Union left right) h few =
+    let (r, l) = each-split IsPath (pathsIn right) (pathsIn left) h in
+    omega (arith, words-few right r, words-few left l, length-append (code right) (code left))
+words-most (RecordLiteral fields) h few =
+    omega (arith, fields-few fields h, length-append (namesIn fields) (codeFields fields), names-many fields)
+words-most (SetLiteral elements) h few = omega (arith, words-few elements h)
+
 -- a field has no more words than the literal may have
 field-few : (f : ℕ) (fields : Fields) (q : Paths) → fieldOf f fields ≡ some q → AllPaths (pathsInFields fields) → length (code q) ≤ 26 * nodesOfFields fields
 unfolding fieldOf pathsInFields nodesOfFields

@@ -33,7 +33,7 @@ pub record Finished (items : List Item) (text code tries : List ℕ) (stack : St
 
 -- the runs are not the large ones, which no text fills
 abbrev pub NotLarge : List ℕ → List ℕ → Type 0
-NotLarge code tries = length code ≡ 213248 → length tries ≡ 33825 → ⊥
+NotLarge code tries = length code ≡ 212448 → length tries ≡ 33825 → ⊥
 
 abbrev pub RanBy : List Item → List ℕ → List ℕ → List ℕ → Ran → Type 0
 RanBy items text code tries (Stacked stack lines) = Finished items text code tries stack lines

@@ -85,7 +85,7 @@ use Rattle.manifest.specs.Writes.{Wrote}
 use Rattle.manifest.specs.AddLaws.{held-count}
 use Rattle.analysis.specs.Code.{countIn, namesIn, code, codeFields, codes, nodesOfAll, Standing, Measures, pathsAt, Grew, Result as Stands}
 use Rattle.analysis.specs.CodeLaws.{codes-append, first-word, behind-word}
-use Rattle.analysis.specs.AttrLaws.{words-few}
+use Rattle.analysis.specs.AttrLaws.{words-most}
 use Rattle.analysis.specs.Nodes.{nodeWord, belowWord, allNodes, allBelow, IsState, Became, leafOf, anyDeep, AllFit}
 use Rattle.analysis.specs.NodeLaws.{plain-node, all-nodes-plain, held-words, as-it-was}
 use Rattle.analysis.specs.TypeTableLaws.{good-lawful}
@@ -298,14 +298,13 @@ placed-one w out end some-place inside =
 
 -- ---- the room of results
 
-codes-room : (results : List Result) → AllGood results → length (codes (pathsOf results)) ≤ 6656 * length results
+codes-room : (results : List Result) → AllGood results → length (codes (pathsOf results)) ≤ 6631 * length results
 unfolding codes Each
 codes-room [] good = omega arith
 codes-room (r ∷ results) good =
     omega (
       arith,
-      words-few (r .paths) (good .0 .good-paths),
-      good .0 .few-nodes,
+      words-most (r .paths) (good .0 .good-paths) (good .0 .few-nodes),
       codes-room results (good .1),
       length-append (code (r .paths)) (codes (pathsOf results)),
     )
@@ -331,7 +330,7 @@ module _ {codeRun tries : List ℕ} {stack : Stack} {results : List Result} (hel
   tries-place : stack .tries + length (stacked (triesOf results)) ≡ length tries
   tries-place = omega (arith, ap length (held .layout .tries-there), length-drop (stack .tries) tries, held .layout .in-tries)
 
-  pub code-left : length codeRun ≤ stack .code + 6656 * length results
+  pub code-left : length codeRun ≤ stack .code + 6631 * length results
   code-left = omega (arith, code-place, codes-room results (held .good))
 
   pub tries-left : length tries ≤ stack .tries + 1025 * length results

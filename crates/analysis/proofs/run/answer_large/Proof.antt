@@ -14,7 +14,7 @@ slice-aggregate-answer-in-2 : tie.Need-slice-aggregate-answer-in-2
 slice-aggregate-answer-in-2 c = search needs
 
 answer-in-requires : tie.Need-answer-in-requires
-answer-in-requires c κs = (c .before .before .before .before .before .before .before .pre .0, (c .before .before .before .before .before .before .before .pre .1, omega (arith, length-replicate {A = ℕ} 213248 0)))
+answer-in-requires c κs = (c .before .before .before .before .before .before .before .pre .0, (c .before .before .before .before .before .before .before .pre .1, omega (arith, length-replicate {A = ℕ} 212448 0)))
 
 enum-known-reply : tie.Need-enum-known-reply
 enum-known-reply c = search needs
@@ -34,7 +34,7 @@ same-length-2 c = search needs
 returns-2 : tie.Need-returns-2
 returns-2 c =
     let answered = rw (c .enum-told .given .1) at (c .before .before .before .before .before .before .answer-in .ensures) in
-    absurd (answered .1 (length-replicate {A = ℕ} 213248 0) (length-replicate {A = ℕ} 33825 0))
+    absurd (answered .1 (length-replicate {A = ℕ} 212448 0) (length-replicate {A = ℕ} 33825 0))
 
 pub answer-large-spec : {M : Type 1} → statement M
 answer-large-spec =
