@@ -73,7 +73,7 @@ use Rattle.analysis.specs.Turns.{
   Room,
   Turned,
 }
-use Rattle.analysis.specs.CodeLaws.{pathsOf, headFor, codes-append, codes-fields, names-many, paths-many, code-turn, nodes-turn, Ahead, next-within, next-room, next-word, next-head, behind-word, stands-short, pathsInAll, many-nodes, many-words, next-of, nodes-append, paths-at-append, within-append, places-few}
+use Rattle.analysis.specs.CodeLaws.{pathsOf, headFor, codes-append, codes-fields, names-many, paths-many, code-turn, nodes-turn, nodes-words, Ahead, next-within, next-room, next-word, next-head, behind-word, stands-short, many-nodes, many-words, next-of, paths-at-append, within-append, places-few}
 
 -- ---- one stands there
 
@@ -306,7 +306,7 @@ set-of (SetLiteral elements) e = (elements, refl)
 mutual
   unfolding pathsIn pathsInFields nodesOf nodesOfFields code codeFields countIn Each
 
-  pub words-few : (q : Paths) → AllPaths (pathsIn q) → length (code q) + 1 ≤ 26 * nodesOf q
+  words-few : (q : Paths) → AllPaths (pathsIn q) → length (code q) + 1 ≤ 26 * nodesOf q
   words-few Empty h = omega arith
   words-few (AccessPath path) h = omega (arith, h .0 .short)
   words-few (Union left right) h =
@@ -334,28 +334,52 @@ words-most (RecordLiteral fields) h few =
     omega (arith, fields-few fields h, length-append (namesIn fields) (codeFields fields), names-many fields)
 words-most (SetLiteral elements) h few = omega (arith, words-few elements h)
 
--- a field has no more words than the literal may have
-field-few : (f : ℕ) (fields : Fields) (q : Paths) → fieldOf f fields ≡ some q → AllPaths (pathsInFields fields) → length (code q) ≤ 26 * nodesOfFields fields
-unfolding fieldOf pathsInFields nodesOfFields
-field-few f noField q e h = absurd (let z : _≡_ {A = ℕ} 0 1 = cc in omega arith)
-field-few f (field name paths fields) q e h =
-    let (a, b) = each-split IsPath (pathsIn paths) (pathsInFields fields) h in
-    go (eqb name f) (λ k. field-few f fields q k b) a e
+-- a literal gives no more words than it has
+field-few : (f : ℕ) (fields : Fields) (q : Paths) → fieldOf f fields ≡ some q → length (code q) ≤ length (codeFields fields)
+unfolding fieldOf codeFields
+field-few f noField q e = absurd (let z : _≡_ {A = ℕ} 0 1 = cc in omega arith)
+field-few f (field name paths fields) q e =
+    go (eqb name f) (λ k. field-few f fields q k) e
   where
     go :
-        (same : Bool) → (fieldOf f fields ≡ some q → length (code q) ≤ 26 * nodesOfFields fields) → AllPaths (pathsIn paths)
+        (same : Bool) → (fieldOf f fields ≡ some q → length (code q) ≤ length (codeFields fields))
         → cond same (some paths) (fieldOf f fields) ≡ some q
-        → length (code q) ≤ 26 * (nodesOf paths + nodesOfFields fields)
-    go true more a e = let same : paths ≡ q = cc in rw (← same) (omega (arith, words-few paths a))
-    go false more a e = omega (arith, more e)
+        → length (code q) ≤ length (code paths ++ codeFields fields)
+    go true more e = let same : paths ≡ q = cc in rw (← same) (omega (arith, length-append (code paths) (codeFields fields)))
+    go false more e = omega (arith, more e, length-append (code paths) (codeFields fields))
 
-pub from-few : (f : ℕ) (fields : Fields) → AllPaths (pathsIn (RecordLiteral fields)) → length (code (fieldFrom f fields)) ≤ 26 * nodesOf (RecordLiteral fields)
-unfolding pathsIn nodesOf
-from-few f fields h = go (fieldOf f fields) refl
+from-few : (f : ℕ) (fields : Fields) → length (code (fieldFrom f fields)) ≤ length (code (RecordLiteral fields))
+unfolding code
+from-few f fields = go (fieldOf f fields) refl
   where
-    go : (o : Option Paths) → fieldOf f fields ≡ o → length (code (fieldOr o (RecordLiteral fields))) ≤ 26 * suc (nodesOfFields fields)
-    go none e = omega (arith, words-few (RecordLiteral fields) h)
-    go (some q) e = omega (arith, field-few f fields q e h)
+    go : (o : Option Paths) → fieldOf f fields ≡ o → length (code (fieldOr o (RecordLiteral fields))) ≤ length (code (RecordLiteral fields))
+    go none e = omega arith
+    go (some q) e = omega (arith, field-few f fields q e, length-append (namesIn fields) (codeFields fields))
+
+-- each path that gains a field is a node, and has room for it among the words of a node
+pub grown-nodes : (f : ℕ) (q : Paths) → length (grownIn f q) ≤ nodesOf q
+unfolding grownIn nodesOf
+grown-nodes f Empty = omega arith
+grown-nodes f (AccessPath path) = omega arith
+grown-nodes f (Union left right) = omega (arith, grown-nodes f right, grown-nodes f left, length-append (grownIn f right) (grownIn f left))
+grown-nodes f (RecordLiteral fields) = omega arith
+grown-nodes f (SetLiteral elements) = omega arith
+
+pub grown-few : (f : ℕ) (q : Paths) → AllPaths (pathsIn q) → length (code q) + length (grownIn f q) ≤ 26 * nodesOf q
+unfolding grownIn nodesOf pathsIn code Each
+grown-few f Empty h = omega arith
+grown-few f (AccessPath path) h = omega (arith, h .0 .short)
+grown-few f (Union left right) h =
+    let (r, l) = each-split IsPath (pathsIn right) (pathsIn left) h in
+    omega (
+      arith,
+      grown-few f right r,
+      grown-few f left l,
+      length-append (code right) (code left),
+      length-append (grownIn f right) (grownIn f left),
+    )
+grown-few f (RecordLiteral fields) h = omega (arith, words-few (RecordLiteral fields) h)
+grown-few f (SetLiteral elements) h = omega (arith, words-few elements h)
 
 -- ---- one turn
 
@@ -366,7 +390,7 @@ module _ (words rest : List ℕ) (q : Paths) (at : ℕ) (e : drop at words ≡ c
   pub head-here : headOf (getD words at 0) ≡ headFor q
   head-here = next-head (stands-alone words rest q at e)
 
-module _ {words out : List ℕ} {at to : ℕ} (r : Room words at out to) where
+module _ {words out : List ℕ} {at f to : ℕ} (r : Room words at f out to) where
   here-alone : Ahead words (r .rest) (r .paths ∷ []) at 1
   here-alone = stands-alone words (r .rest) (r .paths) at (r .coded)
 
@@ -374,28 +398,28 @@ module _ {words out : List ℕ} {at to : ℕ} (r : Room words at out to) where
   room-within = next-within here-alone
 
   pub room-out : to < length out
-  room-out = omega (arith, r .fits, nodes-turn (r .paths))
+  room-out = omega (arith, r .fits, nodes-turn (r .paths), nodes-words (r .paths))
 
   here-head : {h : WrappedAccessPaths} → headOf (getD words at 0) ≡ h → headFor (r .paths) ≡ h
   here-head said = sym (head-here words (r .rest) (r .paths) at (r .coded)) ∙ said
 
   pub room-path : (n : ℕ) → headOf (getD words at 0) ≡ PathHead n → (at + 1 + n ≤ length words) × (to + 2 + n ≤ length out)
-  unfolding pathsIn nodesOf Each
+  unfolding code grownIn
   room-path n said =
-      let (path, same, many) = path-of (r .paths) n (here-head said) in
-      let good : AllPaths (pathsIn (AccessPath path)) = rw same at (r .good-paths) in
-      (omega (arith, next-room here-alone, ap sizeOf (here-head said)), omega (arith, r .fits, ap nodesOf same, good .0 .short, many))
+      let (path, same, many) = path-of (r .paths) n (here-head said) in (
+        omega (arith, next-room here-alone, ap sizeOf (here-head said)),
+        omega (arith, r .fits, ap (λ (q : Paths). length (code q) + length (grownIn f q)) same, many),
+      )
 
-  pub room-literal : (n f : ℕ) → headOf (getD words at 0) ≡ RecordHead n → Literal words at n f out to
-  room-literal n f said =
+  pub room-literal : (n : ℕ) → headOf (getD words at 0) ≡ RecordHead n → Literal words at n f out to
+  room-literal n said =
       let (fields, same, many) = record-of (r .paths) n (here-head said) in
-      let good : AllPaths (pathsIn (RecordLiteral fields)) = rw same at (r .good-paths) in
       record {
         fields = fields;
         rest = r .rest;
         as-many = many;
         coded = rw same at (r .coded);
-        room = omega (arith, r .fits, ap nodesOf same, from-few f fields good);
+        room = omega (arith, r .fits, ap (λ (q : Paths). length (code q)) same, from-few f fields);
       }
 
 module _ (words out out′ : List ℕ) (at f to : ℕ) (moved : Moved) where
@@ -553,22 +577,13 @@ grown-within f words (RecordLiteral fields) = tt
 grown-within f words (SetLiteral elements) = tt
 
 -- room enough
-written-few : (f : ℕ) (q : Paths) → AllPaths (pathsIn q) → length (writtenFor f q) + 26 * nodesOfAll (spine q) ≤ 26 * nodesOf q
-unfolding writtenFor nodesOfAll nodesOf pathsIn code Each
-written-few f Empty h = omega arith
-written-few f (AccessPath path) h = omega (arith, h .0 .short, length-append path (f ∷ []))
-written-few f (Union left right) h = omega arith
-written-few f (RecordLiteral fields) h = omega (arith, from-few f fields h)
-written-few f (SetLiteral elements) h = omega arith
-
-spine-good : (q : Paths) (qs : List Paths) → AllPaths (pathsInAll (q ∷ qs)) → AllPaths (pathsIn q) × AllPaths (pathsInAll (spine q ++ qs))
-unfolding pathsInAll pathsIn Each
-spine-good Empty qs h = (tt, h)
-spine-good (AccessPath path) qs h = ((h .0, tt), h .1)
-spine-good (Union left right) qs h =
-    (each-split IsPath (pathsIn right ++ pathsIn left) (pathsInAll qs) h .0, rw (append-assoc (pathsIn right) (pathsIn left) (pathsInAll qs)) at h)
-spine-good (RecordLiteral fields) qs h = each-split IsPath (pathsInFields fields) (pathsInAll qs) h
-spine-good (SetLiteral elements) qs h = each-split IsPath (pathsIn elements) (pathsInAll qs) h
+written-few : (f : ℕ) (q : Paths) → length (writtenFor f q) + length (codes (spine q)) ≤ length (code q) + length (ownGrown f q)
+unfolding writtenFor codes code
+written-few f Empty = omega arith
+written-few f (AccessPath path) = omega (arith, length-append path (f ∷ []))
+written-few f (Union left right) = rw append-nil (omega arith)
+written-few f (RecordLiteral fields) = omega (arith, from-few f fields)
+written-few f (SetLiteral elements) = omega arith
 
 spine-nodes : (q : Paths) (qs : List Paths) → suc (nodesOfAll (spine q ++ qs)) ≤ nodesOfAll (q ∷ qs)
 unfolding nodesOfAll nodesOf
@@ -629,7 +644,7 @@ pub record Going (words rest : List ℕ) (f : ℕ) (paths : Paths) (out places :
   pub qs : List Paths
   pub ahead : Ahead words rest qs from left
   pub few : grown + nodesOfAll qs ≤ nodesOf paths
-  pub good : AllPaths (pathsIn paths) → AllPaths (pathsInAll qs) × (to + 26 * nodesOfAll qs ≤ 26 * nodesOf paths)
+  pub room : to + (length (codes qs) + length (grownInAll f qs)) ≤ length (code paths) + length (grownIn f paths)
   pub in-out : to ≤ length out
   pub written : extendedCodes f (paths ∷ []) ≡ after (take to out) (extendedCodes f qs)
   pub in-places : grown ≤ length places
@@ -646,12 +661,12 @@ after-nothing none = refl
 after-nothing (some more) = refl
 
 pub extending-first : (words out places : List ℕ) (at f : ℕ) → Extending words at f out places at 0 1 0
-unfolding nodesOfAll pathsAt AllWithin pathsInAll grownInAll
+unfolding nodesOfAll pathsAt AllWithin codes grownInAll
 extending-first words out places at f paths rest e = record {
   qs = paths ∷ [];
   ahead = stands-alone words rest paths at e;
   few = omega arith;
-  good = λ h. (rw append-nil h, omega arith);
+  room = rw (append-nil (code paths), append-nil (grownIn f paths)) (omega arith);
   in-out = omega arith;
   written = sym (after-nothing (extendedCodes f (paths ∷ [])));
   in-places = omega arith;
@@ -683,6 +698,7 @@ module _ {words rest out places : List ℕ} {f : ℕ} {paths : Paths} {from to l
         after = q;
         extended = given;
         in-out = g .in-out;
+        few-words = omega (arith, g .room);
         coded = same;
         in-places = g .in-places;
         within = rw (take-append-drop to out) at (within-more (take to out) (drop to out) (take grown places) (g .within));
@@ -695,6 +711,16 @@ module _ {words rest out places : List ℕ} {f : ℕ} {paths : Paths} {from to l
           → (extendedCodes f (paths ∷ []) ≡ some (take to out)) × (pathsAt (take to out) (take grown places) ≡ grownIn f paths)
       last [] many a b = (a ∙ rw append-nil, rw append-nil at b)
       last (q ∷ qs) many a b = absurd (omega arith)
+
+  -- the words of what is left, from turn to turn
+  ahead-words :
+      (q : Paths) (more : List Paths)
+      → g .qs ≡ q ∷ more
+      → length (codes (g .qs)) + length (grownInAll f (g .qs))
+      ≡ length (code q) + length (codes more) + (length (ownGrown f q) + length (grownInAll f (spine q ++ more)))
+  unfolding codes
+  ahead-words q more same =
+      rw (same, length-append (code q) (codes more), grown-turn f q more, length-append (ownGrown f q) (grownInAll f (spine q ++ more)))
 
   going-step :
       (q : Paths) (more : List Paths) {out′ places′ : List ℕ} {from′ to′ grown′ : ℕ} {h : WrappedAccessPaths}
@@ -716,9 +742,16 @@ module _ {words rest out places : List ℕ} {f : ℕ} {paths : Paths} {from to l
         few =
             omega
             (arith, g .few, spine-nodes q more, ap nodesOfAll same, ap length noted, length-append (take grown places) here, length-take-le grown′ places′ (n .in-places), length-take-le grown places (g .in-places), places-few (headFor q) to);
-        good = λ good.
-            let (p, r) = spine-good q more (rw same at (g .good good .0)) in
-            (r, omega (arith, wrote .after, written-few f q p, g .good good .1, nodes-append (spine q) more, ap nodesOfAll same));
+        room =
+            omega (
+              arith,
+              wrote .after,
+              written-few f q,
+              g .room,
+              ahead-words q more same,
+              ap length (codes-append (spine q) more),
+              length-append (codes (spine q)) (codes more),
+            );
         in-out = omega (arith, ap length (wrote .text), length-sets out to v);
         written =
             g .written ∙ rw (same, attr-turn f q more goes, put) (after-after w v (extendedCodes f (spine q ++ more)));
@@ -756,29 +789,32 @@ module _ {words rest out places : List ℕ} {f : ℕ} {paths : Paths} {from to l
         joined-refused (getOrHasAttr f paths)
         (g .written ∙ rw (same, attr-set f q more (t q (codes more ++ rest) next-coded)))
 
-    -- within the limits there is room
-    module _ (good : AllPaths (pathsIn paths)) (large : 26 * nodesOf paths ≤ length out) where
-      next-good : AllPaths (pathsIn (going-next .0)) × AllPaths (pathsInAll (spine (going-next .0) ++ going-next .1))
-      next-good = spine-good (going-next .0) (going-next .1) (rw (going-next .2) at (g .good good .0))
-
-      next-nodes : nodesOfAll (g .qs) ≡ nodesOf (going-next .0) + nodesOfAll (going-next .1)
-      unfolding nodesOfAll
-      next-nodes = ap nodesOfAll (going-next .2)
-
-      pub going-room : Room words from out to
-      going-room = record {
-        paths = going-next .0;
-        rest = codes (going-next .1) ++ rest;
-        coded = next-coded;
-        good-paths = next-good .0;
-        fits = omega (arith, g .good good .1, next-nodes);
-      }
+    -- there is room for the next
+    module _ (large : length (code paths) + length (grownIn f paths) ≤ length out) where
+      pub going-room : Room words from f out to
+      unfolding codes grownInAll
+      going-room =
+          let (q, more, same) = going-next in
+          record {
+            paths = q;
+            rest = codes more ++ rest;
+            coded = next-coded;
+            fits =
+                omega (
+                  arith,
+                  g .room,
+                  ap (λ (qs : List Paths). length (codes qs)) same,
+                  ap (λ (qs : List Paths). length (grownInAll f qs)) same,
+                  length-append (code q) (codes more),
+                  length-append (grownIn f q) (grownInAll f more),
+                );
+          }
 
       pub going-fits : {out′ : List ℕ} {moved : Moved} → Turned words from f out to out′ (Next moved) → moved .to ≤ length out
       going-fits t =
           let q = going-next .0 in
           let (goes, took) = t q (codes (going-next .1) ++ rest) next-coded in
-          omega (arith, took .wrote .after, written-few f q (next-good .0), g .good good .1, next-nodes)
+          omega (arith, took .wrote .after, written-few f q, g .room, ahead-words q (going-next .1) (going-next .2))
 
     -- a turn
     pub going-on : {out′ : List ℕ} {moved : Moved} → Turned words from f out to out′ (Next moved) → from < moved .from

@@ -146,6 +146,7 @@ pub record Grew (f : ℕ) (paths : Paths) (out places : List ℕ) (words grown :
   pub after : Paths
   pub extended : getOrHasAttr f paths ≡ some after
   pub in-out : words ≤ length out
+  pub few-words : words ≤ length (code paths) + length (grownIn f paths)
   pub coded : take words out ≡ code after
   pub in-places : grown ≤ length places
   pub within : AllWithin out (take grown places)

@@ -123,7 +123,7 @@ unfolding codes
 codes-append [] qs = refl
 codes-append (p ∷ ps) qs = rw (codes-append ps qs, append-assoc)
 
-pub nodes-append : (ps qs : List Paths) → nodesOfAll (ps ++ qs) ≡ nodesOfAll ps + nodesOfAll qs
+nodes-append : (ps qs : List Paths) → nodesOfAll (ps ++ qs) ≡ nodesOfAll ps + nodesOfAll qs
 unfolding nodesOfAll
 nodes-append [] qs = omega arith
 nodes-append (p ∷ ps) qs = rw (nodes-append ps qs) (omega arith)
@@ -185,7 +185,7 @@ many-nodes (q ∷ qs) = omega (arith, nodes-turn q, many-nodes qs)
 mutual
   unfolding nodesOf code nodesOfFields codeFields
 
-  nodes-words : (q : Paths) → nodesOf q ≤ length (code q)
+  pub nodes-words : (q : Paths) → nodesOf q ≤ length (code q)
   nodes-words Empty = omega arith
   nodes-words (AccessPath path) = omega arith
   nodes-words (Union left right) = omega (arith, nodes-words left, nodes-words right, length-append (code right) (code left))

@@ -85,12 +85,13 @@ use Rattle.manifest.specs.Writes.{Wrote}
 use Rattle.manifest.specs.AddLaws.{held-count}
 use Rattle.analysis.specs.Code.{countIn, namesIn, code, codeFields, codes, nodesOfAll, Standing, Measures, pathsAt, Grew, Result as Stands}
 use Rattle.analysis.specs.CodeLaws.{codes-append, first-word, behind-word}
-use Rattle.analysis.specs.AttrLaws.{words-most}
+use Rattle.analysis.specs.AttrLaws.{words-most, grown-nodes, grown-few}
 use Rattle.analysis.specs.Nodes.{nodeWord, belowWord, allNodes, allBelow, IsState, Became, leafOf, anyDeep, AllFit}
 use Rattle.analysis.specs.NodeLaws.{plain-node, all-nodes-plain, held-words, as-it-was}
 use Rattle.analysis.specs.TypeTableLaws.{good-lawful}
 use Rattle.analysis.specs.Tables.{takenAt, AllPairs, Took, Walk, anyTakenDeep, AllTakenPaths}
 use Rattle.analysis.specs.Lines.{stepRead}
+use Rattle.analysis.specs.Turns.{Growing}
 use Rattle.analysis.specs.Stacks.{
   pathsOf,
   triesOf,
@@ -111,6 +112,7 @@ use Rattle.analysis.specs.Stacks.{
   WrapsBy,
   ReplacedBy,
   ancestorsRequired,
+  Scratch,
 }
 use Rattle.analysis.specs.declared.step.Step.{Step as StepRead}
 use Rattle.analysis.specs.declared.stack.Stack.{Stack}
@@ -1131,32 +1133,6 @@ attr-nodes f (RecordLiteral fields) after e =
     (λ own h. rw h (omega (arith, field-nodes f fields own h))))
 attr-nodes f (SetLiteral elements) after e = absurd (Option·none-ne-some after e)
 
--- each path gains one word
-field-words : (f : ℕ) (fields : Fields) (paths : Paths) → fieldOf f fields ≡ some paths → length (code paths) ≤ length (codeFields fields)
-unfolding fieldOf codeFields
-field-words f noField paths e = absurd (Option·none-ne-some paths e)
-field-words f (field name own fields) paths e =
-    by-test (eqb name f)
-    (λ h. rw (← Option·some-injective own paths (rw h at e)) (omega (arith, length-append (code own) (codeFields fields))))
-    (λ h. omega (arith, field-words f fields paths (rw h at e), length-append (code own) (codeFields fields)))
-
-attr-words : (f : ℕ) (paths after : Paths) → getOrHasAttr f paths ≡ some after → length (code after) ≤ length (code paths) + nodesOf paths
-unfolding getOrHasAttr nodesOf code
-attr-words f Empty after e = rw (← Option·some-injective Empty after e) (omega arith)
-attr-words f (AccessPath path) after e =
-    rw (← Option·some-injective (AccessPath (path ++ (f ∷ []))) after e) (omega (arith, length-append path (f ∷ [])))
-attr-words f (Union a b) after e =
-    bind-some (getOrHasAttr f b) _ after e λ b′ eb e.
-    bind-some (getOrHasAttr f a) _ after e λ a′ ea e.
-    rw (← Option·some-injective (Union a′ b′) after e)
-    (omega (arith, attr-words f a a′ ea, attr-words f b b′ eb, length-append (code b) (code a), length-append (code b′) (code a′)))
-attr-words f (RecordLiteral fields) after e =
-    rw (← Option·some-injective (fieldOr (fieldOf f fields) (RecordLiteral fields)) after e)
-    (by-option (fieldOf f fields)
-    (λ h. rw h (omega arith))
-    (λ own h. rw h (omega (arith, field-words f fields own h, length-append (namesIn fields) (codeFields fields)))))
-attr-words f (SetLiteral elements) after e = absurd (Option·none-ne-some after e)
-
 pub attr-few :
     {codeRun tries : List ℕ} {stack : Stack} (f : ℕ) (results : List Result)
     → Held codeRun tries stack results
@@ -1175,6 +1151,19 @@ pub copied-top :
 copied-top {top} {rest} held c = c .1 (top .trie) (stacked (triesOf rest)) (top-good held .good-trie) (top-trie held)
 
 module _ {codeRun tries : List ℕ} {stack : Stack} {top : Result} {rest : List Result} (held : Held codeRun tries stack (top ∷ rest)) (f : ℕ) where
+  -- its scratch has room for the words after the step
+  pub attr-grows : {out : List ℕ} → 256 ≤ stack .code → Scratch codeRun out → Growing codeRun (stack .code) f out
+  unfolding top-stands
+  attr-grows room scratch =
+      let few = top-good held .few-nodes in
+      record {
+        result = top-stands held;
+        fits =
+            scratch (length (code (top .paths)) + length (grownIn f (top .paths)))
+            (omega (arith, below-held held .layout .in-code, grown-nodes f (top .paths), few))
+            (omega (arith, grown-few f (top .paths) (top-good held .good-paths), few));
+      }
+
   pub attr-set : getOrHasAttr f (top .paths) ≡ none → (place : ℕ) → attrStep place f (top ∷ rest) ≡ refused 7 place
   attr-set e place = rw (e, attrStep)
 
@@ -1191,7 +1180,7 @@ module _ {codeRun tries : List ℕ} {stack : Stack} {top : Result} {rest : List 
     -- the words after the step fit before the end of the top
     pub attr-room : {end : ℕ} → 256 ≤ stack .code → end ≡ below held .code → (length (take words out) ≤ end) × (end ≤ length codeRun)
     attr-room room e = (
-      omega (arith, ap length (g .coded), attr-words f (top .paths) (g .after) (g .extended), top-good held .few-nodes),
+      omega (arith, length-take-le words out (g .in-out), g .few-words, grown-nodes f (top .paths), top-good held .few-nodes),
       omega (arith, below-held held .layout .in-code),
     )
 

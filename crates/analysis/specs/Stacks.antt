@@ -55,6 +55,10 @@ pub record Holding (code tries : List ℕ) (stack : Stack) : Type 0 where
   pub tries-room : 1025 ≤ stack .tries
   pub few-words : length code < 2 ^ 53
 
+-- words that hold a result's paths, as long as those may be beside the run that they come from
+abbrev pub Scratch : List ℕ → List ℕ → Type 0
+Scratch code paths = (n : ℕ) → n ≤ length code → n ≤ 6656 → n ≤ length paths
+
 -- what a step gives is what its definition answers, at any line
 pub record Reached (answer : ℕ → Answer (List Result)) (code tries : List ℕ) (stack : Stack) : Type 0 where
   pub after : List Result

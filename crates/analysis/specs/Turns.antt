@@ -1,5 +1,5 @@
 -- What one turn of a walk over wrapped paths does, head by head.
-use Prim.Native.Nat.{ℕ, _+_, _*_, _≤_}
+use Prim.Native.Nat.{ℕ, _+_, _≤_}
 use mathlib.Core.Path.{_≡_}
 use mathlib.Core.Bool.{Bool, true, false}
 use mathlib.Core.List.{List, [], _∷_, _++_}
@@ -13,12 +13,10 @@ use Rattle.rules.specs.Paths.{
   RecordLiteral,
   SetLiteral,
   Fields,
-  nodesOf,
-  pathsIn,
   fieldOf,
   fieldOr,
 }
-use Rattle.rules.specs.StepLaws.{AllPaths}
+use Rattle.rules.specs.StepLaws.{grownIn}
 use Rattle.manifest.specs.Writes.{Wrote}
 use Rattle.analysis.specs.declared.paths.WrappedAccessPaths.{WrappedAccessPaths}
 use Rattle.analysis.specs.declared.paths.WrappedAccessPaths.the-variants.{
@@ -31,7 +29,7 @@ use Rattle.analysis.specs.declared.paths.WrappedAccessPaths.the-variants
 use Rattle.analysis.specs.declared.paths.Moved.{Moved}
 use Rattle.analysis.specs.declared.paths.Turn.{Turn}
 use Rattle.analysis.specs.declared.paths.Turn.the-variants.{Next, SetDereferenced}
-use Rattle.analysis.specs.Code.{wordFor, countIn, code}
+use Rattle.analysis.specs.Code.{wordFor, countIn, code, Result}
 
 -- the place of a head, if it is that of a path
 abbrev pub placesFor : WrappedAccessPaths → ℕ → List ℕ
@@ -109,13 +107,17 @@ isSet (Union left right) = false
 isSet (RecordLiteral fields) = false
 isSet (SetLiteral elements) = true
 
--- wrapped paths stand there, and there is room for what `attr` makes of them
-pub record Room (words : List ℕ) (at : ℕ) (out : List ℕ) (to : ℕ) : Type 0 where
+-- wrapped paths stand there, and there is room for what `attr` makes of them: a word more for each path that gains the field
+pub record Room (words : List ℕ) (at f : ℕ) (out : List ℕ) (to : ℕ) : Type 0 where
   pub paths : Paths
   pub rest : List ℕ
   pub coded : drop at words ≡ code paths ++ rest
-  pub good-paths : AllPaths (pathsIn paths)
-  pub fits : to + 26 * nodesOf paths ≤ length out
+  pub fits : to + (length (code paths) + length (grownIn f paths)) ≤ length out
+
+-- and they are those of a result
+pub record Growing (words : List ℕ) (at f : ℕ) (out : List ℕ) : Type 0 where
+  pub result : Result words at
+  pub fits : length (code (result .paths)) + length (grownIn f (result .paths)) ≤ length out
 
 abbrev pub TurnedBy : ℕ → Paths → ℕ → List ℕ → ℕ → List ℕ → Turn → Type 0
 TurnedBy f paths at out to out′ (Next moved) = (isSet paths ≡ false) × Took at (readAt paths) out to (writtenFor f paths) out′ moved

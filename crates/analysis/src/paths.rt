@@ -6,7 +6,7 @@ ghost use Prim.Native.Nat.{_+_, _^_, _<_, _≤_};
 ghost use lib.ListN.{length, getD};
 ghost use Rattle.manifest.specs.Writes.{Wrote};
 ghost use Rattle.analysis.specs.Code.{headOf, wordFor, sizeOf, wrapsOf, placeOf, Standing, Measures, Result, FoundAt, ExtendedAt};
-ghost use Rattle.analysis.specs.Turns.{placesFor, Noted, sidesOf, Took, Gained, Literal, FieldTaken, Room, Turned};
+ghost use Rattle.analysis.specs.Turns.{placesFor, Noted, sidesOf, Took, Gained, Literal, FieldTaken, Room, Growing, Turned};
 
 // What a head says: a path has so many steps behind it, a record so many names and then as many fields.
 pub enum WrappedAccessPaths {
@@ -273,7 +273,7 @@ fn extend(
     out: &mut [u64],
     to: usize,
 ) -> Turn
-    requires { ⌜ Room (now code) at (now out) to × (head ≡ headOf (getD (now code) at 0)) ⌝ }
+    requires { ⌜ Room (now code) at name (now out) to × (head ≡ headOf (getD (now code) at 0)) ⌝ }
     ensures { λ r. ⌜ Turned (now (code .entry)) at name (now (out .entry)) to (now (out .exit)) r ⌝ }
 {
     match head {
@@ -307,7 +307,7 @@ pub fn get_or_has_attr(
     out: &mut [u64],
     places: &mut [u64],
 ) -> Extended
-    requires { ⌜ Result (now code) at × ((length (now out) ≡ 6656) × (length (now places) ≡ 256)) ⌝ }
+    requires { ⌜ Growing (now code) at name (now out) × (length (now places) ≡ 256) ⌝ }
     ensures { λ r. ⌜ ExtendedAt (now (code .entry)) at name (now (out .exit)) (now (places .exit)) r ⌝ }
 {
     let mut from = at;

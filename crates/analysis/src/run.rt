@@ -11,7 +11,7 @@ ghost use Rattle.rules.specs.TypeLaws.{typesIn};
 ghost use Rattle.trie.specs.States.{holding, storing};
 ghost use Rattle.schema.specs.Items.{itemsOf, goodItems};
 ghost use Rattle.analysis.specs.Tables.{Tabled};
-ghost use Rattle.analysis.specs.Stacks.{TrieAt, trieWords};
+ghost use Rattle.analysis.specs.Stacks.{TrieAt, trieWords, Scratch};
 ghost use Rattle.analysis.specs.Outcomes.{analyseIn, RanBy, AnsweredBy, FullBy};
 use crate::paths::WrappedAccessPaths;
 use crate::stack::Stack;
@@ -39,7 +39,7 @@ enum Answered {
     Full,
 }
 
-// Runs all lines of a text.
+// Runs all lines of a text; `paths` is scratch.
 fn run(
     words: &[u64],
     table: &[u64],
@@ -47,13 +47,13 @@ fn run(
     text: &[u8],
     code: &mut [u64],
     tries: &mut [u64],
+    paths: &mut [u64],
 ) -> Ran
     requires { ⌜ (goodItems (now words) ≡ true) × (Tabled (now words) (now table) types × (types ≡ typesIn (itemsOf (now words)))) ⌝ }
-    requires { ⌜ length (now code) < 2 ^ 53 ⌝ }
+    requires { ⌜ (length (now code) < 2 ^ 53) × Scratch (now code) (now paths) ⌝ }
     ensures { λ r. ⌜ RanBy (itemsOf (now (words .entry))) (now (text .entry)) (now (code .exit)) (now (tries .exit)) r ⌝ }
 {
     let mut names = [0u64; Step::NAMES];
-    let mut paths = [0u64; WrappedAccessPaths::WORDS];
     let mut stack = Stack::new(code.len(), tries.len());
     let mut at = 0;
     let mut line: u64 = 0;
@@ -68,17 +68,7 @@ fn run(
             return Ran::Refused(1, line);
         };
         let step = parse(&text[at..end], &mut names);
-        let stepped = apply(
-            step,
-            &names,
-            words,
-            table,
-            types,
-            code,
-            tries,
-            &mut paths,
-            stack,
-        );
+        let stepped = apply(step, &names, words, table, types, code, tries, paths, stack);
         match stepped {
             Stepped::Next(next) => {
                 stack = next;
@@ -106,7 +96,7 @@ fn write_contribution(request: u64, tries: &[u64], at: usize, out: &mut [u64])
     crate::paths::copy_words(&tries[first..end], out, 2);
 }
 
-// The answer to a step text by a stack in two runs of any length.
+// The answer to a step text by a stack in two runs of any length; `paths` is scratch.
 fn answer_in(
     words: &[u64],
     table: &[u64],
@@ -116,13 +106,14 @@ fn answer_in(
     out: &mut [u64],
     code: &mut [u64],
     tries: &mut [u64],
+    paths: &mut [u64],
 ) -> Answered
     requires { ⌜ (goodItems (now words) ≡ true) × (Tabled (now words) (now table) types × (types ≡ typesIn (itemsOf (now words)))) ⌝ }
     requires { ⌜ (request < 2 ^ 48) × (1026 ≤ length (now out)) ⌝ }
-    requires { ⌜ length (now code) < 2 ^ 53 ⌝ }
+    requires { ⌜ (length (now code) < 2 ^ 53) × Scratch (now code) (now paths) ⌝ }
     ensures { λ r. ⌜ AnsweredBy (itemsOf (now (words .entry))) request (now (text .entry)) (now (out .entry)) (now (out .exit)) r × FullBy (now (code .entry)) (now (tries .entry)) r ⌝ }
 {
-    match run(words, table, types, text, code, tries) {
+    match run(words, table, types, text, code, tries, paths) {
         Ran::Full => Answered::Full,
         Ran::Refused(number, line) => Answered::Reply(Reply::Refused(number, line)),
         Ran::Stack(stack, lines) => {
@@ -150,6 +141,7 @@ fn answer_small(
 {
     let mut code = [0u64; Stack::SMALL_CODE];
     let mut tries = [0u64; Stack::SMALL_TRIES];
+    let mut paths = [0u64; Stack::SMALL_CODE];
     answer_in(
         words,
         table,
@@ -159,6 +151,7 @@ fn answer_small(
         out,
         &mut code,
         &mut tries,
+        &mut paths,
     )
 }
 
@@ -177,6 +170,7 @@ fn answer_large(
 {
     let mut code = [0u64; Stack::CODE];
     let mut tries = [0u64; Stack::TRIES];
+    let mut paths = [0u64; WrappedAccessPaths::WORDS];
     match answer_in(
         words,
         table,
@@ -186,6 +180,7 @@ fn answer_large(
         out,
         &mut code,
         &mut tries,
+        &mut paths,
     ) {
         Answered::Reply(reply) => reply,
         Answered::Full => Reply::Refused(6, 0),

@@ -14,7 +14,7 @@ ghost use Rattle.analysis.specs.Code.{AllWithin, pathsAt};
 ghost use Rattle.analysis.specs.Nodes.{IsState, Became, anyDeep};
 ghost use Rattle.analysis.specs.Lines.{stepRead, namesOf, GoodRead};
 ghost use Rattle.analysis.specs.Tables.{Tabled};
-ghost use Rattle.analysis.specs.Stacks.{Holding, StepsBy, WrapsBy, ReplacedBy, ancestorsRequired};
+ghost use Rattle.analysis.specs.Stacks.{Holding, Scratch, StepsBy, WrapsBy, ReplacedBy, ancestorsRequired};
 use crate::full::Required;
 use crate::full::add_taken;
 use crate::full::full_type_required;
@@ -89,7 +89,7 @@ impl EntityManifestAnalysisResult {
         paths: &mut [u64],
         stack: Stack,
     ) -> Stepped
-        requires { ⌜ Holding (now code) (now tries) stack × ((name < 65536) × (length (now paths) ≡ 6656)) ⌝ }
+        requires { ⌜ Holding (now code) (now tries) stack × ((name < 65536) × Scratch (now code) (now paths)) ⌝ }
         ensures { λ r. ⌜ StepsBy (λ place results. attrStep place name results) (now (code .entry)) (now (tries .entry)) stack (now (code .exit)) (now (tries .exit)) r ⌝ }
     {
         if stack.results == 0 {
@@ -356,7 +356,7 @@ pub fn apply(
 ) -> Stepped
     requires { ⌜ (goodItems (now words) ≡ true) × (Tabled (now words) (now table) types × (types ≡ typesIn (itemsOf (now words)))) ⌝ }
     requires { ⌜ (namesOf step ≤ 32) × ((length (now names) ≡ 32) × GoodRead step) ⌝ }
-    requires { ⌜ Holding (now code) (now tries) stack × (length (now paths) ≡ 6656) ⌝ }
+    requires { ⌜ Holding (now code) (now tries) stack × Scratch (now code) (now paths) ⌝ }
     ensures { λ r. ⌜ StepsBy (λ place results. steppedBy (itemsOf (now (words .entry))) place (stepRead step (now (names .entry))) results) (now (code .entry)) (now (tries .entry)) stack (now (code .exit)) (now (tries .exit)) r ⌝ }
 {
     match step {

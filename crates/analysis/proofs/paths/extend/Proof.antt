@@ -31,7 +31,7 @@ enum-known-head-2 : tie.Need-enum-known-head-2
 enum-known-head-2 c = search needs
 
 take-field-requires : tie.Need-take-field-requires
-take-field-requires c κs = room-literal (c .before .before .before .before .before .before .pre .0) (c .before .before .head2 .given .0 .0) (c .before .before .before .before .before .before .args .name) (sym (c .before .before .before .before .before .before .pre .1) ∙ c .before .before .head2 .given .1)
+take-field-requires c κs = room-literal (c .before .before .before .before .before .before .pre .0) (c .before .before .head2 .given .0 .0) (sym (c .before .before .before .before .before .before .pre .1) ∙ c .before .before .head2 .given .1)
 
 same-length : tie.Need-same-length
 same-length c = c .before .before .keep-head .kept .1 .1 .0

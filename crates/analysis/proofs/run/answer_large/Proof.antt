@@ -13,8 +13,11 @@ slice-aggregate-answer-in c = search needs
 slice-aggregate-answer-in-2 : tie.Need-slice-aggregate-answer-in-2
 slice-aggregate-answer-in-2 c = search needs
 
+slice-aggregate-answer-in-3 : tie.Need-slice-aggregate-answer-in-3
+slice-aggregate-answer-in-3 c = search needs
+
 answer-in-requires : tie.Need-answer-in-requires
-answer-in-requires c κs = (c .before .before .before .before .before .before .before .pre .0, (c .before .before .before .before .before .before .before .pre .1, omega (arith, length-replicate {A = ℕ} 212448 0)))
+answer-in-requires c κs = (c .before .before .before .before .before .before .before .before .pre .0, (c .before .before .before .before .before .before .before .before .pre .1, (omega (arith, length-replicate {A = ℕ} 212448 0), λ n in-code few. omega (arith, length-replicate {A = ℕ} 6656 0))))
 
 enum-known-reply : tie.Need-enum-known-reply
 enum-known-reply c = search needs
@@ -26,14 +29,14 @@ same-length : tie.Need-same-length
 same-length c = search needs
 
 returns : tie.Need-returns
-returns c = (rw (c .before .reply .given .1) at (c .before .before .before .before .before .before .before .answer-in .ensures)) .0
+returns c = (rw (c .before .reply .given .1) at (c .before .before .before .before .before .before .before .before .answer-in .ensures)) .0
 
 same-length-2 : tie.Need-same-length-2
 same-length-2 c = search needs
 
 returns-2 : tie.Need-returns-2
 returns-2 c =
-    let answered = rw (c .enum-told .given .1) at (c .before .before .before .before .before .before .answer-in .ensures) in
+    let answered = rw (c .enum-told .given .1) at (c .before .before .before .before .before .before .before .answer-in .ensures) in
     absurd (answered .1 (length-replicate {A = ℕ} 212448 0) (length-replicate {A = ℕ} 33825 0))
 
 pub answer-large-spec : {M : Type 1} → statement M
@@ -42,6 +45,7 @@ answer-large-spec =
     (tie.spec
     slice-aggregate-answer-in
     slice-aggregate-answer-in-2
+    slice-aggregate-answer-in-3
     answer-in-requires
     enum-known-reply
     enum-told

@@ -13,14 +13,17 @@ slice-aggregate-answer-in c = search needs
 slice-aggregate-answer-in-2 : tie.Need-slice-aggregate-answer-in-2
 slice-aggregate-answer-in-2 c = search needs
 
+slice-aggregate-answer-in-3 : tie.Need-slice-aggregate-answer-in-3
+slice-aggregate-answer-in-3 c = search needs
+
 answer-in-requires : tie.Need-answer-in-requires
-answer-in-requires c κs = (c .before .before .before .before .before .before .before .pre .0, (c .before .before .before .before .before .before .before .pre .1, omega (arith, length-replicate {A = ℕ} 1280 0)))
+answer-in-requires c κs = (c .before .before .before .before .before .before .before .before .pre .0, (c .before .before .before .before .before .before .before .before .pre .1, (omega (arith, length-replicate {A = ℕ} 1280 0), λ n in-code few. in-code)))
 
 same-length : tie.Need-same-length
 same-length c = search needs
 
 returns : tie.Need-returns
-returns c = c .before .before .before .before .answer-in .ensures .0
+returns c = c .before .before .before .before .before .answer-in .ensures .0
 
 pub answer-small-spec : {M : Type 1} → statement M
 answer-small-spec =
@@ -28,6 +31,7 @@ answer-small-spec =
     (tie.spec
     slice-aggregate-answer-in
     slice-aggregate-answer-in-2
+    slice-aggregate-answer-in-3
     answer-in-requires
     same-length
     returns)

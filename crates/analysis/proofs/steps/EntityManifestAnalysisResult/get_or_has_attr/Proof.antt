@@ -8,7 +8,7 @@ use lib.Seq.{length-take-le}
 use Rattle.rules.specs.Steps.{Result}
 use Rattle.analysis.specs.Code.{codes, Grew}
 use Rattle.analysis.specs.Stacks.{pathsOf, Held}
-use Rattle.analysis.specs.StackLaws.{held-top, top-code, top-stands, top-standing, top-at, code-end, tries-end, tries-end-room, copied-top, attr-few, attr-set, attr-room, attr-too-deep, attr-paths, attr-rows, attr-done}
+use Rattle.analysis.specs.StackLaws.{held-top, top-code, top-standing, top-at, code-end, tries-end, tries-end-room, copied-top, attr-few, attr-grows, attr-set, attr-room, attr-too-deep, attr-paths, attr-rows, attr-done}
 use borrow.Author.Needs.{needs}
 use Rattle.analysis.proofs.steps.EntityManifestAnalysisResult.get_or_has_attr.Statement.{statement}
 use Rattle.analysis.proofs.steps.EntityManifestAnalysisResult.get_or_has_attr.Tie as tie
@@ -45,7 +45,7 @@ get-or-has-attr-requires : tie.Need-get-or-has-attr-requires
 get-or-has-attr-requires c κs =
     let start = c .before .before .before .before .before .before .before .before in
     let (top, rest, same, held) = topped (c .before .before .before) (start .pre .0 .results) (start .pre .0 .held) in
-    (top-stands held, (start .pre .1 .1, refl))
+    (attr-grows held (start .args .name) (start .pre .0 .code-room) (start .pre .1 .1), refl)
 
 enum-known-words : tie.Need-enum-known-words
 enum-known-words c = search needs
