@@ -24,7 +24,7 @@ use lib.Seq.{
   take-length,
   take-at,
 }
-use Rattle.text.proofs.Laws.{sets-snoc}
+use Rattle.rules.specs.SeqLaws.{sets-snoc}
 use Rattle.rules.specs.Listing.{_>>=_}
 use Rattle.rules.specs.Paths.{
   Path,

@@ -8,8 +8,7 @@ use mathlib.Core.Path.{_≡_, refl, sym, ap, _∙_}
 use mathlib.Core.List.{List, [], _∷_, _++_, append-assoc, append-nil}
 use borrow.Author.Tests.{eq-eqb, ne-eqb}
 use lib.ListN.{length, take, drop, getD, set, length-append, length-drop, length-set, drop-of-length-le}
-use lib.Seq.{sets, drop-drop, getD-drop, take-append-seam, drop-append-seam, drop-cons, take-suc, take-suc-set, length-take-le}
-use Rattle.text.proofs.Laws.{sets-snoc}
+use lib.Seq.{drop-drop, getD-drop, take-append-seam, drop-append-seam, drop-cons, take-suc-set, length-take-le}
 use Rattle.rules.specs.Paths.{Path, Paths, Empty, AccessPath, Union, RecordLiteral, SetLiteral, Fields, noField, field, nodesOf, nodesOfFields, pathsIn, pathsInFields}
 use Rattle.analysis.specs.declared.paths.WrappedAccessPaths.{WrappedAccessPaths}
 use Rattle.analysis.specs.declared.paths.WrappedAccessPaths.the-variants.{
@@ -386,13 +385,6 @@ module _ {names : List ℕ} {name i : ℕ} (o : Others names name i) where
       so-many = omega arith;
       same-place = o .same-place ∙ rw (drop-cons names i 0 h, ne-eqb (getD names i 0) name e, add-one) (omega arith);
     }
-
--- one more word is copied
-pub copied-next :
-    (words out : List ℕ) (to i : ℕ) → i < length words → set (sets out to (take i words)) (to + i) (getD words i 0) ≡ sets out to (take (i + 1) words)
-copied-next words out to i h =
-    let place : length (take i words) ≡ i = length-take-le i words (omega arith) in
-    rw (add-one, take-suc words i 0 h, sets-snoc out to (take i words) (getD words i 0), place)
 
 -- ---- noting paths
 

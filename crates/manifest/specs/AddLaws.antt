@@ -3,18 +3,15 @@ use Prim.Native.Nat.{ℕ, _+_, _≤_, _<_}
 use mathlib.Core.Path.{_≡_, refl, sym, ap, _∙_}
 use mathlib.Core.Bool.{true, false}
 use mathlib.Core.List.{List, _∷_, map}
-use native.Mathlib.Nat.{zero-add}
-use native.Mathlib.Numerals.{add-one}
 use native.Mathlib.Omega.{arith}
 use borrow.Author.Tests.{le-leb, lt-leb}
 use lib.ListN.{length, take, drop, getD, set, length-map}
-use lib.Seq.{sets, sets-eq, take-append-seam, take-suc, getD-take, length-take-le}
+use lib.Seq.{sets, sets-eq, take-append-seam, getD-take}
 use Rattle.rules.specs.Numbers.{Answer, accepted, refused}
 use Rattle.rules.specs.Tries.{Row, manifest, contribution, entriesIn, nodesIn, union}
 use Rattle.rules.specs.Facts.{compared}
 use Rattle.rules.specs.Building.{add}
 use Rattle.rules.specs.Demand3.{refused-exactly}
-use Rattle.text.proofs.Laws.{sets-snoc}
 use Rattle.trie.specs.Words.{wordOf}
 use Rattle.trie.specs.States.{rowsIn, lawfulState, holding, refusing, storing}
 use Rattle.trie.specs.StateLaws.{all-rows}
@@ -26,12 +23,6 @@ use Rattle.manifest.specs.Outcomes.{emptyIn, addIn}
 -- what was stored from the start on is what stands there
 pub taken-back : (l xs : List ℕ) → length xs ≤ length l → take (length xs) (sets l 0 xs) ≡ xs
 taken-back l xs h = rw (sets-eq xs l 0 (omega arith)) (take-append-seam xs (drop (0 + length xs) l))
-
--- one more element is copied
-pub copied-more : (from to : List ℕ) (i : ℕ) → i < length from → set (sets to 0 (take i from)) i (getD from i 0) ≡ sets to 0 (take (i + 1) from)
-copied-more from to i h =
-    let place : 0 + length (take i from) ≡ i = zero-add (length (take i from)) ∙ length-take-le i from (omega arith) in
-    rw (add-one, take-suc from i 0 h, sets-snoc to 0 (take i from) (getD from i 0), place)
 
 -- ---- an empty manifest
 

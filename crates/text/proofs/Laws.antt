@@ -10,8 +10,8 @@ use mathlib.Core.Option.{Option, none, some}
 use mathlib.Core.Path.{_≡_, refl, sym, ap, _∙_}
 use borrow.Author.Tests.{eqb-true, eqb-false, eq-eqb, ne-eqb}
 use lib.Dec.{eqb}
-use lib.ListN.{length, getD, take, drop, set, drop-of-length-le, length-append, length-drop}
-use lib.Seq.{drop-cons, drop-drop, take-append-seam, drop-append-add, sets}
+use lib.ListN.{length, getD, take, drop, drop-of-length-le, length-append, length-drop}
+use lib.Seq.{drop-cons, drop-drop, take-append-seam, drop-append-add}
 use Rattle.rules.specs.Text.{parted, onto, linesOf, fieldsOf, decimalOf, decimal, LF, TAB}
 use Rattle.rules.specs.TextLaws.{Free, free-empty, free-more, parted-free, parted-first, parted-some, parted-split, decimal-written}
 use Rattle.rules.specs.Facts.{by-option}
@@ -209,13 +209,6 @@ module _ (b : ℕ) (s : List ℕ) (at : ℕ) {r : Number} (ensured : r ≡ numbe
       let read : BadNumber ≡ Of n (at + length part) =
       sym bad ∙ ensured ∙ ap (firstNumber decimalOf at) q ∙ ap (ending (at + length part)) e in
       absurd (let z : _≡_ {A = ℕ} 0 1 = cc in omega arith))
-
--- ---- a run of stores
-
--- one more value goes to the place after the others
-pub sets-snoc : (l : List ℕ) (i : ℕ) (xs : List ℕ) (v : ℕ) → sets l i (xs ++ (v ∷ [])) ≡ set (sets l i xs) (i + length xs) v
-sets-snoc l i [] v = rw add-zero
-sets-snoc l i (x ∷ xs) v = sets-snoc (set l i x) (suc i) xs v ∙ rw (suc-add, ← add-suc)
 
 -- ---- a field that is one letter
 

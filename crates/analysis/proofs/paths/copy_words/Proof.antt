@@ -5,7 +5,7 @@ use native.Mathlib.Omega.{arith}
 use mathlib.Core.Path.{_≡_, refl, ap, _∙_}
 use lib.ListN.{length, take}
 use lib.Seq.{sets, length-sets, take-length}
-use Rattle.analysis.specs.CodeLaws.{copied-next}
+use Rattle.rules.specs.SeqLaws.{copied-next}
 use borrow.Author.Needs.{needs}
 use Rattle.analysis.proofs.paths.copy_words.Statement.{statement}
 use Rattle.analysis.proofs.paths.copy_words.Tie as tie

@@ -1,11 +1,12 @@
 -- `manifest::add::copy_rows` meets its contract: the first i words are copied.
 use Prim.Native.Nat.{_+_, _-_, _≤_}
 use mathlib.Core.Path.{_≡_, refl, ap, _∙_}
+use native.Mathlib.Nat.{zero-add}
 use native.Mathlib.Omega.{arith}
 use borrow.Author.Needs.{needs}
 use lib.ListN.{length, take, getD}
 use lib.Seq.{sets, length-sets}
-use Rattle.manifest.specs.AddLaws.{copied-more}
+use Rattle.rules.specs.SeqLaws.{copied-next}
 use Rattle.manifest.proofs.add.copy_rows.Statement.{statement}
 use Rattle.manifest.proofs.add.copy_rows.Tie as tie
 
@@ -50,7 +51,7 @@ loop-again : tie.Need-loop-again Inv-loop μ-loop
 loop-again c =
     let inv = c .before .before .loop .inv in
     let start = c .before .before .before .before in
-    (omega (arith, c .before .loop-test .taken), rw (inv .1) (copied-more (start .args .from .now) (start .args .to .now) (c .before .before .loop .i) (omega (arith, c .before .loop-test .taken, start .pre))))
+    (omega (arith, c .before .loop-test .taken), rw (inv .1) (rw zero-add at (copied-next (start .args .from .now) (start .args .to .now) 0 (c .before .before .loop .i) (omega (arith, c .before .loop-test .taken, start .pre)))))
 
 same-length : tie.Need-same-length Inv-loop μ-loop
 same-length c = kept (c .before)
