@@ -259,10 +259,16 @@ copied {words} {out} {out′} {place} {end} t long ends w =
           (ap rowsOf (sym (trie-rows words (t .rest) place trie (t .there)) ∙ trie-rows words rest place other there) ∙ trie-words other good .0),
     )
 
--- no rows yet
-pub zero-state : IsState (replicate 1026 0)
+-- a state whose count is 0 has no rows
+no-words : (state : List ℕ) → getD state 0 0 ≡ 0 → wordsIn state ≡ []
+no-words state zero = ap (λ (count : ℕ). take count (drop 1 state)) zero
+
+empty-state : (state : List ℕ) → length state ≡ 1026 → getD state 0 0 ≡ 0 → IsState state
 unfolding allNodes
-zero-state = record { state-length = length-replicate {A = ℕ} 1026 0; few-rows = omega arith; nodes = refl }
+empty-state state long zero = record { state-length = long; few-rows = omega arith; nodes = ap allNodes (no-words state zero) }
+
+pub zero-state : IsState (replicate 1026 0)
+zero-state = empty-state (replicate 1026 0) (length-replicate {A = ℕ} 1026 0) refl
 
 -- ---- words that are put before a place
 
@@ -547,11 +553,16 @@ module _ {words : List ℕ} {end left : ℕ} (ready : Ready words end left) (mor
           }
 
 -- before the first
-pub going-first : (words : List ℕ) (place count : ℕ) → TriesAt words place count → Going words place count (replicate 1026 0) place 0
-going-first words place count t = record {
+pub going-first :
+    (words : List ℕ) (place count : ℕ) (state : List ℕ)
+    → TriesAt words place count
+    → length state ≡ 1026
+    → getD state 0 0 ≡ 0
+    → Going words place count state place 0
+going-first words place count state t long zero = record {
   most = omega arith;
   inside = omega (arith, at-within (next-at ready (omega (arith, t .some-trie))));
-  is = zero-state;
+  is = empty-state state long zero;
   ready = ready;
   room = omega arith;
   merging = λ tries rest many good there. record {
@@ -559,7 +570,7 @@ going-first words place count t = record {
     as-many = omega arith;
     there = there;
     good = good;
-    same = refl;
+    same = ap (λ (trie : List Row). merged trie tries) (ap rowsOf (no-words state zero));
   };
 }
   where

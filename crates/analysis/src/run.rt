@@ -19,6 +19,7 @@ use crate::stack::Stepped;
 use crate::step::Step;
 use crate::step::parse;
 use crate::steps::apply;
+use crate::tries::TRIE;
 use crate::types::TypeSize;
 use crate::types::fill_table;
 use text::Line;
@@ -54,6 +55,7 @@ fn run(
     ensures { λ r. ⌜ RanBy (itemsOf (now (words .entry))) (now (text .entry)) (now (code .exit)) (now (tries .exit)) r ⌝ }
 {
     let mut names = [0u64; Step::NAMES];
+    let mut trie = [0u64; TRIE];
     let mut stack = Stack::new(code.len(), tries.len());
     let mut at = 0;
     let mut line: u64 = 0;
@@ -68,7 +70,18 @@ fn run(
             return Ran::Refused(1, line);
         };
         let step = parse(&text[at..end], &mut names);
-        let stepped = apply(step, &names, words, table, types, code, tries, paths, stack);
+        let stepped = apply(
+            step,
+            &names,
+            words,
+            table,
+            types,
+            code,
+            tries,
+            paths,
+            &mut trie,
+            stack,
+        );
         match stepped {
             Stepped::Next(next) => {
                 stack = next;

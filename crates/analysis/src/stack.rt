@@ -8,7 +8,6 @@ ghost use Rattle.analysis.specs.Nodes.{IsState};
 ghost use Rattle.analysis.specs.Stacks.{Holding, Layout, Placed, TrieAt, CopiedFrom, trieWords, Pushed, TriesAt, MergedFrom};
 use crate::paths::WrappedAccessPaths;
 use crate::paths::copy_words;
-use crate::tries::TRIE;
 use crate::tries::union_into;
 
 // Where the top stands in either run, and how many results there are.
@@ -109,20 +108,21 @@ pub fn push(paths: &[u64], code: &mut [u64], tries: &mut [u64], stack: Stack) ->
 }
 
 // Merges the tries of the top results into one, and answers where it begins, or the length of `tries` where it has too many nodes.
-pub fn merge_tries(tries: &mut [u64], at: usize, count: u64) -> usize
-    requires { ⌜ TriesAt (now tries) at count ⌝ }
+// `merged` is scratch.
+pub fn merge_tries(tries: &mut [u64], at: usize, count: u64, merged: &mut [u64]) -> usize
+    requires { ⌜ TriesAt (now tries) at count × (length (now merged) ≡ 1026) ⌝ }
     ensures { λ r. ⌜ MergedFrom (now (tries .entry)) at count (now (tries .exit)) r ⌝ }
 {
-    let mut merged = [0u64; TRIE];
+    merged[0] = 0;
     let mut end = at;
     let mut i = 0;
     while i < count {
         let first = end + 1;
         end = trie_end(tries, end);
-        if !union_into(&mut merged, &tries[first..end]) {
+        if !union_into(merged, &tries[first..end]) {
             return tries.len();
         }
         i += 1;
     }
-    put_trie(&merged, tries, end)
+    put_trie(merged, tries, end)
 }

@@ -81,15 +81,16 @@ impl EntityManifestAnalysisResult {
     }
 
     // `get_or_has_attr`, and `restore_global_trie_invariant` for the paths that gained the field: the others are in the trie.
-    // `paths` is scratch.
+    // `paths` and `trie` are scratch.
     pub fn get_or_has_attr(
         name: u64,
         code: &mut [u64],
         tries: &mut [u64],
         paths: &mut [u64],
+        trie: &mut [u64],
         stack: Stack,
     ) -> Stepped
-        requires { ⌜ Holding (now code) (now tries) stack × ((name < 65536) × Scratch (now code) (now paths)) ⌝ }
+        requires { ⌜ Holding (now code) (now tries) stack × ((name < 65536) × (Scratch (now code) (now paths) × (length (now trie) ≡ 1026))) ⌝ }
         ensures { λ r. ⌜ StepsBy (λ place results. attrStep place name results) (now (code .entry)) (now (tries .entry)) stack (now (code .exit)) (now (tries .exit)) r ⌝ }
     {
         if stack.results == 0 {
@@ -108,10 +109,9 @@ impl EntityManifestAnalysisResult {
         if is_too_deep(paths, &places[..grown], 0) {
             return Stepped::Refused(3);
         }
-        let mut trie = [0u64; TRIE];
-        copy_trie(tries, stack.tries, &mut trie);
+        copy_trie(tries, stack.tries, trie);
         if !EntityManifestAnalysisResult::restore_global_trie_invariant(
-            &mut trie,
+            trie,
             paths,
             &places[..grown],
         ) {
@@ -121,21 +121,21 @@ impl EntityManifestAnalysisResult {
         let tries_end = trie_end(tries, stack.tries);
         Stepped::Next(Stack {
             code: put_before(&paths[..words], code, code_end),
-            tries: put_trie(&trie, tries, tries_end),
+            tries: put_trie(trie, tries, tries_end),
             results: stack.results,
         })
     }
 
-    // `union`: tries merged, paths joined.
-    pub fn union(code: &mut [u64], tries: &mut [u64], stack: Stack) -> Stepped
-        requires { ⌜ Holding (now code) (now tries) stack ⌝ }
+    // `union`: tries merged, paths joined; `trie` is scratch.
+    pub fn union(code: &mut [u64], tries: &mut [u64], trie: &mut [u64], stack: Stack) -> Stepped
+        requires { ⌜ Holding (now code) (now tries) stack × (length (now trie) ≡ 1026) ⌝ }
         ensures { λ r. ⌜ StepsBy (λ place results. twoStep unionResults place results) (now (code .entry)) (now (tries .entry)) stack (now (code .exit)) (now (tries .exit)) r ⌝ }
     {
         if stack.results < 2 {
             return Stepped::Refused(6);
         }
         let head = [WrappedAccessPaths::Union.word()];
-        wrap(&head, 2, code, tries, stack)
+        wrap(&head, 2, code, tries, trie, stack)
     }
 
     // `empty_paths`
@@ -155,7 +155,7 @@ impl EntityManifestAnalysisResult {
         })
     }
 
-    // `full_type_required`: every path takes the trie of its type as leaf.
+    // `full_type_required`: every path takes the trie of its type as leaf; `trie` is scratch.
     pub fn full_type_required(
         t: u64,
         words: &[u64],
@@ -163,10 +163,11 @@ impl EntityManifestAnalysisResult {
         types: u64,
         code: &mut [u64],
         tries: &mut [u64],
+        trie: &mut [u64],
         stack: Stack,
     ) -> Stepped
         requires { ⌜ (goodItems (now words) ≡ true) × (Tabled (now words) (now table) types × (types ≡ typesIn (itemsOf (now words)))) ⌝ }
-        requires { ⌜ Holding (now code) (now tries) stack ⌝ }
+        requires { ⌜ Holding (now code) (now tries) stack × (length (now trie) ≡ 1026) ⌝ }
         ensures { λ r. ⌜ StepsBy (λ place results. fullStep (itemsOf (now (words .entry))) t place results) (now (code .entry)) (now (tries .entry)) stack (now (code .exit)) (now (tries .exit)) r ⌝ }
     {
         if types <= t {
@@ -191,13 +192,12 @@ impl EntityManifestAnalysisResult {
         if is_any_too_deep(code, table, &pairs[..count]) {
             return Stepped::Refused(3);
         }
-        let mut trie = [0u64; TRIE];
-        copy_trie(tries, stack.tries, &mut trie);
-        if !add_taken(&mut trie, code, words, table, &pairs[..count]) {
+        copy_trie(tries, stack.tries, trie);
+        if !add_taken(trie, code, words, table, &pairs[..count]) {
             return Stepped::Refused(4);
         }
         let tries_end = trie_end(tries, stack.tries);
-        replace(&trie, code, code_end, tries, tries_end, stack.results)
+        replace(trie, code, code_end, tries, tries_end, stack.results)
     }
 
     // `with_ancestors_required`: merges the paths at some places, with the ancestor trie of the right side's paths below each, into a trie, and
@@ -225,16 +225,24 @@ impl EntityManifestAnalysisResult {
     }
 }
 
-// Wraps the top results under a head: their tries are merged.
-fn wrap(head: &[u64], count: u64, code: &mut [u64], tries: &mut [u64], stack: Stack) -> Stepped
+// Wraps the top results under a head: their tries are merged; `trie` is scratch.
+fn wrap(
+    head: &[u64],
+    count: u64,
+    code: &mut [u64],
+    tries: &mut [u64],
+    trie: &mut [u64],
+    stack: Stack,
+) -> Stepped
     requires { ⌜ Holding (now code) (now tries) stack × ((0 < count) × ((count ≤ stack .results) × (length (now head) ≤ count + 1))) ⌝ }
+    requires { ⌜ length (now trie) ≡ 1026 ⌝ }
     ensures { λ r. ⌜ WrapsBy (now (head .entry)) count (now (code .entry)) (now (tries .entry)) stack (now (code .exit)) (now (tries .exit)) r ⌝ }
 {
     let wrapped = measure(code, stack.code, count as usize);
     if WrappedAccessPaths::NODES <= wrapped.nodes {
         return Stepped::Refused(15);
     }
-    let merged = merge_tries(tries, stack.tries, count);
+    let merged = merge_tries(tries, stack.tries, count, trie);
     if merged == tries.len() {
         return Stepped::Refused(4);
     }
@@ -245,26 +253,29 @@ fn wrap(head: &[u64], count: u64, code: &mut [u64], tries: &mut [u64], stack: St
     })
 }
 
-fn set_step(code: &mut [u64], tries: &mut [u64], stack: Stack) -> Stepped
-    requires { ⌜ Holding (now code) (now tries) stack ⌝ }
+// A set literal of the top result; `trie` is scratch.
+fn set_step(code: &mut [u64], tries: &mut [u64], trie: &mut [u64], stack: Stack) -> Stepped
+    requires { ⌜ Holding (now code) (now tries) stack × (length (now trie) ≡ 1026) ⌝ }
     ensures { λ r. ⌜ StepsBy (λ place results. setStep place results) (now (code .entry)) (now (tries .entry)) stack (now (code .exit)) (now (tries .exit)) r ⌝ }
 {
     if stack.results == 0 {
         return Stepped::Refused(6);
     }
     let head = [WrappedAccessPaths::SetLiteral.word()];
-    wrap(&head, 1, code, tries, stack)
+    wrap(&head, 1, code, tries, trie, stack)
 }
 
-// A record literal of the top results; the names stand at the end of `names`, last first.
+// A record literal of the top results; the names stand at the end of `names`, last first; `trie` is scratch.
 fn rec_step(
     count: usize,
     names: &[u64],
     code: &mut [u64],
     tries: &mut [u64],
+    trie: &mut [u64],
     stack: Stack,
 ) -> Stepped
     requires { ⌜ Holding (now code) (now tries) stack × ((count ≤ 32) × (length (now names) ≡ 32)) ⌝ }
+    requires { ⌜ length (now trie) ≡ 1026 ⌝ }
     ensures { λ r. ⌜ StepsBy (λ place results. recStep (drop (32 - count) (now (names .entry))) place results) (now (code .entry)) (now (tries .entry)) stack (now (code .exit)) (now (tries .exit)) r ⌝ }
 {
     if count == 0 {
@@ -278,7 +289,7 @@ fn rec_step(
     head[0] = WrappedAccessPaths::RecordLiteral(count).word();
     let first = Step::NAMES - count;
     let end = crate::paths::copy_words(&names[first..], &mut head, 1);
-    wrap(&head[..end], count as u64, code, tries, stack)
+    wrap(&head[..end], count as u64, code, tries, trie, stack)
 }
 
 // Puts a trie with empty paths in the place of results that end at two places.
@@ -302,9 +313,9 @@ fn replace(
     })
 }
 
-// `in`: the left side with the right side's ancestor trie, then both tries merged; no paths are left.
-fn in_step(code: &mut [u64], tries: &mut [u64], stack: Stack) -> Stepped
-    requires { ⌜ Holding (now code) (now tries) stack ⌝ }
+// `in`: the left side with the right side's ancestor trie, then both tries merged; no paths are left. `trie` is scratch.
+fn in_step(code: &mut [u64], tries: &mut [u64], trie: &mut [u64], stack: Stack) -> Stepped
+    requires { ⌜ Holding (now code) (now tries) stack × (length (now trie) ≡ 1026) ⌝ }
     ensures { λ r. ⌜ StepsBy (λ place results. twoStep inResult place results) (now (code .entry)) (now (tries .entry)) stack (now (code .exit)) (now (tries .exit)) r ⌝ }
 {
     if stack.results < 2 {
@@ -324,25 +335,24 @@ fn in_step(code: &mut [u64], tries: &mut [u64], stack: Stack) -> Stepped
     }
     let right_tries = stack.tries;
     let left_tries = trie_end(tries, right_tries);
-    let mut trie = [0u64; TRIE];
-    copy_trie(tries, left_tries, &mut trie);
+    copy_trie(tries, left_tries, trie);
     if !EntityManifestAnalysisResult::with_ancestors_required(
-        &mut trie,
+        trie,
         code,
         &left[..left_paths],
         &right[..right_paths],
     ) {
         return Stepped::Refused(4);
     }
-    if !union_into(&mut trie, &tries[right_tries + 1..left_tries]) {
+    if !union_into(trie, &tries[right_tries + 1..left_tries]) {
         return Stepped::Refused(4);
     }
     let code_end = measure(code, left_code, 1).end;
     let tries_end = trie_end(tries, left_tries);
-    replace(&trie, code, code_end, tries, tries_end, stack.results - 1)
+    replace(trie, code, code_end, tries, tries_end, stack.results - 1)
 }
 
-// One step on the stack; `paths` is scratch.
+// One step on the stack; `paths` and `trie` are scratch.
 pub fn apply(
     step: Step,
     names: &[u64],
@@ -352,11 +362,12 @@ pub fn apply(
     code: &mut [u64],
     tries: &mut [u64],
     paths: &mut [u64],
+    trie: &mut [u64],
     stack: Stack,
 ) -> Stepped
     requires { ⌜ (goodItems (now words) ≡ true) × (Tabled (now words) (now table) types × (types ≡ typesIn (itemsOf (now words)))) ⌝ }
     requires { ⌜ (namesOf step ≤ 32) × ((length (now names) ≡ 32) × GoodRead step) ⌝ }
-    requires { ⌜ Holding (now code) (now tries) stack × Scratch (now code) (now paths) ⌝ }
+    requires { ⌜ Holding (now code) (now tries) stack × (Scratch (now code) (now paths) × (length (now trie) ≡ 1026)) ⌝ }
     ensures { λ r. ⌜ StepsBy (λ place results. steppedBy (itemsOf (now (words .entry))) place (stepRead step (now (names .entry))) results) (now (code .entry)) (now (tries .entry)) stack (now (code .exit)) (now (tries .exit)) r ⌝ }
 {
     match step {
@@ -367,9 +378,10 @@ pub fn apply(
             code,
             tries,
             paths,
+            trie,
             stack,
         ),
-        Step::Union => EntityManifestAnalysisResult::union(code, tries, stack),
+        Step::Union => EntityManifestAnalysisResult::union(code, tries, trie, stack),
         Step::Drop => EntityManifestAnalysisResult::empty_paths(code, tries, stack),
         Step::Full(t) => EntityManifestAnalysisResult::full_type_required(
             t,
@@ -378,11 +390,12 @@ pub fn apply(
             types,
             code,
             tries,
+            trie,
             stack,
         ),
-        Step::In => in_step(code, tries, stack),
-        Step::Set => set_step(code, tries, stack),
-        Step::Rec(count) => rec_step(count, names, code, tries, stack),
+        Step::In => in_step(code, tries, trie, stack),
+        Step::Set => set_step(code, tries, trie, stack),
+        Step::Rec(count) => rec_step(count, names, code, tries, trie, stack),
         Step::Bad => Stepped::Refused(1),
     }
 }

@@ -5,7 +5,7 @@ use Prim.Native.Nat.{ℕ, _≤_, _<_, _-_}
 use native.Mathlib.Omega.{arith}
 use mathlib.Core.Path.{_≡_, refl, sym, _∙_}
 use mathlib.Core.Logic.{⊎-elim, inl, inr}
-use lib.ListN.{length}
+use lib.ListN.{length, length-replicate}
 use borrow.Author.Needs.{needs}
 use Rattle.text.proofs.Laws.{whole-within}
 use Rattle.text.specs.declared.Line.the-variants.{Whole}
@@ -14,12 +14,12 @@ use Rattle.analysis.proofs.run.run.Statement.{statement}
 use Rattle.analysis.proofs.run.run.Tie as tie
 
 abbrev Inv-loop : tie.InvT-loop
-Inv-loop words table types text code₀ tries₀ paths₀ names₀ stack₀ at₀ line₀ code tries paths names stack at line =
+Inv-loop words table types text code₀ tries₀ paths₀ names₀ trie₀ stack₀ at₀ line₀ code tries paths names trie stack at line =
     Running words text code tries stack at line
-    × (((length code ≡ length code₀) × ((length tries ≡ length tries₀) × (length paths ≡ length paths₀))) × (length names ≡ 32))
+    × (((length code ≡ length code₀) × ((length tries ≡ length tries₀) × (length paths ≡ length paths₀))) × ((length names ≡ 32) × (length trie ≡ 1026)))
 
 abbrev μ-loop : tie.MeasureT-loop
-μ-loop words table types text code₀ tries₀ paths₀ names₀ stack₀ at₀ line₀ code tries paths names stack at line = length text - at
+μ-loop words table types text code₀ tries₀ paths₀ names₀ trie₀ stack₀ at₀ line₀ code tries paths names trie stack at line = length text - at
 
 -- the LF that was found stands in the text
 within : (c : tie.After-end Inv-loop μ-loop) → (c .before .before .before .before .before .before .before .before .loop .at ≤ c .end .given .0 .0) × (c .end .given .0 .0 < length (c .before .before .before .before .before .before .before .before .before .before .before .before .before .before .before .before .args .text .now))
@@ -31,7 +31,7 @@ new-requires c κs = search needs
 loop-holds : tie.Need-loop-holds Inv-loop μ-loop
 loop-holds c =
     let start = c .before .before .before .before .before .before .before in
-    (running-none (start .args .words .now) (start .args .text .now) (start .args .code .now) (start .args .tries .now) (c .new .result) (c .new .ensures), ((refl, (refl, refl)), refl))
+    (running-none (start .args .words .now) (start .args .text .now) (start .args .code .now) (start .args .tries .now) (c .new .result) (c .new .ensures), ((refl, (refl, refl)), (refl, length-replicate {A = ℕ} 1026 0)))
 
 same-length : tie.Need-same-length Inv-loop μ-loop
 same-length c = c .before .before .before .loop .inv .1 .0 .0
@@ -87,25 +87,28 @@ part-parse-end : tie.Need-part-parse-end Inv-loop μ-loop
 part-parse-end c = omega (arith, within (c .before))
 
 slice-aggregate-parse : tie.Need-slice-aggregate-parse Inv-loop μ-loop
-slice-aggregate-parse c = sym (c .before .before .before .before .before .before .before .before .before .before .before .loop .inv .1 .1)
+slice-aggregate-parse c = sym (c .before .before .before .before .before .before .before .before .before .before .before .loop .inv .1 .1 .0)
 
 parse-requires : tie.Need-parse-requires Inv-loop μ-loop
-parse-requires c κs = c .before .before .before .before .before .before .before .before .before .before .before .loop .inv .1 .1
+parse-requires c κs = c .before .before .before .before .before .before .before .before .before .before .before .loop .inv .1 .1 .0
 
 slice-aggregate-apply : tie.Need-slice-aggregate-apply Inv-loop μ-loop
-slice-aggregate-apply c = sym (c .before .before .parse .kept .1 .0 ∙ c .before .before .before .before .before .before .before .before .before .before .before .before .before .before .loop .inv .1 .1)
+slice-aggregate-apply c = sym (c .before .before .parse .kept .1 .0 ∙ c .before .before .before .before .before .before .before .before .before .before .before .before .before .before .loop .inv .1 .1 .0)
+
+slice-aggregate-apply-2 : tie.Need-slice-aggregate-apply-2 Inv-loop μ-loop
+slice-aggregate-apply-2 c = sym (c .before .before .before .before .before .before .before .before .before .before .before .before .before .before .before .before .before .before .loop .inv .1 .1 .1)
 
 apply-requires : tie.Need-apply-requires Inv-loop μ-loop
 apply-requires c κs =
-    let start = c .before .before .before .before .before .before .before .before .before .before .before .before .before .before .before .before .before .before .before .before .before .before .before .before .before in
-    let inv = c .before .before .before .before .before .before .before .before .before .before .before .before .before .before .before .before .before .loop .inv in
-    let at-parse = c .before .before .before .before .before in (
+    let start = c .before .before .before .before .before .before .before .before .before .before .before .before .before .before .before .before .before .before .before .before .before .before .before .before .before .before in
+    let inv = c .before .before .before .before .before .before .before .before .before .before .before .before .before .before .before .before .before .before .loop .inv in
+    let at-parse = c .before .before .before .before .before .before in (
       start .pre .0,
       (
-        (at-parse .parse .ensures .1, (at-parse .parse .kept .1 .0 ∙ inv .1 .1, read-good (at-parse .parse .result) (at-parse .parse .last .1 .0) _ (at-parse .parse .ensures .0))),
+        (at-parse .parse .ensures .1, (at-parse .parse .kept .1 .0 ∙ inv .1 .1 .0, read-good (at-parse .parse .result) (at-parse .parse .last .1 .0) _ (at-parse .parse .ensures .0))),
         (
-          running-holds (inv .0) (omega (arith, c .before .before .before .before .before .before .before .before .before .before .before .before .before .before .if1 .left)) (omega (arith, c .before .before .before .before .before .before .before .before .before .before .before .before .if2 .left)) (omega (arith, inv .1 .0 .0, start .pre .1 .0)),
-          λ n in-code few. omega (arith, start .pre .1 .1 n (omega (arith, inv .1 .0 .0)) few, inv .1 .0 .1 .1),
+          running-holds (inv .0) (omega (arith, c .before .before .before .before .before .before .before .before .before .before .before .before .before .before .before .if1 .left)) (omega (arith, c .before .before .before .before .before .before .before .before .before .before .before .before .before .if2 .left)) (omega (arith, inv .1 .0 .0, start .pre .1 .0)),
+          (λ n in-code few. omega (arith, start .pre .1 .1 n (omega (arith, inv .1 .0 .0)) few, inv .1 .0 .1 .1), inv .1 .1 .1),
         ),
       ),
     )
@@ -117,38 +120,38 @@ enum-known-stepped-2 : tie.Need-enum-known-stepped-2 Inv-loop μ-loop
 enum-known-stepped-2 c = search needs
 
 same-length-10 : tie.Need-same-length-10 Inv-loop μ-loop
-same-length-10 c = c .before .before .before .before .before .before .before .before .before .apply .kept .1 .1 .1 .1 .1 .0 ∙ c .before .before .before .before .before .before .before .before .before .before .before .before .before .before .before .before .before .before .before .before .before .before .before .before .before .before .before .loop .inv .1 .0 .0
+same-length-10 c = c .before .before .before .before .before .before .before .before .before .before .apply .kept .1 .1 .1 .1 .1 .0 ∙ c .before .before .before .before .before .before .before .before .before .before .before .before .before .before .before .before .before .before .before .before .before .before .before .before .before .before .before .before .before .loop .inv .1 .0 .0
 
 same-length-11 : tie.Need-same-length-11 Inv-loop μ-loop
-same-length-11 c = c .before .before .before .before .before .before .before .before .before .apply .kept .1 .1 .1 .1 .1 .1 .0 ∙ c .before .before .before .before .before .before .before .before .before .before .before .before .before .before .before .before .before .before .before .before .before .before .before .before .before .before .before .loop .inv .1 .0 .1 .0
+same-length-11 c = c .before .before .before .before .before .before .before .before .before .before .apply .kept .1 .1 .1 .1 .1 .1 .0 ∙ c .before .before .before .before .before .before .before .before .before .before .before .before .before .before .before .before .before .before .before .before .before .before .before .before .before .before .before .before .before .loop .inv .1 .0 .1 .0
 
 same-length-12 : tie.Need-same-length-12 Inv-loop μ-loop
-same-length-12 c = c .before .before .before .before .before .before .before .before .before .apply .kept .1 .1 .1 .1 .1 .1 .1 .0 ∙ c .before .before .before .before .before .before .before .before .before .before .before .before .before .before .before .before .before .before .before .before .before .before .before .before .before .before .before .loop .inv .1 .0 .1 .1
+same-length-12 c = c .before .before .before .before .before .before .before .before .before .before .apply .kept .1 .1 .1 .1 .1 .1 .1 .0 ∙ c .before .before .before .before .before .before .before .before .before .before .before .before .before .before .before .before .before .before .before .before .before .before .before .before .before .before .before .before .before .loop .inv .1 .0 .1 .1
 
 returns-4 : tie.Need-returns-4 Inv-loop μ-loop
 returns-4 c =
-    running-stopped (c .before .before .before .before .before .before .before .before .before .before .before .before .before .before .before .before .before .before .before .before .before .before .before .before .before .before .before .loop .inv .0) (c .before .before .before .before .before .before .before .before .before .before .before .before .before .before .before .before .before .before .before .before .before .at .ensures) (c .before .before .before .before .before .before .before .before .before .before .before .before .before .before .before .before .before .before .before .end .given .1) (c .before .before .before .before .before .before .before .before .before .before .before .before .before .before .before .parse .ensures .0)
-    (rw (c .before .stepped2 .given .1) at (c .before .before .before .before .before .before .before .before .before .apply .ensures))
+    running-stopped (c .before .before .before .before .before .before .before .before .before .before .before .before .before .before .before .before .before .before .before .before .before .before .before .before .before .before .before .before .before .loop .inv .0) (c .before .before .before .before .before .before .before .before .before .before .before .before .before .before .before .before .before .before .before .before .before .before .before .at .ensures) (c .before .before .before .before .before .before .before .before .before .before .before .before .before .before .before .before .before .before .before .before .before .end .given .1) (c .before .before .before .before .before .before .before .before .before .before .before .before .before .before .before .before .before .parse .ensures .0)
+    (rw (c .before .stepped2 .given .1) at (c .before .before .before .before .before .before .before .before .before .before .apply .ensures))
 
 add-at : tie.Need-add-at Inv-loop μ-loop
-add-at c = omega (arith, within (c .before .before .before .before .before .before .before .before .before .before .before .before .before .before .before .before .before .before .before), c .before .before .before .before .before .before .before .before .before .before .before .before .before .before .before .before .before .before .before .before .before .before .before .before .before .before .before .before .before .before .before .before .before .before .before .good .1 .1 .1 .0)
+add-at c = omega (arith, within (c .before .before .before .before .before .before .before .before .before .before .before .before .before .before .before .before .before .before .before .before .before), c .before .before .before .before .before .before .before .before .before .before .before .before .before .before .before .before .before .before .before .before .before .before .before .before .before .before .before .before .before .before .before .before .before .before .before .before .before .good .1 .1 .1 .0)
 
 add-line : tie.Need-add-line Inv-loop μ-loop
-add-line c = omega (arith, within (c .before .before .before .before .before .before .before .before .before .before .before .before .before .before .before .before .before .before .before), c .before .before .before .before .before .before .before .before .before .before .before .before .before .before .before .before .before .before .before .before .before .before .before .before .before .before .before .loop .inv .0 .lines-passed, c .before .before .before .before .before .before .before .before .before .before .before .before .before .before .before .before .before .before .before .before .before .before .before .before .before .before .before .before .before .before .before .before .before .before .before .good .1 .1 .1 .0)
+add-line c = omega (arith, within (c .before .before .before .before .before .before .before .before .before .before .before .before .before .before .before .before .before .before .before .before .before), c .before .before .before .before .before .before .before .before .before .before .before .before .before .before .before .before .before .before .before .before .before .before .before .before .before .before .before .before .before .loop .inv .0 .lines-passed, c .before .before .before .before .before .before .before .before .before .before .before .before .before .before .before .before .before .before .before .before .before .before .before .before .before .before .before .before .before .before .before .before .before .before .before .before .before .good .1 .1 .1 .0)
 
 loop-less : tie.Need-loop-less Inv-loop μ-loop
-loop-less c = omega (arith, within (c .before .before .before .before .before .before .before .before .before .before .before .before .before .before .before .before .before .before .before))
+loop-less c = omega (arith, within (c .before .before .before .before .before .before .before .before .before .before .before .before .before .before .before .before .before .before .before .before .before))
 
 loop-again : tie.Need-loop-again Inv-loop μ-loop
 loop-again c =
-    let inv = c .before .before .before .before .before .before .before .before .before .before .before .before .before .before .before .before .before .before .before .before .before .before .before .before .before .before .before .loop .inv in
-    let at-parse = c .before .before .before .before .before .before .before .before .before .before .before .before .before .before .before in
-    let kept = c .before .before .before .before .before .before .before .before .before .apply .kept in (
-      running-next (inv .0) (c .before .before .before .before .before .before .before .before .before .before .before .before .before .before .before .before .before .before .before .before .before .at .ensures) (c .before .before .before .before .before .before .before .before .before .before .before .before .before .before .before .before .before .before .before .end .given .1) (at-parse .parse .ensures .0) (c .before .before .before .before .before .before .before .before .before .before .before .before .before .before .before .before .before .before .before .before .before .before .before .before .before .before .before .before .before .before .before .before .before .before .before .pre .0 .0)
-          (rw (c .before .stepped .given .1) at (c .before .before .before .before .before .before .before .before .before .apply .ensures)),
+    let inv = c .before .before .before .before .before .before .before .before .before .before .before .before .before .before .before .before .before .before .before .before .before .before .before .before .before .before .before .before .before .loop .inv in
+    let at-parse = c .before .before .before .before .before .before .before .before .before .before .before .before .before .before .before .before .before in
+    let kept = c .before .before .before .before .before .before .before .before .before .before .apply .kept in (
+      running-next (inv .0) (c .before .before .before .before .before .before .before .before .before .before .before .before .before .before .before .before .before .before .before .before .before .before .before .at .ensures) (c .before .before .before .before .before .before .before .before .before .before .before .before .before .before .before .before .before .before .before .before .before .end .given .1) (at-parse .parse .ensures .0) (c .before .before .before .before .before .before .before .before .before .before .before .before .before .before .before .before .before .before .before .before .before .before .before .before .before .before .before .before .before .before .before .before .before .before .before .before .before .pre .0 .0)
+          (rw (c .before .stepped .given .1) at (c .before .before .before .before .before .before .before .before .before .before .apply .ensures)),
       (
         (kept .1 .1 .1 .1 .1 .0 ∙ inv .1 .0 .0, (kept .1 .1 .1 .1 .1 .1 .0 ∙ inv .1 .0 .1 .0, kept .1 .1 .1 .1 .1 .1 .1 .0 ∙ inv .1 .0 .1 .1)),
-        at-parse .parse .kept .1 .0 ∙ inv .1 .1,
+        (at-parse .parse .kept .1 .0 ∙ inv .1 .1 .0, kept .1 .1 .1 .1 .1 .1 .1 .1 .0 ∙ inv .1 .1 .1),
       ),
     )
 
@@ -192,6 +195,7 @@ run-spec =
     slice-aggregate-parse
     parse-requires
     slice-aggregate-apply
+    slice-aggregate-apply-2
     apply-requires
     enum-known-stepped
     enum-known-stepped-2

@@ -1,11 +1,12 @@
 -- `analysis::stack::merge_tries` meets its contract: the tries passed are merged, and those ahead are left to be merged.
 -- Assumes nothing.
 use Prim.Native.Nat.{_+_, _-_}
-use mathlib.Core.Path.{_≡_, refl}
+use mathlib.Core.Path.{_≡_, refl, sym, _∙_}
 use native.Mathlib.Omega.{arith}
 use borrow.Author.Needs.{needs}
 use borrow.Author.Tests.{not-true, not-false}
-use lib.ListN.{take, drop, getD}
+use lib.ListN.{take, drop, getD, set, length-set}
+use lib.Seq.{getD-set-same}
 use Rattle.rules.specs.Tries.{union}
 use Rattle.trie.specs.States.{rowsOf, rowsIn}
 use Rattle.analysis.specs.Nodes.{Became}
@@ -23,7 +24,7 @@ abbrev μ-loop : tie.MeasureT-loop
 many :
     (c : tie.After-trie-end Inv-loop μ-loop)
     → c .trie-end .result - (c .before .before .before .loop .end + 1)
-    ≡ getD (c .before .before .before .before .before .args .tries .now) (c .before .before .before .loop .end) 0
+    ≡ getD (c .before .before .before .before .before .before .args .tries .now) (c .before .before .before .loop .end) 0
 many c = omega (arith, c .trie-end .ensures .0)
 
 -- what it was merged into
@@ -35,27 +36,30 @@ united :
     (rowsOf
     (take
     (getD
-    (c .before .before .before .before .before .before .before .before .before .args .tries .now)
+    (c .before .before .before .before .before .before .before .before .before .before .args .tries .now)
     (c .before .before .before .before .before .before .before .loop .end)
     0)
     (drop
     (c .before .before .before .before .before .before .before .loop .end + 1)
-    (c .before .before .before .before .before .before .before .before .before .args .tries .now)))))
+    (c .before .before .before .before .before .before .before .before .before .before .args .tries .now)))))
     (c .union-into .last .0)
     (c .union-into .result)
 united c = rw (many (c .before .before .before .before)) at (c .union-into .ensures)
 
+slice-write-merged : tie.Need-slice-write-merged Inv-loop μ-loop
+slice-write-merged c = omega (arith, c .before .before .pre .1)
+
 loop-holds : tie.Need-loop-holds Inv-loop μ-loop
-loop-holds c = going-first (c .before .args .tries .now) (c .before .args .at) (c .before .args .count) (c .before .pre)
+loop-holds c =
+    let start = c .before .before in
+    let merged = start .args .merged .now in
+    going-first (start .args .tries .now) (start .args .at) (start .args .count) (set merged 0 0) (start .pre .0) (length-set merged 0 0 ∙ start .pre .1) (getD-set-same merged 0 0 0 (omega (arith, start .pre .1)))
 
 add-first : tie.Need-add-first Inv-loop μ-loop
 add-first c = omega (arith, at-within (going-at (c .before .loop .inv) (c .loop-test .taken)))
 
 trie-end-requires : tie.Need-trie-end-requires Inv-loop μ-loop
 trie-end-requires c κs = going-at (c .before .before .loop .inv) (c .before .loop-test .taken)
-
-slice-aggregate-union-into : tie.Need-slice-aggregate-union-into Inv-loop μ-loop
-slice-aggregate-union-into c = search needs
 
 mul-union-into : tie.Need-mul-union-into Inv-loop μ-loop
 mul-union-into c = search needs
@@ -78,9 +82,12 @@ union-into-requires c κs =
 same-length : tie.Need-same-length Inv-loop μ-loop
 same-length c = search needs
 
+same-length-2 : tie.Need-same-length-2 Inv-loop μ-loop
+same-length-2 c = c .before .before .before .union-into .kept .0 ∙ (c .before .before .before .before .before .before .before .before .before .before .loop .inv .is .state-length ∙ sym (c .before .before .before .before .before .before .before .before .before .before .before .before .before .pre .1))
+
 returns : tie.Need-returns Inv-loop μ-loop
 returns c =
-    let u = c .before .before in
+    let u = c .before .before .before in
     let t = u .before .before .before .before in
     let at-loop = t .before .before .before in
     going-over (at-loop .loop .inv) (t .before .before .loop-test .taken) refl (rw (not-true (u .union-into .result) (c .if1 .taken)) at (united u))
@@ -93,23 +100,23 @@ loop-less c = search needs
 
 loop-again : tie.Need-loop-again Inv-loop μ-loop
 loop-again c =
-    let u = c .before .before in
+    let u = c .before .before .before in
     let t = u .before .before .before .before in
     let at-loop = t .before .before .before in
     going-next (at-loop .loop .inv) (t .before .before .loop-test .taken) (t .trie-end .ensures .0) (rw (not-false (u .union-into .result) (c .if1 .left)) at (united u))
 
-slice-aggregate-put-trie : tie.Need-slice-aggregate-put-trie Inv-loop μ-loop
-slice-aggregate-put-trie c = search needs
-
 put-trie-requires : tie.Need-put-trie-requires Inv-loop μ-loop
 put-trie-requires c κs =
     let at-loop = c .before .before .before in
-    let start = at-loop .before .before in
+    let start = at-loop .before .before .before in
     let inv = at-loop .loop .inv in
-    (inv .is, (omega (arith, inv .room, start .pre .some-trie, c .before .before .loop-test .left), inv .inside))
+    (inv .is, (omega (arith, inv .room, start .pre .0 .some-trie, c .before .before .loop-test .left), inv .inside))
 
-same-length-2 : tie.Need-same-length-2 Inv-loop μ-loop
-same-length-2 c = search needs
+same-length-3 : tie.Need-same-length-3 Inv-loop μ-loop
+same-length-3 c = search needs
+
+same-length-4 : tie.Need-same-length-4 Inv-loop μ-loop
+same-length-4 c = c .before .before .before .before .before .before .loop .inv .is .state-length ∙ sym (c .before .before .before .before .before .before .before .before .before .pre .1)
 
 returns-2 : tie.Need-returns-2 Inv-loop μ-loop
 returns-2 c =
@@ -122,21 +129,22 @@ merge-tries-spec =
     (tie.spec
     Inv-loop
     μ-loop
+    slice-write-merged
     loop-holds
     add-first
     trie-end-requires
-    slice-aggregate-union-into
     mul-union-into
     sub-union-into
     part-union-into-start
     part-union-into-end
     union-into-requires
     same-length
+    same-length-2
     returns
     add-i
     loop-less
     loop-again
-    slice-aggregate-put-trie
     put-trie-requires
-    same-length-2
+    same-length-3
+    same-length-4
     returns-2)

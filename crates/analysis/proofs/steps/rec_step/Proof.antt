@@ -18,7 +18,7 @@ abbrev named : tie.Start → List ℕ
 named c = drop (32 - c .args .count) (c .args .names .now)
 
 as-many : (c : tie.Start) → length (named c) ≡ c .args .count
-as-many c = omega (arith, length-drop (32 - c .args .count) (c .args .names .now), c .pre .1)
+as-many c = omega (arith, length-drop (32 - c .args .count) (c .args .names .now), c .pre .0 .1)
 
 part : (c : tie.Start) → take (length (c .args .names .now) - (32 - c .args .count)) (named c) ≡ named c
 part c = take-all (length (c .args .names .now) - (32 - c .args .count)) (named c) (omega (arith, length-drop (32 - c .args .count) (c .args .names .now)))
@@ -26,10 +26,10 @@ part c = take-all (length (c .args .names .now) - (32 - c .args .count)) (named 
 -- the head is copied whole
 room :
     (c : tie.After-copy-words)
-    → (c .copy-words .result ≤ length (c .copy-words .last .1 .0)) × (c .copy-words .result ≡ 1 + length (named (c .before .before .before .before .before .before .before .before .before .before)))
+    → (c .copy-words .result ≤ length (c .copy-words .last .1 .0)) × (c .copy-words .result ≡ 1 + length (named (c .before .before .before .before .before .before .before .before .before .before .before)))
 room c =
-    let start = c .before .before .before .before .before .before .before .before .before .before in
-    head-room (c .before .before .before .word2 .result) (named start) (omega (arith, as-many start, start .pre .1)) (rw (part start) at (c .copy-words .ensures))
+    let start = c .before .before .before .before .before .before .before .before .before .before .before in
+    head-room (c .before .before .before .word2 .result) (named start) (omega (arith, as-many start, start .pre .0 .1)) (rw (part start) at (c .copy-words .ensures))
 
 word-requires : tie.Need-word-requires
 word-requires c κs = search needs
@@ -49,15 +49,15 @@ same-length-2 c = search needs
 returns : tie.Need-returns
 unfolding code nodesOf countIn namesIn codeFields nodesOfFields
 returns c results held =
-    let start = c .before .before .before .before .before .before .before .before .before .before .before .before .before in
+    let start = c .before .before .before .before .before .before .before .before .before .before .before .before .before .before in
     let push = c .before .before .before .before .push in
-    let none-named : named start ≡ [] = drop-of-length-le (start .args .names .now) {i = 32 - start .args .count} (omega (arith, start .pre .1 .1, c .before .before .before .before .before .before .before .before .before .if1 .taken)) in
+    let none-named : named start ≡ [] = drop-of-length-le (start .args .names .now) {i = 32 - start .args .count} (omega (arith, start .pre .0 .1 .1, c .before .before .before .before .before .before .before .before .before .if1 .taken)) in
     rec-none results (named start) (push .last .1 .0) (push .last .1 .1 .0) (push .result) none-named
     (push .ensures (RecordLiteral noField) results (rw (c .before .before .before .before .before .before .before .before .word .ensures)) refl held)
 
 returns-2 : tie.Need-returns-2
 returns-2 c results held place =
-    let start = c .before .before .before .before .before .before in
+    let start = c .before .before .before .before .before .before .before in
     rec-few results held (named start) (omega (arith, as-many start, c .if2 .taken)) place
 
 word-requires-2 : tie.Need-word-requires-2
@@ -96,16 +96,19 @@ slice-aggregate-wrap c =
 
 wrap-requires : tie.Need-wrap-requires
 wrap-requires c κs =
-    let start = c .before .before .before .before .before .before .before .before .before .before .before .before .before .before in
-    let copied = c .before .before .before .before in (
-      start .pre .0,
+    let start = c .before .before .before .before .before .before .before .before .before .before .before .before .before .before .before .before in
+    let copied = c .before .before .before .before .before in (
       (
-        omega (arith, c .before .before .before .before .before .before .before .before .before .before .if1 .left),
+        start .pre .0 .0,
         (
-          omega (arith, c .before .before .before .before .before .before .before .before .if2 .left),
-          omega (arith, length-take (copied .copy-words .result) (copied .copy-words .last .1 .0), room copied, as-many start),
+          omega (arith, c .before .before .before .before .before .before .before .before .before .before .before .if1 .left),
+          (
+            omega (arith, c .before .before .before .before .before .before .before .before .before .if2 .left),
+            omega (arith, length-take (copied .copy-words .result) (copied .copy-words .last .1 .0), room copied, as-many start),
+          ),
         ),
       ),
+      start .pre .1,
     )
 
 same-length-3 : tie.Need-same-length-3
@@ -114,15 +117,18 @@ same-length-3 c = search needs
 same-length-4 : tie.Need-same-length-4
 same-length-4 c = search needs
 
+same-length-5 : tie.Need-same-length-5
+same-length-5 c = search needs
+
 returns-3 : tie.Need-returns-3
 returns-3 c results held =
-    let start = c .before .before .before .before .before .before .before .before .before .before .before .before .before .before .before .before .before .before .before in
-    let wrap = c .before .before .before .before .wrap in
-    let written = rw (part start) at (c .before .before .before .before .before .before .before .before .before .copy-words .ensures) in
-    let head : take (c .before .before .before .before .before .before .before .before .before .copy-words .result) (c .before .before .before .before .before .before .before .before .before .copy-words .last .1 .0) ≡ (4 + 8 * start .args .count) ∷ named start =
-    rec-head (c .before .before .before .before .before .before .before .before .before .before .before .before .word2 .result) (named start) (omega (arith, as-many start, start .pre .1)) written ∙ rw (c .before .before .before .before .before .before .before .before .before .before .before .before .word2 .ensures) in
+    let start = c .before .before .before .before .before .before .before .before .before .before .before .before .before .before .before .before .before .before .before .before .before .before .before in
+    let wrap = c .before .before .before .before .before .before .wrap in
+    let written = rw (part start) at (c .before .before .before .before .before .before .before .before .before .before .before .before .copy-words .ensures) in
+    let head : take (c .before .before .before .before .before .before .before .before .before .before .before .before .copy-words .result) (c .before .before .before .before .before .before .before .before .before .before .before .before .copy-words .last .1 .0) ≡ (4 + 8 * start .args .count) ∷ named start =
+    rec-head (c .before .before .before .before .before .before .before .before .before .before .before .before .before .before .before .word2 .result) (named start) (omega (arith, as-many start, start .pre .0 .1)) written ∙ rw (c .before .before .before .before .before .before .before .before .before .before .before .before .before .before .before .word2 .ensures) in
     let by = rw head at (wrap .ensures) in
-    rec-done results held (named start) (start .args .count) (wrap .last .1 .1 .0) (wrap .last .1 .1 .1 .0) (wrap .result) (as-many start) (omega (arith, c .before .before .before .before .before .before .before .before .before .before .before .before .before .if2 .left)) by
+    rec-done results held (named start) (start .args .count) (wrap .last .1 .1 .0) (wrap .last .1 .1 .1 .0) (wrap .result) (as-many start) (omega (arith, c .before .before .before .before .before .before .before .before .before .before .before .before .before .before .before .before .if2 .left)) by
 
 pub rec-step-spec : {M : Type 1} → statement M
 rec-step-spec =
@@ -149,4 +155,5 @@ rec-step-spec =
     wrap-requires
     same-length-3
     same-length-4
+    same-length-5
     returns-3)

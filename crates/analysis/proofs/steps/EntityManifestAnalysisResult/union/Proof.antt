@@ -25,10 +25,13 @@ same-length c = search needs
 same-length-2 : tie.Need-same-length-2
 same-length-2 c = search needs
 
+same-length-3 : tie.Need-same-length-3
+same-length-3 c = search needs
+
 returns-2 : tie.Need-returns-2
 returns-2 c results held =
-    let wrap = c .before .before .before .before .wrap in
-    union-done results held (wrap .last .1 .1 .0) (wrap .last .1 .1 .1 .0) (wrap .result) (omega (arith, c .before .before .before .before .before .before .before .before .before .if1 .left)) (rw (c .before .before .before .before .before .before .before .before .word .ensures) at (wrap .ensures))
+    let wrap = c .before .before .before .before .before .before .wrap in
+    union-done results held (wrap .last .1 .1 .0) (wrap .last .1 .1 .1 .0) (wrap .result) (omega (arith, c .before .before .before .before .before .before .before .before .before .before .before .before .if1 .left)) (rw (c .before .before .before .before .before .before .before .before .before .before .before .word .ensures) at (wrap .ensures))
 
 pub union-spec : {M : Type 1} → statement M
 union-spec =
@@ -40,4 +43,5 @@ union-spec =
     wrap-requires
     same-length
     same-length-2
+    same-length-3
     returns-2)
