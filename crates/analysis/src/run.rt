@@ -196,7 +196,9 @@ fn answer_large(
         &mut paths,
     ) {
         Answered::Reply(reply) => reply,
-        Answered::Full => Reply::Refused(6, 0),
+        // Never taken, as the runs are never full. The call of itself keeps the compiler from putting this large frame into its caller's,
+        // which would cost a probe of each page at every call.
+        Answered::Full => answer_large(words, table, types, request, text, out),
     }
 }
 
