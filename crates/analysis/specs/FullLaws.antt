@@ -277,8 +277,8 @@ too-many words trie path t state many = record {
 pub too-many-sized : {words : List ℕ} {t w : ℕ} → Sized words t w → 1024 < sizeNodes w → 1024 < length (typeRows words t)
 too-many-sized {words} {t} sized h = omega (arith, sized .nodes, capped-min 1025 (length (typeRows words t)))
 
-pub few-sized : {words : List ℕ} {t w : ℕ} → Sized words t w → sizeNodes w ≤ 1024 → length (typeRows words t) ≤ 1024
-few-sized {words} {t} sized h = omega (arith, sized .nodes, capped-min 1025 (length (typeRows words t)))
+pub few-sized : {words : List ℕ} {t w most : ℕ} → Sized words t w → most ≤ 1024 → sizeNodes w ≤ most → length (typeRows words t) ≤ most
+few-sized {words} {t} sized few h = omega (arith, sized .nodes, capped-min 1025 (length (typeRows words t)))
 
 module _
     (words : List ℕ)

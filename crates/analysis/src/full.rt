@@ -17,6 +17,7 @@ ghost use Rattle.analysis.specs.Tables.{typeRows, Tabled, Walk, Required
 use crate::paths::WrappedAccessPaths;
 use crate::paths::measure;
 use crate::paths::name_place;
+use crate::tries::FEW;
 use crate::tries::add_access_path;
 use crate::tries::path_at;
 use crate::types::is_attribute;
@@ -226,6 +227,25 @@ pub fn is_any_too_deep(code: &[u64], table: &[u64], pairs: &[u64]) -> bool
     false
 }
 
+// Merges a path with the trie of a type as its leaf into a trie by way of a buffer, and answers whether it stays within the limit of nodes.
+fn add_typed_by(
+    trie: &mut [u64],
+    path: &[u64],
+    words: &[u64],
+    table: &[u64],
+    t: u64,
+    leaf: &mut [u64],
+) -> bool
+    requires { ⌜ (goodItems (now words) ≡ true) × (Tabled (now words) (now table) (typesIn (itemsOf (now words))) × (t < typesIn (itemsOf (now words)))) ⌝ }
+    requires { ⌜ IsState (now trie) × IsPath (now path) ⌝ }
+    requires { ⌜ length (now path) + deepest (typeRows (now words) t) ≤ 24 ⌝ }
+    requires { ⌜ (length (typeRows (now words) t) ≤ length (now leaf)) × (length (now leaf) ≤ 1024) ⌝ }
+    ensures { λ r. ⌜ Became (addAccessPath (rowsIn (now (trie .entry))) (now (path .entry)) (typeToAccessTrie (itemsOf (now (words .entry))) t)) (now (trie .exit)) r ⌝ }
+{
+    let end = type_to_access_trie(words, table, t, 0, leaf, 0);
+    add_access_path(trie, path, false, &leaf[..end])
+}
+
 // Merges a path with the trie of a type as its leaf into a trie, and answers whether it stays within the limit of nodes.
 fn add_typed(trie: &mut [u64], path: &[u64], words: &[u64], table: &[u64], t: u64) -> bool
     requires { ⌜ (goodItems (now words) ≡ true) × (Tabled (now words) (now table) (typesIn (itemsOf (now words))) × (t < typesIn (itemsOf (now words)))) ⌝ }
@@ -233,12 +253,16 @@ fn add_typed(trie: &mut [u64], path: &[u64], words: &[u64], table: &[u64], t: u6
     requires { ⌜ length (now path) + deepest (typeRows (now words) t) ≤ 24 ⌝ }
     ensures { λ r. ⌜ Became (addAccessPath (rowsIn (now (trie .entry))) (now (path .entry)) (typeToAccessTrie (itemsOf (now (words .entry))) t)) (now (trie .exit)) r ⌝ }
 {
-    if Kind::CONTRIBUTION_NODES < size_at(table, t).nodes {
+    let nodes = size_at(table, t).nodes;
+    if Kind::CONTRIBUTION_NODES < nodes {
         return false;
     }
+    if nodes <= FEW as u64 {
+        let mut leaf = [0u64; FEW];
+        return add_typed_by(trie, path, words, table, t, &mut leaf);
+    }
     let mut leaf = [0u64; 1_024];
-    let end = type_to_access_trie(words, table, t, 0, &mut leaf, 0);
-    add_access_path(trie, path, false, &leaf[..end])
+    add_typed_by(trie, path, words, table, t, &mut leaf)
 }
 
 // Merges all paths with the tries of their types into a trie, and answers whether it stays within the limit of nodes.

@@ -24,8 +24,8 @@ pub const TRIE: usize = 1_026;
 
 const RUN: usize = 1_048;
 
-// Most unions and runs are short. These take a buffer of so many words, which costs little to clear.
-const FEW: usize = 64;
+// Most unions, runs and leaves are short. These take a buffer of so many words, which costs little to clear.
+pub const FEW: usize = 64;
 
 // Writes the chain of nodes of a path, the last one marked or not, and answers how many there are.
 fn write_chain(path: &[u64], marked: bool, out: &mut [u64]) -> usize
