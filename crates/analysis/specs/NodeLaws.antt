@@ -379,6 +379,11 @@ state-few {trie} state = simp (length-map, length-take) (omega (arith, state .fe
 pub as-it-was : {trie : List ℕ} → IsState trie → Became (rowsIn trie) trie true
 as-it-was {trie} state = record { judged = sym (le-leb (length (rowsIn trie)) 1024 (state-few state)); still = state; there = λ _. refl }
 
+-- an empty run changes nothing
+pub nothing-merged : {trie : List ℕ} (run : List ℕ) → IsState trie → length run ≡ 0 → Became (union (rowsIn trie) (rowsOf run)) trie true
+nothing-merged {trie} [] state h = rw (union-nil-right (rowsIn trie)) (as-it-was state)
+nothing-merged (w ∷ run) state h = absurd (omega arith)
+
 -- whether a path and its leaf give no node, by counts
 pub no-trie-test : (path below : List ℕ) (mark : Bool) → isNoTrie path (leafOf mark below) ≡ (eqb (length path) 1 && (not mark && eqb (length below) 0))
 no-trie-test path below mark = rw (length-map below rowOf)

@@ -72,11 +72,15 @@ fn union_by(trie: &mut [u64], run: &[u64], united: &mut [u64]) -> bool
     true
 }
 
-// Merges a run of nodes into a trie, and answers whether it stays within the limit of nodes; if not, the trie is as it was.
+// Merges a run of nodes into a trie, and answers whether it stays within the limit of nodes; if not, the trie is as it was. Many runs are empty:
+// a root without a field gives none.
 pub fn union_into(trie: &mut [u64], run: &[u64]) -> bool
     requires { ⌜ IsState (now trie) × (allNodes (now run) ≡ true) ⌝ }
     ensures { λ r. ⌜ Became (union (rowsIn (now (trie .entry))) (rowsOf (now (run .entry)))) (now (trie .exit)) r ⌝ }
 {
+    if run.len() == 0 {
+        return true;
+    }
     let rows = trie[0] as usize + run.len();
     if rows < FEW {
         let mut united = [0u64; FEW];

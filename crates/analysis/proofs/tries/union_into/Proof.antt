@@ -1,11 +1,14 @@
--- `analysis::tries::union_into` meets its contract: either buffer is long enough.
+-- `analysis::tries::union_into` meets its contract: an empty run changes nothing, and for another either buffer is long enough.
 -- Assumes nothing.
 use native.Mathlib.Omega.{arith}
 use mathlib.Core.Logic.{inl, inr}
 use borrow.Author.Needs.{needs}
-use Rattle.analysis.specs.NodeLaws.{state-count}
+use Rattle.analysis.specs.NodeLaws.{state-count, nothing-merged}
 use Rattle.analysis.proofs.tries.union_into.Statement.{statement}
 use Rattle.analysis.proofs.tries.union_into.Tie as tie
+
+returns : tie.Need-returns
+returns c = nothing-merged (c .before .before .before .args .run .now) (c .before .before .before .pre .0) (c .if1 .taken)
 
 slice-read-rows : tie.Need-slice-read-rows
 slice-read-rows c = search needs
@@ -18,38 +21,39 @@ slice-aggregate-union-by c = search needs
 
 union-by-requires : tie.Need-union-by-requires
 union-by-requires c κs =
-    let s = c .before .before .before .before .before .before in
-    (s .pre, (inr (omega (arith, state-count (s .pre .0), c .before .before .if1 .taken)), omega arith))
+    let s = c .before .before .before .before .before .before .before in
+    (s .pre, (inr (omega (arith, state-count (s .pre .0), c .before .before .if2 .taken)), omega arith))
 
 same-length : tie.Need-same-length
 same-length c = search needs
 
-returns : tie.Need-returns
-returns c = search needs
+returns-2 : tie.Need-returns-2
+returns-2 c = search needs
 
 slice-aggregate-union-by-2 : tie.Need-slice-aggregate-union-by-2
 slice-aggregate-union-by-2 c = search needs
 
 union-by-requires-2 : tie.Need-union-by-requires-2
-union-by-requires-2 c κs = (c .before .before .before .before .before .before .pre, (inl (omega arith), omega arith))
+union-by-requires-2 c κs = (c .before .before .before .before .before .before .before .pre, (inl (omega arith), omega arith))
 
 same-length-2 : tie.Need-same-length-2
 same-length-2 c = search needs
 
-returns-2 : tie.Need-returns-2
-returns-2 c = search needs
+returns-3 : tie.Need-returns-3
+returns-3 c = search needs
 
 pub union-into-spec : {M : Type 1} → statement M
 union-into-spec =
     tie.close
     (tie.spec
+    returns
     slice-read-rows
     add-rows
     slice-aggregate-union-by
     union-by-requires
     same-length
-    returns
+    returns-2
     slice-aggregate-union-by-2
     union-by-requires-2
     same-length-2
-    returns-2)
+    returns-3)
