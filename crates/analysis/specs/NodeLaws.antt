@@ -16,7 +16,7 @@ use lib.Seq.{sets, sets-eq, length-sets, drop-cons, take-at, length-take-le}
 use Rattle.rules.specs.Facts.{by-test, compared}
 use Rattle.rules.specs.Numbers.{accepted, refused, mostSteps}
 use Rattle.rules.specs.Tries.{Row, isStep, isRoot, isRow, contribution, count, entriesIn, nodesIn, union, unionWithin}
-use Rattle.rules.specs.TrieLaws.{union-turns, union-nil-right, union-sum-length}
+use Rattle.rules.specs.TrieLaws.{union-turns, union-nil-left, union-nil-right, union-sum-length}
 use Rattle.rules.specs.Listing.{read}
 use Rattle.rules.specs.Paths.{Path, deeper, chain, toRootAccessTrieWithLeaf, addAccessPath, addPaths}
 use Rattle.rules.specs.TypeLaws.{chain-length, deeper-length, isNoTrie, larger, larger-max, longest}
@@ -163,6 +163,25 @@ module _ (trie run : List ℕ) (state : IsState trie) (nodes : allNodes run ≡ 
       by-test (leb (length united) 1024)
       (λ h. absurd (let z : _≡_ {A = ℕ} 0 1 = cc (rw (within, h) at e) in omega arith))
       (λ h. record { judged = sym h; still = state; there = λ no. absurd (false≢true no) })
+
+-- an empty state becomes a run of nodes
+module _ (trie run : List ℕ) (state : IsState trie) (nodes : allNodes run ≡ true) (empty : getD trie 0 0 ≡ 0) where
+  alone : union (rowsIn trie) (rowsOf run) ≡ rowsOf run
+  alone = rw empty (union-nil-left (rowsOf run))
+
+  pub filled-over : 1024 < length run → Became (union (rowsIn trie) (rowsOf run)) trie false
+  filled-over h = record {
+    judged = sym (rw (alone, length-map run rowOf) (lt-leb (length run) 1024 h));
+    still = state;
+    there = λ no. absurd (false≢true no);
+  }
+
+  pub filled : length run ≤ 1024 → Became (union (rowsIn trie) (rowsOf run)) (sets (set trie 0 (length run)) 1 run) true
+  filled h =
+      let words = words-rows run (all-nodes-plain run nodes .0) in
+      let few : length (union (rowsIn trie) (rowsOf run)) ≤ 1024 = rw (alone, length-map run rowOf) h in
+      let held : holding trie (union (rowsIn trie) (rowsOf run)) ≡ sets (set trie 0 (length run)) 1 run = rw (alone, length-map run rowOf, words) in
+      rw held at (merged trie run state nodes few)
 
 -- a state has as many rows as its first word says
 pub state-count : {state : List ℕ} → IsState state → length (wordsIn state) ≡ getD state 0 0

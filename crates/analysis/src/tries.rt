@@ -4,7 +4,7 @@ ghost use mathlib.Core.Bool.{true, not, _&&_};
 ghost use mathlib.Core.List.{[], _∷_};
 ghost use Prim.Native.Nat.{_+_, _≤_};
 ghost use lib.Dec.{eqb};
-ghost use lib.ListN.{length};
+ghost use lib.ListN.{length, getD};
 ghost use Rattle.rules.specs.Tries.{union};
 ghost use Rattle.rules.specs.Paths.{toRootAccessTrieWithLeaf, addAccessPath, addPaths};
 ghost use Rattle.rules.specs.StepLaws.{IsPath, AllPaths};
@@ -72,14 +72,30 @@ fn union_by(trie: &mut [u64], run: &[u64], united: &mut [u64]) -> bool
     true
 }
 
-// Merges a run of nodes into a trie, and answers whether it stays within the limit of nodes; if not, the trie is as it was. Many runs are empty:
-// a root without a field gives none.
+// Makes an empty trie a run of nodes, and answers whether that is within the limit of nodes.
+fn fill(trie: &mut [u64], run: &[u64]) -> bool
+    requires { ⌜ IsState (now trie) × ((allNodes (now run) ≡ true) × (getD (now trie) 0 0 ≡ 0)) ⌝ }
+    ensures { λ r. ⌜ Became (union (rowsIn (now (trie .entry))) (rowsOf (now (run .entry)))) (now (trie .exit)) r ⌝ }
+{
+    if 1_024 < run.len() {
+        return false;
+    }
+    trie[0] = run.len() as u64;
+    crate::paths::copy_words(run, trie, 1);
+    true
+}
+
+// Merges a run of nodes into a trie, and answers whether it stays within the limit of nodes; if not, the trie is as it was. Many runs are empty,
+// since a root without a field gives none, and many tries.
 pub fn union_into(trie: &mut [u64], run: &[u64]) -> bool
     requires { ⌜ IsState (now trie) × (allNodes (now run) ≡ true) ⌝ }
     ensures { λ r. ⌜ Became (union (rowsIn (now (trie .entry))) (rowsOf (now (run .entry)))) (now (trie .exit)) r ⌝ }
 {
     if run.len() == 0 {
         return true;
+    }
+    if trie[0] == 0 {
+        return fill(trie, run);
     }
     let rows = trie[0] as usize + run.len();
     if rows < FEW {
