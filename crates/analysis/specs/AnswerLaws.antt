@@ -7,8 +7,9 @@ use borrow.Author.Tests.{le-leb, lt-leb, lt-ltb, le-ltb, ltb-true}
 use lib.Dec.{leb, ltb}
 use lib.ListN.{length, getD}
 use Rattle.rules.specs.Steps.{analyse}
-use Rattle.trie.specs.States.{wordsIn, refusing, storing}
-use Rattle.trie.specs.StateLaws.{both-true}
+use Rattle.words.specs.Runs.{wordsIn, refusing}
+use Rattle.rows.specs.States.{storing}
+use Rattle.rules.specs.Facts.{both-true}
 use Rattle.schema.specs.Items.{lawfulSchema, goodItems, itemsIn}
 use Rattle.analysis.specs.Outcomes.{analyseIn}
 

@@ -8,15 +8,16 @@ use lib.ListN.{length}
 use Rattle.rules.specs.Numbers.{accepted, refused}
 use Rattle.rules.specs.Schema.{Item}
 use Rattle.rules.specs.Steps.{Result, run, analyse}
-use Rattle.trie.specs.States.{Outcome, refusing, storing}
-use Rattle.trie.specs.declared.Reply.{Reply}
+use Rattle.words.specs.Runs.{Outcome, refusing}
+use Rattle.rows.specs.States.{storing}
+use Rattle.words.specs.declared.Reply.{Reply}
 use Rattle.schema.specs.Items.{schemaWords, lawfulSchema, itemsIn}
-use Rattle.analysis.specs.Stacks.{Held}
-use Rattle.analysis.specs.declared.run.Ran.{Ran}
-use Rattle.analysis.specs.declared.run.Ran.the-variants.{Stack as Stacked, Refused, Full}
-use Rattle.analysis.specs.declared.run.Answered.{Answered}
-use Rattle.analysis.specs.declared.run.Answered.the-variants.{Reply as Replied, Full as Filled}
-use Rattle.analysis.specs.declared.stack.Stack.{Stack}
+use Rattle.result_stack.specs.Stacks.{Held}
+use Rattle.analysis.specs.declared.Ran.{Ran}
+use Rattle.analysis.specs.declared.Ran.the-variants.{Stack as Stacked, Refused, Full}
+use Rattle.analysis.specs.declared.Answered.{Answered}
+use Rattle.analysis.specs.declared.Answered.the-variants.{Reply as Replied, Full as Filled}
+use Rattle.result_stack.specs.declared.Stack.{Stack}
 
 -- analysing steps: 31, then 1 at 0 for a schema that is not lawful or a number that is no request type, then what the text gives by line
 unfoldable pub analyseIn : List ℕ → ℕ → List ℕ → List ℕ → Outcome

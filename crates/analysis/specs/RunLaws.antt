@@ -56,22 +56,22 @@ use Rattle.text.specs.Answers.{lineAt}
 use Rattle.text.proofs.Laws.{whole-within}
 use Rattle.text.specs.declared.Line.{Line}
 use Rattle.text.specs.declared.Line.the-variants.{Whole}
-use Rattle.trie.specs.Words.{wordOf}
-use Rattle.trie.specs.States.{holding, storing}
-use Rattle.trie.specs.declared.Reply.the-variants.{Done, Refused}
-use Rattle.manifest.specs.Writes.{Wrote}
-use Rattle.manifest.specs.ReadLaws.{lines-whole, lines-cut}
+use Rattle.rows.specs.Words.{wordOf}
+use Rattle.rows.specs.States.{holding, storing}
+use Rattle.words.specs.declared.Reply.the-variants.{Done, Refused}
+use Rattle.words.specs.Runs.{Wrote}
+use Rattle.text.proofs.FieldLaws.{lines-whole, lines-cut}
 use Rattle.schema.specs.Items.{itemsOf, goodItems}
-use Rattle.analysis.specs.Code.{codes}
-use Rattle.analysis.specs.Lines.{stepRead, GoodRead}
-use Rattle.analysis.specs.Stacks.{trieWords, stacked, Held, Holding, Reached, TrieAt}
-use Rattle.analysis.specs.TypeTableLaws.{good-all, good-lawful}
-use Rattle.analysis.specs.FullLaws.{item-keys}
-use Rattle.analysis.specs.StackLaws.{trie-count, trie-rows, at-within, at-few, code-left, tries-left, top-trie, top-at}
+use Rattle.wrapped_paths.specs.Code.{codes}
+use Rattle.step_lines.specs.Lines.{stepRead, GoodRead}
+use Rattle.result_stack.specs.Stacks.{trieWords, stacked, Held, Holding, Reached, TrieAt}
+use Rattle.type_table.specs.TypeTableLaws.{good-all, good-lawful}
+use Rattle.full_types.specs.FullLaws.{item-keys}
+use Rattle.result_stack.specs.StackLaws.{trie-count, trie-rows, at-within, at-few, code-left, tries-left, top-trie, top-at}
 use Rattle.analysis.specs.Outcomes.{Finished, NotLarge, Stored}
-use Rattle.analysis.specs.declared.step.Step.{Step as StepRead}
-use Rattle.analysis.specs.declared.step.Step.the-variants.{Root, None, Attr, Union, Drop, Full, In, Set, Rec, Bad}
-use Rattle.analysis.specs.declared.stack.Stack.{Stack}
+use Rattle.step_lines.specs.declared.Step.{Step as StepRead}
+use Rattle.step_lines.specs.declared.Step.the-variants.{Root, None, Attr, Union, Drop, Full, In, Set, Rec, Bad}
+use Rattle.result_stack.specs.declared.Stack.{Stack}
 
 -- ---- a step that is accepted leaves at most 32 results
 

@@ -1,10 +1,10 @@
 -- What the C names answer: a refusal's number, or 0; and beside it the refusal's place, or what the operation says.
 use Prim.Native.Nat.{ℕ}
 use mathlib.Core.Bool.{cond}
-use Rattle.trie.specs.declared.Reply.{Reply}
-use Rattle.trie.specs.declared.Reply.the-variants.{Done, Refused}
-use Rattle.trie.specs.declared.place.Held.{Held}
-use Rattle.trie.specs.declared.place.Held.the-variants.{Missing, There, Unheld}
+use Rattle.words.specs.declared.Reply.{Reply}
+use Rattle.words.specs.declared.Reply.the-variants.{Done, Refused}
+use Rattle.rows.specs.declared.place.Held.{Held}
+use Rattle.rows.specs.declared.place.Held.the-variants.{Missing, There, Unheld}
 use Rattle.manifest.specs.declared.listing.Written.{Written}
 use Rattle.manifest.specs.declared.listing.Written.the-variants.{Bytes, Refused as Unwritten}
 

@@ -1,16 +1,17 @@
 // The C names of the front. A slice passes as a pointer and a length. The result is 0, or the refusal's number; `value` receives the
 // refusal's place, or what the operation says beside it: the count of bytes, or whether a place is there, and is 0 otherwise.
 ghost use mathlib.Core.Path.{_≡_};
-ghost use Rattle.trie.specs.States.{unionOf, hasOf};
+ghost use Rattle.union.specs.Unions.{unionOf};
+ghost use Rattle.rows.specs.States.{hasOf};
 ghost use Rattle.manifest.specs.Outcomes.{emptyIn, addIn, readIn, writeIn};
 ghost use Rattle.schema.specs.Items.{readIn as readSchemaIn};
 ghost use Rattle.analysis.specs.Outcomes.{analyseIn};
-ghost use Rattle.trie.specs.declared.Kind.the-variants.{Contribution, Manifest};
+ghost use Rattle.rows.specs.declared.Kind.the-variants.{Contribution, Manifest};
 ghost use Rattle.entity_manifest.specs.Numbers.{numberOf, placeOf, writtenNumber, writtenValue, heldNumber, heldValue};
 use manifest::Written;
-use trie::Held;
-use trie::Kind;
-use trie::Reply;
+use rows::Held;
+use rows::Kind;
+use words::Reply;
 
 // A reply as its number, its place beside it.
 fn tell(reply: Reply, value: &mut u64) -> u64

@@ -3,16 +3,17 @@
 mod c;
 
 ghost use mathlib.Core.Path.{_≡_};
-ghost use Rattle.trie.specs.States.{unionOf, hasOf};
+ghost use Rattle.union.specs.Unions.{unionOf};
+ghost use Rattle.rows.specs.States.{hasOf};
 ghost use Rattle.manifest.specs.Outcomes.{emptyIn, addIn, readIn, writeIn};
 ghost use Rattle.schema.specs.Items.{readIn as readSchemaIn};
 ghost use Rattle.analysis.specs.Outcomes.{analyseIn};
 use manifest::EntityManifest;
 pub use manifest::Written;
 use schema::Schema;
-pub use trie::Held;
-pub use trie::Kind;
-pub use trie::Reply;
+pub use rows::Held;
+pub use rows::Kind;
+pub use words::Reply;
 
 // Makes a lent state the empty manifest.
 pub fn empty_manifest(out: &mut [u64]) -> Reply
@@ -32,14 +33,14 @@ pub fn add(manifest: &mut [u64], contribution: &[u64]) -> Reply
 pub fn union(kind: Kind, a: &[u64], b: &[u64], out: &mut [u64]) -> Reply
     ensures { λ r. ⌜ (r ≡ unionOf kind (now (a .entry)) (now (b .entry)) (now (out .entry)) .reply) × (now (out .exit) ≡ unionOf kind (now (a .entry)) (now (b .entry)) (now (out .entry)) .buffer) ⌝ }
 {
-    trie::union(kind, a, b, out)
+    union::union(kind, a, b, out)
 }
 
 // Whether a state has a place, its request type and then the steps of a position, and whether it marks it.
 pub fn has(kind: Kind, state: &[u64], place: &[u64]) -> Held
     ensures { λ r. ⌜ r ≡ hasOf kind (now (state .entry)) (now (place .entry)) ⌝ }
 {
-    trie::has(kind, state, place)
+    rows::has(kind, state, place)
 }
 
 // Reads a text, the listing of a manifest or of a contribution, into a state.

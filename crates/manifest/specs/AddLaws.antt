@@ -1,28 +1,21 @@
 -- Laws of adding to a lent manifest and of copying rows. No contract cites this file.
-use Prim.Native.Nat.{ℕ, _+_, _≤_, _<_}
-use mathlib.Core.Path.{_≡_, refl, sym, ap, _∙_}
+use Prim.Native.Nat.{ℕ, _≤_, _<_}
+use mathlib.Core.Path.{_≡_, refl, ap}
 use mathlib.Core.Bool.{true, false}
-use mathlib.Core.List.{List, _∷_, map}
+use mathlib.Core.List.{List}
 use native.Mathlib.Omega.{arith}
 use borrow.Author.Tests.{le-leb, lt-leb}
-use lib.ListN.{length, take, drop, getD, set, length-map}
-use lib.Seq.{sets, sets-eq, take-append-seam, getD-take}
+use lib.ListN.{length, set}
 use Rattle.rules.specs.Numbers.{Answer, accepted, refused}
 use Rattle.rules.specs.Tries.{Row, manifest, contribution, entriesIn, nodesIn, union}
 use Rattle.rules.specs.Facts.{compared}
 use Rattle.rules.specs.Building.{add}
 use Rattle.rules.specs.Demand3.{refused-exactly}
-use Rattle.trie.specs.Words.{wordOf}
-use Rattle.trie.specs.States.{rowsIn, lawfulState, holding, refusing, storing}
-use Rattle.trie.specs.StateLaws.{all-rows}
-use Rattle.trie.specs.declared.Reply.the-variants.{Done, Refused}
+use Rattle.rows.specs.States.{rowsIn, lawfulState, storing}
+use Rattle.words.specs.Runs.{refusing}
+use Rattle.rows.specs.StateLaws.{all-rows}
+use Rattle.words.specs.declared.Reply.the-variants.{Done, Refused}
 use Rattle.manifest.specs.Outcomes.{emptyIn, addIn}
-
--- ---- copying
-
--- what was stored from the start on is what stands there
-pub taken-back : (l xs : List ℕ) → length xs ≤ length l → take (length xs) (sets l 0 xs) ≡ xs
-taken-back l xs h = rw (sets-eq xs l 0 (omega arith)) (take-append-seam xs (drop (0 + length xs) l))
 
 -- ---- an empty manifest
 
@@ -93,17 +86,3 @@ added-most m c rows e =
     sized f few enough =
         let same : rows ≡ union m c = cc in
         omega (arith, ap length same, all-rows (union m c))
-
-module _ (out : List ℕ) (rows : List Row) (h : length rows < length out) where
-  -- a buffer that holds rows holds their count, and they stand behind it
-  held-words : take (length rows + 1) (holding out rows) ≡ length rows ∷ map wordOf rows
-  held-words =
-      let count : length (length rows ∷ map wordOf rows) ≡ length rows + 1 = omega (arith, length-map rows wordOf) in
-      rw count at (taken-back out (length rows ∷ map wordOf rows) (omega (arith, length-map rows wordOf)))
-
-  pub held-count : getD (holding out rows) 0 0 ≡ length rows
-  held-count = sym (getD-take (length rows + 1) (holding out rows) 0 0 (omega arith)) ∙ ap (λ (l : List ℕ). getD l 0 0) held-words
-
-  -- and copied they are what another buffer holds
-  pub held-copied : (to : List ℕ) → sets to 0 (take (getD (holding out rows) 0 0 + 1) (holding out rows)) ≡ holding to rows
-  held-copied to = rw (held-count, held-words)

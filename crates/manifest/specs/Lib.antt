@@ -2,7 +2,6 @@
 pub mod Lines
 pub mod Outcomes
 pub mod AddLaws
-pub mod Writes
 pub mod WriteLaws
 pub mod Reads
 pub mod ReadLaws

@@ -8,10 +8,11 @@ use lib.Seq.{sets}
 use Rattle.rules.specs.Building.{add}
 use Rattle.rules.specs.Tries.{manifest, contribution}
 use Rattle.rules.specs.Listing.{listing, readListing}
-use Rattle.trie.specs.States.{Outcome, formOf, wordsOf, rowsIn, lawfulState, holding, refusing, storing}
-use Rattle.trie.specs.declared.Kind.{Kind}
-use Rattle.trie.specs.declared.Kind.the-variants.{Contribution, Manifest}
-use Rattle.trie.specs.declared.Reply.the-variants.{Done}
+use Rattle.words.specs.Runs.{Outcome, refusing}
+use Rattle.rows.specs.States.{formOf, wordsOf, rowsIn, lawfulState, holding, storing}
+use Rattle.rows.specs.declared.Kind.{Kind}
+use Rattle.rows.specs.declared.Kind.the-variants.{Contribution, Manifest}
+use Rattle.words.specs.declared.Reply.the-variants.{Done}
 use Rattle.manifest.specs.declared.listing.Written.{Written}
 use Rattle.manifest.specs.declared.listing.Written.the-variants.{Bytes, Refused}
 

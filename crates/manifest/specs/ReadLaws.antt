@@ -1,6 +1,6 @@
 -- Laws of the fields of a line and of the rows that a listing is read as. No contract cites this file.
-use Prim.Native.Nat.{ℕ, zero, suc, _+_, _-_, _*_, _/_, _%_, _^_, _≤_, _<_}
-use native.Mathlib.Nat.{add-zero, add-comm, add-sub-cancel-left}
+use Prim.Native.Nat.{ℕ, suc, _+_, _*_, _/_, _%_, _^_, _≤_, _<_}
+use native.Mathlib.Nat.{add-zero}
 use native.Mathlib.Numerals.{add-one}
 use native.Mathlib.Omega.{arith}
 use mathlib.Core.Bool.{Bool, true, false, cond, not, _&&_, _||_, and-false, or-true, false≢true}
@@ -11,7 +11,7 @@ use mathlib.Core.Path.{_≡_, refl, sym, ap, _∙_}
 use borrow.Author.Tests.{eqb-true, eqb-false, eq-eqb, ne-eqb, le-leb, lt-leb, lt-ltb, le-ltb, ltb-false, leb-false, not-false}
 use lib.Dec.{eqb, ltb, leb}
 use lib.ListN.{length, getD, take, drop, set, length-drop, length-set, length-map, length-append, drop-of-length-le}
-use lib.Seq.{drop-cons, take-all, length-take-le, getD-take, getD-drop, getD-set-same, take-take, take-suc-set, drop-set-add, append-snoc, sets}
+use lib.Seq.{drop-cons, length-take-le, getD-take, getD-drop, take-take, take-suc-set, append-snoc, sets}
 use Rattle.rules.specs.Text.{bytes, parted, linesOf, fieldsOf, decimalOf, decimal, LF, TAB}
 use Rattle.rules.specs.TextLaws.{
   Free,
@@ -34,80 +34,19 @@ use Rattle.rules.specs.Tries.{Row, Form, stepOf, requestOf, isEntry, isRow, at,
 use Rattle.rules.specs.TrieLaws.{Follows, follows-true, true-follows}
 use Rattle.rules.specs.Listing.{Sofar, isLetter, placeIn, letters, markOf, read, ofForm, entryOf, nodeOf, rowOf, past, refusal, before, rowsFrom, enteredBy}
 use Rattle.rules.specs.ListingLaws.{bind-some, place-read}
-use Rattle.text.specs.Before.{before as earlier}
-use Rattle.text.specs.Answers.{lineAt, firstLine, fieldAt, firstField}
-use Rattle.text.proofs.Laws.{NumberEnds, more-within, part-split, part-within, parted-next, parted-whole, parted-cut, drop-some, letter-none}
-use Rattle.text.specs.declared.Line.{Line}
-use Rattle.text.specs.declared.Line.the-variants.{End, Whole, Cut}
-use Rattle.text.specs.declared.Field.{Field}
-use Rattle.text.specs.declared.Field.the-variants.{More, Last}
-use Rattle.trie.specs.Words.{wordOf}
-use Rattle.trie.specs.States.{formOf, wordsOf, storing, refusing}
-use Rattle.trie.specs.declared.Kind.{Kind}
-use Rattle.trie.specs.declared.Limits.{Limits}
-use Rattle.trie.specs.declared.Reply.the-variants.{Done}
+use Rattle.text.proofs.FieldLaws.{place-within}
+use Rattle.text.proofs.Laws.{NumberEnds, part-split, part-within, drop-some}
+use Rattle.rows.specs.Words.{wordOf}
+use Rattle.rows.specs.States.{formOf, wordsOf, storing}
+use Rattle.words.specs.Runs.{refusing, stored}
+use Rattle.rows.specs.declared.Kind.{Kind}
+use Rattle.rows.specs.declared.Limits.{Limits}
+use Rattle.words.specs.declared.Reply.the-variants.{Done}
 use Rattle.manifest.specs.declared.reading.Sofar.{Sofar as Kept}
 use Rattle.manifest.specs.Lines.{ended, rowFrom, rowAt, kindIn}
-use Rattle.manifest.specs.Reads.{nodeRow, formFor, sofarIn, stored, Room, RowFits, Passed, rowsBy, wordsFor}
+use Rattle.manifest.specs.Reads.{nodeRow, formFor, sofarIn, Room, RowFits, Passed, rowsBy, wordsFor}
 use Rattle.manifest.specs.Outcomes.{readIn}
-
--- ---- the parts of a text
-
--- a field that a tab ends stands in front of the fields behind the tab
-fields-more : (line : List ℕ) (at end : ℕ) (r : Field) → r ≡ fieldAt line at → r ≡ More end →
-    fieldsOf (drop at line) ≡ take (end - at) (drop at line) ∷ fieldsOf (drop (end + 1) line)
-fields-more line at end r ensured e = go (fieldsOf (drop at line)) refl (sym ensured ∙ e)
-  where
-    go : (fields : List (List ℕ)) → fieldsOf (drop at line) ≡ fields → firstField at fields ≡ More end →
-        fieldsOf (drop at line) ≡ take (end - at) (drop at line) ∷ fieldsOf (drop (end + 1) line)
-    go [] q e = absurd (let z : _≡_ {A = ℕ} 0 1 = cc in omega arith)
-    go (field ∷ []) q e = absurd (let z : _≡_ {A = ℕ} 0 1 = cc in omega arith)
-    go (field ∷ next ∷ fields) q e =
-        let place : at + length field ≡ end = cc in
-        parted-next TAB at line field next fields q ∙ rw (← place, add-sub-cancel-left)
-
--- what is known of a field that a tab ends: where it ends, and the fields from it on
-abbrev pub Ends : List ℕ → ℕ → ℕ → Type 0
-Ends line at end =
-    (at ≤ end) × (end < length line) × (fieldsOf (drop at line) ≡ take (end - at) (drop at line) ∷ fieldsOf (drop (end + 1) line))
-
-pub field-ends : (line : List ℕ) (at end : ℕ) (r : Field) → r ≡ fieldAt line at → r ≡ More end → Ends line at end
-field-ends line at end r ensured e =
-    let (behind, within) = more-within line at end r ensured e in
-    (behind, within, fields-more line at end r ensured e)
-
--- a last field is all that is left
-pub fields-last : (line : List ℕ) (at : ℕ) (r : Field) → r ≡ fieldAt line at → r ≡ Last →
-    fieldsOf (drop at line) ≡ take (length line - at) (drop at line) ∷ []
-fields-last line at r ensured e =
-    compared (at + length (earlier TAB (drop at line))) (length line)
-    (λ h.
-    let (next, others, p) = parted-cut TAB at line h in
-    let other : Last ≡ More (at + length (earlier TAB (drop at line))) = sym e ∙ ensured ∙ ap (firstField at) p in
-    absurd (let z : _≡_ {A = ℕ} 0 1 = cc in omega arith))
-    (λ h. parted-whole TAB at line h ∙ rw (take-all (length line - at) (drop at line) (omega (arith, length-drop at line))))
-
--- ---- the numbers of a row
-
--- a field of no byte, or of more, is at no place among letters
-pub place-none : (xs field : List ℕ) → (length field ≡ 1 → ⊥) → placeIn xs field ≡ none
-unfolding placeIn
-place-none [] field h = refl
-place-none (x ∷ xs) field h = rw (letter-none x field h, place-none xs field h)
-
--- a field of one byte is that byte
-one-byte : (field : List ℕ) → length field ≡ 1 → field ≡ getD field 0 0 ∷ []
-one-byte [] h = absurd (omega arith)
-one-byte (byte ∷ []) h = refl
-one-byte (byte ∷ more ∷ field) h = absurd (omega arith)
-
--- so its place among letters is that byte's
-pub place-one : (xs field : List ℕ) {byte : ℕ} → length field ≡ 1 → getD field 0 0 ≡ byte → placeIn xs field ≡ placeIn xs (byte ∷ [])
-place-one xs field h e = ap (placeIn xs) (one-byte field h) ∙ rw e
-
--- a place among letters is one of theirs
-pub place-within : (xs field : List ℕ) (n : ℕ) → placeIn xs field ≡ some n → n < length xs
-place-within xs field n e = place-read xs field n e .0
+use Rattle.words.specs.RunLaws.{stored-next, behind, behind-none}
 
 -- ---- the fields of a line, one after the other
 
@@ -574,12 +513,6 @@ place-next : (path : List ℕ) (len : ℕ) (row : Row) → len ≤ length path �
 place-next path len row fits near inside =
     rw (add-one, take-suc-set path (row .depth) (row .step) inside, take-take (row .depth) len path near)
 
--- a word behind the others is stored after them
-pub stored-next : (rows : List ℕ) (count word : ℕ) → count + 1 < length rows → stored (count + 1) (set rows (count + 1) word) ≡ stored count rows ++ (word ∷ [])
-stored-next rows count word inside =
-    let behind : drop 1 (set rows (count + 1) word) ≡ set (drop 1 rows) count word = rw (add-comm count 1) (drop-set-add 1 rows count word) in
-    rw behind (rw add-one (take-suc-set (drop 1 rows) count word (omega (arith, length-drop 1 rows))))
-
 -- a row that is not refused is passed with its step in the path and its word behind the others
 pub row-passed :
     (limits : Limits) (kept : Kept) (path rows : List ℕ) (row : Row) {word : ℕ} {next : Kept} →
@@ -622,31 +555,6 @@ row-passed limits kept path rows row {word} {next} room unrefused packed len ent
         (omega (arith, room .few-entries), omega arith, omega arith)
 
 -- ---- the lines of a text
-
--- a line that an LF ends stands in front of the lines behind the LF
-pub lines-whole : (text : List ℕ) (at end : ℕ) (r : Line) → r ≡ lineAt text at → r ≡ Whole end →
-    linesOf (drop at text) ≡ take (end - at) (drop at text) ∷ linesOf (drop (end + 1) text)
-lines-whole text at end r ensured e = go (linesOf (drop at text)) refl (sym ensured ∙ e)
-  where
-    last : (empty : Bool) → cond empty End Cut ≡ Whole end → ⊥
-    last true e = let z : _≡_ {A = ℕ} 0 1 = cc in omega arith
-    last false e = let z : _≡_ {A = ℕ} 0 1 = cc in omega arith
-
-    go : (lines : List (List ℕ)) → linesOf (drop at text) ≡ lines → firstLine at lines ≡ Whole end →
-        linesOf (drop at text) ≡ take (end - at) (drop at text) ∷ linesOf (drop (end + 1) text)
-    go [] q e = absurd (let z : _≡_ {A = ℕ} 0 1 = cc in omega arith)
-    go (line ∷ []) q e = absurd (last (eqb (length line) 0) e)
-    go (line ∷ next ∷ lines) q e =
-        let place : at + length line ≡ end = cc in
-        parted-next LF at text line next lines q ∙ rw (← place, add-sub-cancel-left)
-
--- what is left without an LF is one line, and not an empty one
-pub lines-cut : (text : List ℕ) (at : ℕ) (r : Line) → r ≡ lineAt text at → ((end : ℕ) → r ≡ Whole end → ⊥) → at < length text →
-    (linesOf (drop at text) ≡ drop at text ∷ []) × (eqb (length (drop at text)) 0 ≡ false)
-lines-cut text at r ensured unended more =
-    compared (at + length (earlier LF (drop at text))) (length text)
-    (λ h. let (next, others, p) = parted-cut LF at text h in absurd (unended _ (ensured ∙ ap (firstLine at) p)))
-    (λ h. (parted-whole LF at text h, drop-some at text more))
 
 -- what is known of a line that is read: its fields are the row's, and an LF ends it
 abbrev RowLine : List ℕ → ℕ → Row → ℕ → Type 0
@@ -707,15 +615,6 @@ module _ (form : Form) (sofar : Sofar) (place : ℕ) (text : List ℕ) (at : ℕ
         rw (lines, parted-some LF (drop (end + 1) text) .2, rowsFrom, read-row, unrefused)
 
 -- ---- reading from line to line
-
--- words in front of those that are still to come
-abbrev pub behind : List ℕ → Answer (List ℕ) → Answer (List ℕ)
-behind words (accepted more) = accepted (words ++ more)
-behind words (refused number place) = refused number place
-
-pub behind-none : (answer : Answer (List ℕ)) → behind [] answer ≡ answer
-behind-none (accepted more) = refl
-behind-none (refused number place) = refl
 
 behind-row : (words : List ℕ) (row : Row) (answer : Answer (List Row)) →
     behind words (wordsFor (before row answer)) ≡ behind (words ++ (wordOf row ∷ [])) (wordsFor answer)
@@ -831,20 +730,3 @@ module _ (kind : Kind) (text out : List ℕ) where
     pub read-stored : {words : List ℕ} → accepted words ≡ wordsFor (rowsBy limits text) →
         (words ≡ [] → formOf kind .single ≡ false) → readIn kind text out ≡ record { reply = Done; buffer = sets out 0 (length words ∷ words) }
     read-stored {words} e some-words = read-long ∙ stored-words (formOf kind) out (rowsBy limits text) words e some-words
-
--- rows with their count in front are as many as they are to be, and more than they count
-pub counted-room : (rows : List ℕ) (words count : ℕ) → count < words → words ≤ length rows →
-    (getD (take words (set rows 0 count)) 0 0 < length (take words (set rows 0 count))) × (length (take words (set rows 0 count)) ≡ words)
-counted-room rows words count h fits =
-    let all : length (take words (set rows 0 count)) ≡ words = length-take-le words (set rows 0 count) (simp length-set fits) in
-    let first : getD (take words (set rows 0 count)) 0 0 ≡ count =
-    getD-take words (set rows 0 count) 0 0 (omega arith) ∙ getD-set-same rows 0 count 0 (omega arith) in
-    (omega arith, all)
-
--- and as they are copied
-pub copied : (rows : List ℕ) (words count : ℕ) → count < words → words ≤ length rows →
-    take (getD (take words (set rows 0 count)) 0 0 + 1) (take words (set rows 0 count)) ≡ length (stored count rows) ∷ stored count rows
-copied [] words count h fits = absurd (omega arith)
-copied (x ∷ rest) zero count h fits = absurd (omega arith)
-copied (x ∷ rest) (suc w) count h fits =
-    rw (add-one, take-take count w rest (omega arith), length-take-le count rest (omega arith))

@@ -5,18 +5,19 @@ use mathlib.Core.List.{List, [], _∷_, _++_, map}
 use mathlib.Core.Option.{Option, none, some}
 use mathlib.Core.Path.{_≡_}
 use lib.Dec.{eqb}
-use lib.ListN.{length, take, drop}
+use lib.ListN.{length, take}
 use Rattle.rules.specs.Numbers.{Answer, accepted, refused}
 use Rattle.rules.specs.Text.{linesOf}
 use Rattle.rules.specs.Tries.{Row, Form, stepOf, isEntry}
 use Rattle.rules.specs.Listing.{Sofar, read, ofForm, refusal, start, past, rowsFrom, _>>=_}
-use Rattle.trie.specs.Words.{wordOf}
-use Rattle.trie.specs.declared.Limits.{Limits}
+use Rattle.rows.specs.Words.{wordOf}
+use Rattle.rows.specs.declared.Limits.{Limits}
 use Rattle.manifest.specs.declared.reading.Sofar.{Sofar as Kept}
 use Rattle.manifest.specs.declared.reading.Took.{Took}
 use Rattle.manifest.specs.declared.reading.Took.the-variants.{Next, Refused as Stopped}
 use Rattle.manifest.specs.declared.reading.Got.{Got}
 use Rattle.manifest.specs.declared.reading.Got.the-variants.{Rows, Refused}
+use Rattle.words.specs.Runs.{stored}
 
 -- the row of a node's four numbers, if it is of its form
 abbrev pub nodeRow : ℕ → ℕ → ℕ → ℕ → Option Row
@@ -35,10 +36,6 @@ sofarIn kept path = record { place = take (kept .len) path; entries = kept .entr
 -- a refusal's number, if it is not 0
 abbrev pub numbered : ℕ → Option ℕ
 numbered number = cond (eqb number 0) none (some number)
-
--- so many words are stored, from place 1 on
-abbrev pub stored : ℕ → List ℕ → List ℕ
-stored count rows = take count (drop 1 rows)
 
 -- what is kept has room in the path and among the rows
 pub record Room (limits : Limits) (kept : Kept) (path rows : List ℕ) : Type 0 where

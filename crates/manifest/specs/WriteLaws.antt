@@ -1,6 +1,5 @@
 -- Laws of writing a listing byte by byte (Writes), of its length, and of what writing answers (Outcomes). No contract cites this file.
-use Prim.Native.Nat.{ℕ, suc, _+_, _*_, _^_, _≤_, _<_}
-use native.Mathlib.Nat.{add-zero, add-suc, suc-add}
+use Prim.Native.Nat.{ℕ, _+_, _*_, _^_, _≤_, _<_}
 use native.Mathlib.Numerals.{add-one}
 use native.Mathlib.Omega.{arith}
 use mathlib.Core.Bool.{Bool, true, false, cond}
@@ -9,9 +8,9 @@ use mathlib.Core.Path.{_≡_, refl, sym, ap, _∙_}
 use mathlib.Core.Logic.{_≢_}
 use borrow.Author.Tests.{ltb-true, leb-true, le-leb, lt-leb, ne-eqb}
 use lib.Dec.{leb, ltb}
-use lib.ListN.{length, getD, drop, set, drop-of-length-le, length-append}
+use lib.ListN.{length, getD, drop, drop-of-length-le, length-append}
 use lib.Seq.{sets, length-sets, drop-cons, append-snoc}
-use Rattle.rules.specs.Facts.{by-test}
+use Rattle.rules.specs.Facts.{by-test, both-true}
 use Rattle.rules.specs.Text.{bytes, decimal, LF, TAB}
 use Rattle.rules.specs.TextLaws.{length-decimal, length-decimalIn}
 use Rattle.rules.specs.Tries.{
@@ -30,53 +29,17 @@ use Rattle.rules.specs.Tries.{
 }
 use Rattle.rules.specs.TrieLaws.{Ordered, ordered-true, node-step}
 use Rattle.rules.specs.Listing.{lineOf, letters, fieldsFor, listing, read}
-use Rattle.trie.specs.Words.{depthIn, stepIn, markIn, rowOf, isWord}
-use Rattle.trie.specs.WordLaws.{is-row}
-use Rattle.trie.specs.States.{formOf, wordsOf, rowsOf, rowsIn, lawfulState}
-use Rattle.trie.specs.StateLaws.{both-true, rows-ordered, Within, limits-kept}
-use Rattle.trie.specs.declared.Kind.{Kind}
-use Rattle.trie.specs.declared.Kind.the-variants.{Contribution, Manifest}
+use Rattle.rows.specs.Words.{depthIn, stepIn, markIn, rowOf, isWord}
+use Rattle.rows.specs.WordLaws.{is-row}
+use Rattle.rows.specs.States.{formOf, wordsOf, rowsOf, rowsIn, lawfulState}
+use Rattle.rows.specs.StateLaws.{rows-ordered, Within, limits-kept}
+use Rattle.rows.specs.declared.Kind.{Kind}
+use Rattle.rows.specs.declared.Kind.the-variants.{Contribution, Manifest}
 use Rattle.manifest.specs.Lines.{lineFor}
 use Rattle.manifest.specs.Outcomes.{TextOutcome, bytesOf, writeIn}
-use Rattle.manifest.specs.Writes.{Wrote}
+use Rattle.words.specs.Runs.{Wrote}
 use Rattle.manifest.specs.declared.listing.Written.the-variants.{Bytes, Refused}
-
--- ---- runs of bytes
-
--- a second run goes to the place after the first
-sets-append : (l : List ℕ) (i : ℕ) (xs ys : List ℕ) → sets (sets l i xs) (i + length xs) ys ≡ sets l i (xs ++ ys)
-sets-append l i [] ys = rw add-zero
-sets-append l i (x ∷ xs) ys = rw (add-suc, ← suc-add) (sets-append (set l i x) (suc i) xs ys)
-
--- what is written keeps the length
-pub wrote-length : {out xs out′ : List ℕ} {at at′ : ℕ} → Wrote out at xs out′ at′ → length out′ ≡ length out
-wrote-length {out} {xs} {at} w = rw (w .text) (length-sets out at xs)
-
-module _ {out xs ys out₁ out₂ : List ℕ} {at at₁ at₂ : ℕ} (first : Wrote out at xs out₁ at₁) where
-  -- a run after a run
-  pub wrote-more : Wrote out₁ at₁ ys out₂ at₂ → Wrote out at (xs ++ ys) out₂ at₂
-  wrote-more rest = record {
-    after = omega (arith, length-append xs ys);
-    text = rest .text ∙ rw (first .text, first .after) (sets-append out at xs ys);
-  }
-
-  -- what is left of two runs after the first
-  wrote-left : Wrote out at (xs ++ ys) out₂ at₂ → Wrote out₁ at₁ ys out₂ at₂
-  wrote-left both = record {
-    after = omega (arith, length-append xs ys);
-    text = both .text ∙ rw (first .text, first .after) (sym (sets-append out at xs ys));
-  }
-
--- a byte after a run
-pub wrote-ended : (out xs : List ℕ) (at b : ℕ) {out′ : List ℕ} {at′ : ℕ} → (at′ ≡ at + length xs) × (out′ ≡ sets out at xs) →
-    Wrote out at (xs ++ (b ∷ [])) (set out′ at′ b) (at′ + 1)
-wrote-ended out xs at b {out′} {at′} e =
-    let first : Wrote out at xs out′ at′ = record { after = e .0; text = e .1 } in
-    wrote-more first (record { after = refl; text = refl })
-
--- bytes that are the same
-pub wrote-same : {out xs ys out′ : List ℕ} {at at′ : ℕ} → xs ≡ ys → Wrote out at xs out′ at′ → Wrote out at ys out′ at′
-wrote-same e w = rw e at w
+use Rattle.words.specs.RunLaws.{wrote-length, wrote-more, wrote-left}
 
 -- ---- lines
 

@@ -1,15 +1,14 @@
 // An empty manifest, and adding one contribution to a manifest.
 ghost use mathlib.Core.Path.{_≡_};
 ghost use Prim.Native.Nat.{_+_, _<_, _≤_};
-ghost use lib.ListN.{length, take, getD};
-ghost use lib.Seq.{sets};
+ghost use lib.ListN.{length};
 ghost use mathlib.Core.Bool.{true};
 ghost use Rattle.rules.specs.Tries.{manifest as manifestForm, contribution as contributionForm};
 ghost use Rattle.rules.specs.Building.{add as addRows};
-ghost use Rattle.trie.specs.States.{lawfulState, rowsIn, storing};
+ghost use Rattle.rows.specs.States.{lawfulState, rowsIn, storing};
 ghost use Rattle.manifest.specs.Outcomes.{emptyIn, addIn};
-use trie::Kind;
-use trie::Reply;
+use rows::Kind;
+use words::Reply;
 
 // The lent state of a manifest: its limits and its length.
 pub struct EntityManifest {}
@@ -38,10 +37,10 @@ impl EntityManifest {
         if contribution.len() < Kind::Contribution.words() {
             return Reply::Refused(31, 0);
         }
-        if !trie::is_lawful(Kind::Manifest, manifest) {
+        if !rows::is_lawful(Kind::Manifest, manifest) {
             return Reply::Refused(1, 0);
         }
-        if !trie::is_lawful(Kind::Contribution, contribution) {
+        if !rows::is_lawful(Kind::Contribution, contribution) {
             return Reply::Refused(1, 0);
         }
         let mut united = [0u64; 4_161];
@@ -49,7 +48,7 @@ impl EntityManifest {
         let Reply::Done = reply else {
             return reply;
         };
-        copy_rows(&united, manifest);
+        words::copy_rows(&united, manifest);
         Reply::Done
     }
 }
@@ -61,23 +60,10 @@ fn unite(manifest: &[u64], contribution: &[u64], united: &mut [u64]) -> Reply
 {
     let manifest_end = manifest[0] as usize + 1;
     let contribution_end = contribution[0] as usize + 1;
-    trie::union_rows(
+    union::union_rows(
         Kind::Manifest,
         &manifest[1..manifest_end],
         &contribution[1..contribution_end],
         united,
     )
-}
-
-// Copies a state's count and rows; what follows them stays.
-pub fn copy_rows(from: &[u64], to: &mut [u64])
-    requires { ⌜ (getD (now from) 0 0 < length (now from)) × (length (now from) ≤ length (now to)) ⌝ }
-    ensures { λ _. ⌜ now (to .exit) ≡ sets (now (to .entry)) 0 (take (getD (now (from .entry)) 0 0 + 1) (now (from .entry))) ⌝ }
-{
-    let end = from[0] as usize + 1;
-    let mut i = 0;
-    while i < end {
-        to[i] = from[i];
-        i += 1;
-    }
 }

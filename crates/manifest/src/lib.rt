@@ -6,7 +6,6 @@ mod reading;
 mod writing;
 
 pub use add::EntityManifest;
-pub use add::copy_rows;
 pub use listing::Written;
 pub use listing::read_listing;
 pub use listing::write_listing;

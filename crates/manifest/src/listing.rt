@@ -1,12 +1,11 @@
 // The listing of a manifest or a contribution, written and read.
 ghost use mathlib.Core.Path.{_≡_};
 ghost use Rattle.manifest.specs.Outcomes.{bytesOf, readIn, writeIn};
-use crate::add::copy_rows;
 use crate::reading::Got;
 use crate::reading::read_rows;
 use crate::writing::write_rows;
-use trie::Kind;
-use trie::Reply;
+use rows::Kind;
+use words::Reply;
 
 // What writing answers: how many bytes there are, or a refusal's number and place.
 pub enum Written {
@@ -34,7 +33,7 @@ pub fn write_listing(kind: Kind, state: &[u64], out: &mut [u8]) -> Written
     if out.len() < text_len(kind) {
         return Written::Refused(31, 0);
     }
-    if !trie::is_lawful(kind, state) {
+    if !rows::is_lawful(kind, state) {
         return Written::Refused(1, 0);
     }
     let end = state[0] as usize + 1;
@@ -59,7 +58,7 @@ pub fn read_listing(kind: Kind, text: &[u8], out: &mut [u64]) -> Reply
                 }
             }
             rows[0] = count;
-            copy_rows(&rows[..words], out);
+            words::copy_rows(&rows, out);
             Reply::Done
         }
     }

@@ -7,9 +7,9 @@ ghost use Rattle.rules.specs.Listing.{read, refusal as refusalOf};
 ghost use Rattle.manifest.specs.Reads.{formFor, sofarIn, numbered, Room, RowFits, Taken, rowsBy, wordsFor, gotIn, countOf};
 use crate::line::Parsed;
 use crate::line::parse;
-use trie::Kind;
-use trie::Limits;
-use trie::Row;
+use rows::Kind;
+use rows::Limits;
+use rows::Row;
 
 // Where reading has come to: the length of the last row's place, and how many entries and nodes there are.
 pub struct Sofar {

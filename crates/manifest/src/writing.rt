@@ -7,12 +7,12 @@ ghost use lib.ListN.{length, getD};
 ghost use Rattle.rules.specs.Text.{decimal};
 ghost use Rattle.rules.specs.Tries.{kindOf};
 ghost use Rattle.rules.specs.Listing.{letters, listing, read};
-ghost use Rattle.trie.specs.Words.{rowOf, isWord};
-ghost use Rattle.trie.specs.States.{allWords, rowsOf};
+ghost use Rattle.rows.specs.Words.{rowOf, isWord};
+ghost use Rattle.rows.specs.States.{allWords, rowsOf};
 ghost use Rattle.manifest.specs.Lines.{lineFor};
-ghost use Rattle.manifest.specs.Writes.{Wrote};
+ghost use Rattle.words.specs.Runs.{Wrote};
 use text::Decimal;
-use trie::Row;
+use rows::Row;
 
 // The letters of the steps, by kind.
 fn letter(kind: u64) -> u8

@@ -5,8 +5,8 @@ use libc::STDOUT_FILENO;
 use manifest::EntityManifest;
 use manifest::Written;
 use text::Line;
-use trie::Kind;
-use trie::Reply;
+use rows::Kind;
+use words::Reply;
 
 // The longest text of a case, and the words of a contribution. Eight contributions are kept.
 const TEXT: usize = 65_536;

@@ -1,12 +1,13 @@
 -- Facts on tests, on statements and on lists that speak of no trie.
-use Prim.Native.Nat.{ℕ, zero, suc, _+_, _≤_, _<_}
+use Prim.Native.Nat.{ℕ, zero, suc, _+_, _≤_, _<_, min, max}
+use native.Mathlib.Nat.{le-of-lt, min-eq-left, min-eq-right, max-eq-left, max-eq-right}
 use native.Mathlib.Omega.{arith}
 use mathlib.Core.Path.{_≡_, refl, sym}
 use mathlib.Core.Logic.{_⊎_, inl, inr, _↔_, ⊎-map, ⊎-elim}
 use mathlib.Core.Bool.{Bool, true, false, cond, _&&_, _||_, false≢true, true≢false}
 use mathlib.Core.List.{List, [], _∷_, _++_}
 use mathlib.Core.Option.{Option, none, some, Option·none-ne-some, Option·some-ne-none}
-use borrow.Author.Tests.{ltb-true, ltb-false}
+use borrow.Author.Tests.{ltb-true, ltb-false, lt-ltb, le-ltb}
 use lib.Dec.{ltb}
 use lib.ListN.{length, take, getD}
 
@@ -25,6 +26,11 @@ compared m n less not-less = by-test (ltb m n) (λ e. less (ltb-true m n e)) (λ
 pub cond-true : (t u : Bool) → (cond t u false ≡ true) ↔ ((t ≡ true) × (u ≡ true))
 cond-true true u = (λ e. (refl, e), λ h. h .1)
 cond-true false u = (λ e. absurd (false≢true e), λ h. h .0)
+
+-- two tests that both hold
+pub both-true : (t u : Bool) → (t && u) ≡ true → (t ≡ true) × (u ≡ true)
+both-true true u e = (refl, e)
+both-true false u e = absurd (let z : _≡_ {A = ℕ} 0 1 = cc in omega arith)
 
 -- of two tests not both are true: where the first is, the second is false
 pub and-false : (t u : Bool) → (t && u ≡ false) ↔ (t ≡ true → u ≡ false)
@@ -60,6 +66,47 @@ pub same-test : (t u : Bool) → (t ≡ true) ↔ (u ≡ true) → t ≡ u
 same-test true u h = sym (h .0 refl)
 same-test false true h = h .1 refl
 same-test false false h = refl
+
+-- Numbers: the larger of two, and a number that stops at a limit.
+
+unfoldable pub larger : ℕ → ℕ → ℕ
+larger a b = cond (ltb a b) b a
+
+unfoldable pub capped : ℕ → ℕ → ℕ
+capped most n = cond (ltb n most) n most
+
+-- they are the operations that linear arithmetic knows
+pub larger-max : (a b : ℕ) → larger a b ≡ max a b
+unfolding larger
+larger-max a b = compared a b (λ h. simp (lt-ltb, max-eq-right, le-of-lt h)) (λ h. simp (le-ltb, max-eq-left))
+
+pub capped-min : (most n : ℕ) → capped most n ≡ min most n
+unfolding capped
+capped-min most n = compared n most (λ h. simp (lt-ltb, min-eq-right, le-of-lt h)) (λ h. simp (le-ltb, min-eq-left))
+
+-- a number is above a limit exactly where its count, stopped past the limit, is
+pub capped-above : (most n : ℕ) → ltb most (capped (suc most) n) ≡ ltb most n
+capped-above most n =
+    compared most n
+    (λ h. rw (capped-min, lt-ltb most n) (lt-ltb most (min (suc most) n) (omega arith)))
+    (λ h. rw (capped-min, le-ltb most n) (le-ltb most (min (suc most) n) (omega arith)))
+
+-- and so with something added
+pub capped-sum-above : (most a n : ℕ) → ltb most (a + capped (suc most) n) ≡ ltb most (a + n)
+capped-sum-above most a n =
+    compared most (a + n)
+    (λ h. rw (capped-min, lt-ltb most (a + n)) (lt-ltb most (a + min (suc most) n) (omega arith)))
+    (λ h. rw (capped-min, le-ltb most (a + n)) (le-ltb most (a + min (suc most) n) (omega arith)))
+
+-- the larger of two is above a limit exactly where one of them is
+pub larger-above : (most a b : ℕ) → ltb most (larger a b) ≡ (ltb most a || ltb most b)
+larger-above most a b =
+    compared most a
+    (λ h. rw (larger-max, lt-ltb most a) (lt-ltb most (max a b) (omega arith)))
+    (λ h.
+    compared most b
+    (λ k. rw (larger-max, le-ltb most a, lt-ltb most b) (lt-ltb most (max a b) (omega arith)))
+    (λ k. rw (larger-max, le-ltb most a, le-ltb most b) (le-ltb most (max a b) (omega arith))))
 
 -- Choices.
 

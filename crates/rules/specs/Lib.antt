@@ -2,7 +2,6 @@
 pub mod Numbers
 pub mod Text
 pub mod TextLaws
-pub mod SeqLaws
 pub mod Tries
 pub mod Facts
 pub mod TrieLaws

@@ -1,27 +1,17 @@
 -- Laws of types (Schema, Paths, Steps): where they stand in a schema, the tries that they give, how deep and how long those are,
 -- and the types of fields.
-use Prim.Native.Nat.{ℕ, zero, suc, _+_, _≤_, _<_, min, max}
+use Prim.Native.Nat.{ℕ, zero, suc, _+_, _≤_, _<_}
 use native.Mathlib.Omega.{arith}
-use native.Mathlib.Nat.{le-refl, le-of-lt, min-eq-left, min-eq-right, max-eq-left, max-eq-right}
+use native.Mathlib.Nat.{le-refl}
 use mathlib.Core.Path.{_≡_, refl, sym, ap, _∙_}
 use mathlib.Core.Bool.{Bool, true, false, cond, not, _&&_, _||_, and-eq-true-iff}
 use mathlib.Core.Option.{none, some, Option·none-ne-some}
 use mathlib.Core.Logic.{inl, inr}
-use mathlib.Core.List.{
-  List,
-  [],
-  _∷_,
-  _++_,
-  append-assoc,
-  append-nil,
-  List·Memᴰ as Member,
-  List·Memᴰ·not-nil as none-in-empty,
-  List·Memᴰ·cases-cons as here-or-later,
-}
+use mathlib.Core.List.{List, [], _∷_, _++_, append-assoc, append-nil, List·Memᴰ as Member, List·Memᴰ·not-nil as none-in-empty, List·Memᴰ·cases-cons as here-or-later}
 use lib.Dec.{leb, ltb, eqb}
 use lib.ListN.{length, take, length-append}
-use borrow.Author.Tests.{ltb-true, leb-true, eqb-true, eqb-false, lt-ltb, le-ltb, le-leb, lt-leb, eq-eqb, ne-eqb}
-use Rattle.rules.specs.Facts.{by-test, compared, cond-true}
+use borrow.Author.Tests.{ltb-true, leb-true, eqb-true, eqb-false, le-ltb, le-leb, lt-leb, eq-eqb, ne-eqb}
+use Rattle.rules.specs.Facts.{by-test, compared, cond-true, larger, capped, larger-max, capped-min, larger-above}
 use Rattle.rules.specs.Tries.{Row, union}
 use Rattle.rules.specs.TrieLaws.{Turns, no-left, no-right, left, right, both, union-turns}
 use Rattle.rules.specs.Listing.{read}
@@ -61,47 +51,6 @@ use Rattle.rules.specs.Paths.{
   attributeType,
 }
 use Rattle.rules.specs.Steps.{isTooDeep}
-
--- Numbers: the larger of two, and a number that stops at a limit.
-
-unfoldable pub larger : ℕ → ℕ → ℕ
-larger a b = cond (ltb a b) b a
-
-unfoldable pub capped : ℕ → ℕ → ℕ
-capped most n = cond (ltb n most) n most
-
--- they are the operations that linear arithmetic knows
-pub larger-max : (a b : ℕ) → larger a b ≡ max a b
-unfolding larger
-larger-max a b = compared a b (λ h. simp (lt-ltb, max-eq-right, le-of-lt h)) (λ h. simp (le-ltb, max-eq-left))
-
-pub capped-min : (most n : ℕ) → capped most n ≡ min most n
-unfolding capped
-capped-min most n = compared n most (λ h. simp (lt-ltb, min-eq-right, le-of-lt h)) (λ h. simp (le-ltb, min-eq-left))
-
--- a number is above a limit exactly where its count, stopped past the limit, is
-pub capped-above : (most n : ℕ) → ltb most (capped (suc most) n) ≡ ltb most n
-capped-above most n =
-    compared most n
-    (λ h. rw (capped-min, lt-ltb most n) (lt-ltb most (min (suc most) n) (omega arith)))
-    (λ h. rw (capped-min, le-ltb most n) (le-ltb most (min (suc most) n) (omega arith)))
-
--- and so with something added
-pub capped-sum-above : (most a n : ℕ) → ltb most (a + capped (suc most) n) ≡ ltb most (a + n)
-capped-sum-above most a n =
-    compared most (a + n)
-    (λ h. rw (capped-min, lt-ltb most (a + n)) (lt-ltb most (a + min (suc most) n) (omega arith)))
-    (λ h. rw (capped-min, le-ltb most (a + n)) (le-ltb most (a + min (suc most) n) (omega arith)))
-
--- the larger of two is above a limit exactly where one of them is
-pub larger-above : (most a b : ℕ) → ltb most (larger a b) ≡ (ltb most a || ltb most b)
-larger-above most a b =
-    compared most a
-    (λ h. rw (larger-max, lt-ltb most a) (lt-ltb most (max a b) (omega arith)))
-    (λ h.
-    compared most b
-    (λ k. rw (larger-max, le-ltb most a, lt-ltb most b) (lt-ltb most (max a b) (omega arith)))
-    (λ k. rw (larger-max, le-ltb most a, le-ltb most b) (le-ltb most (max a b) (omega arith))))
 
 -- Rows that go deeper.
 

@@ -10,7 +10,7 @@ use lib.Dec.{leb}
 use lib.ListN.{length, drop, getD, drop-of-length-le}
 use lib.Seq.{drop-cons}
 use Rattle.rules.specs.Schema.{Item, Known, unknown, fits, beyond, lawfulItems}
-use Rattle.trie.specs.States.{wordsIn}
+use Rattle.words.specs.Runs.{wordsIn}
 use Rattle.schema.specs.Items.{itemIn, isItem, allItems, itemsOf, goodItems, lawfulSchema}
 use Rattle.schema.specs.Reads.{Bounded}
 use Rattle.schema.specs.KnownLaws.{bounded-beyond}

@@ -9,8 +9,8 @@ use lib.Seq.{sets}
 use Rattle.rules.specs.Numbers.{Answer, accepted, refused}
 use Rattle.rules.specs.Listing.{_>>=_}
 use Rattle.rules.specs.Schema.{Item, item, unknown, lawfulItems, readSchema, setType, entityType, entityLine, ascending, namesOf}
-use Rattle.trie.specs.States.{Outcome, refusing, wordsIn}
-use Rattle.trie.specs.declared.Reply.the-variants.{Done}
+use Rattle.words.specs.Runs.{Outcome, refusing, wordsIn}
+use Rattle.words.specs.declared.Reply.the-variants.{Done}
 use Rattle.schema.specs.declared.item.Item.{Item as ItemRead}
 use Rattle.schema.specs.declared.line.Parsed.{Parsed}
 use Rattle.schema.specs.declared.line.Parsed.the-variants.{Of, Bad}

@@ -1,8 +1,6 @@
 -- What a schema's words mean, and what each operation of `schema` answers and leaves.
 pub mod ItemLaws
 pub mod Items
-pub mod KeyLaws
-pub mod Keys
 pub mod KnownLaws
 pub mod LineLaws
 pub mod ReadLaws

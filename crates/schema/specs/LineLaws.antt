@@ -1,6 +1,5 @@
 -- Laws of the fields of a schema's lines. No contract cites this file.
 use Prim.Native.Nat.{ℕ, _+_, _≤_, _<_}
-use native.Mathlib.Nat.{sub-zero}
 use native.Mathlib.Omega.{arith}
 use mathlib.Core.Bool.{Bool, cond}
 use mathlib.Core.List.{List, [], _∷_}
@@ -9,46 +8,22 @@ use mathlib.Core.Option.{Option, none, some}
 use mathlib.Core.Path.{_≡_, refl, sym, ap, _∙_}
 use borrow.Author.Tests.{ne-eqb, le-leb, lt-leb, leb-true, leb-false}
 use lib.Dec.{leb}
-use lib.ListN.{length}
-use lib.Seq.{take-all}
 use Rattle.rules.specs.Facts.{by-option, by-test}
-use Rattle.rules.specs.Text.{fieldsOf, decimalOf}
+use Rattle.rules.specs.Text.{decimalOf}
 use Rattle.rules.specs.Listing.{_>>=_}
 use Rattle.rules.specs.Schema.{ascending, namesOf, valueOf}
-use Rattle.text.specs.Answers.{fieldAt}
-use Rattle.text.specs.declared.Field.{Field}
-use Rattle.text.specs.declared.Field.the-variants.{Last}
-use Rattle.manifest.specs.ReadLaws.{fields-last}
+use Rattle.text.proofs.FieldLaws.{ascending-bad, ascending-low, ascending-next}
 use Rattle.schema.specs.Items.{given, namedBy}
-
--- a line whose first field is the last is that field
-pub fields-whole : (line : List ℕ) (r : Field) → r ≡ fieldAt line 0 → r ≡ Last → fieldsOf line ≡ line ∷ []
-fields-whole line r ensured e = fields-last line 0 r ensured e ∙ rw (sub-zero, take-all (length line) line (omega arith))
 
 -- ---- decimals that ascend
 
-module _ (least : ℕ) (field : List ℕ) (fields : List (List ℕ)) where
-  -- the first field is no decimal, or too low
-  pub ascending-bad : decimalOf field ≡ none → ascending least (field ∷ fields) ≡ none
-  unfolding ascending
-  ascending-bad e = rw e
-
-  module _ {n : ℕ} (e : decimalOf field ≡ some n) where
-    pub ascending-low : n < least → ascending least (field ∷ fields) ≡ none
-    unfolding ascending
-    ascending-low h = rw (e, lt-leb least n h)
-
-    -- the others follow it
-    pub ascending-next : least ≤ n → ascending least (field ∷ fields) ≡ (ascending (n + 1) fields >>= (λ ns. some (n ∷ ns)))
-    unfolding ascending
-    ascending-next h = rw (e, le-leb least n h)
-
-    pub given-next : least ≤ n → given (ascending least (field ∷ fields)) ≡ given (ascending (n + 1) fields)
-    given-next h = ap given (ascending-next h) ∙ go (ascending (n + 1) fields)
-      where
-        go : (rest : Option (List ℕ)) → given (rest >>= (λ ns. some (n ∷ ns))) ≡ given rest
-        go none = refl
-        go (some ns) = refl
+module _ (least : ℕ) (field : List ℕ) (fields : List (List ℕ)) {n : ℕ} (e : decimalOf field ≡ some n) where
+  pub given-next : least ≤ n → given (ascending least (field ∷ fields)) ≡ given (ascending (n + 1) fields)
+  given-next h = ap given (ascending-next least field fields e h) ∙ go (ascending (n + 1) fields)
+    where
+      go : (rest : Option (List ℕ)) → given (rest >>= (λ ns. some (n ∷ ns))) ≡ given rest
+      go none = refl
+      go (some ns) = refl
 
 -- one decimal is at least `least` or not
 pub given-last : (least n : ℕ) (field : List ℕ) → decimalOf field ≡ some n → given (ascending least (field ∷ [])) ≡ leb least n

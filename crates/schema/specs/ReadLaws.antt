@@ -1,6 +1,5 @@
 -- Laws of the lines that a schema's text is read as. No contract cites this file.
 use Prim.Native.Nat.{ℕ, _+_, _-_, _≤_, _<_}
-use native.Mathlib.Numerals.{add-one}
 use native.Mathlib.Omega.{arith}
 use mathlib.Core.Bool.{Bool, true, false, cond}
 use mathlib.Core.List.{List, [], _∷_, _++_, map, append-nil}
@@ -8,8 +7,8 @@ use mathlib.Core.Option.{Option, none, some, Option·none-ne-some, Option·some-
 use mathlib.Core.Path.{_≡_, refl, sym, ap, _∙_}
 use borrow.Author.Tests.{eqb-true, leb-true, le-leb, lt-leb}
 use lib.Dec.{eqb, leb}
-use lib.ListN.{length, take, drop, set, getD, length-set, length-map, drop-of-length-le}
-use lib.Seq.{append-snoc, sets, getD-set-same, length-take-le}
+use lib.ListN.{length, take, drop, set, length-set, length-map, drop-of-length-le}
+use lib.Seq.{append-snoc, sets}
 use Rattle.rules.specs.Facts.{by-option, cond-some}
 use Rattle.rules.specs.Numbers.{Answer, accepted, refused}
 use Rattle.rules.specs.Text.{parted, bytes, linesOf, fieldsOf, decimalOf, LF}
@@ -21,12 +20,13 @@ use Rattle.text.specs.Answers.{lineAt}
 use Rattle.text.proofs.Laws.{whole-within}
 use Rattle.text.specs.declared.Line.{Line}
 use Rattle.text.specs.declared.Line.the-variants.{Whole}
-use Rattle.trie.specs.States.{refusing}
-use Rattle.trie.specs.declared.Reply.the-variants.{Done}
-use Rattle.manifest.specs.ReadLaws.{lines-whole, lines-cut, stored-next, behind, behind-none, place-within}
+use Rattle.words.specs.Runs.{refusing, stored}
+use Rattle.words.specs.declared.Reply.the-variants.{Done}
+use Rattle.text.proofs.FieldLaws.{lines-whole, lines-cut, place-within}
+use Rattle.words.specs.RunLaws.{stored-next, behind, behind-none}
 use Rattle.schema.specs.declared.known.Known.{Known as Kept}
 use Rattle.schema.specs.Items.{given, namedBy, wordFor, storingItems, readIn}
-use Rattle.schema.specs.Reads.{knownFor, Bounded, stored, Room, Passed, refusedLine, wordsFor}
+use Rattle.schema.specs.Reads.{knownFor, Bounded, Room, Passed, refusedLine, wordsFor}
 use Rattle.schema.specs.KnownLaws.{most-lines, bounded-beyond, counted-beyond}
 use Rattle.schema.specs.LineLaws.{named-bad, named-more}
 
@@ -259,13 +259,3 @@ module _ (text out : List ℕ) where
         readIn text out ≡ record { reply = Done; buffer = sets out 0 (length words ∷ words) }
     unfolding readIn
     read-stored {words} e = rw (le-leb 142337 (length out) long) (stored-words out (readSchema text) words e)
-
--- words with their count in front are more than they count
-pub counted-room : (words : List ℕ) (count : ℕ) → count < length words → getD (set words 0 count) 0 0 < length (set words 0 count)
-counted-room words count h = simp length-set (omega (arith, getD-set-same words 0 count 0 (omega arith)))
-
--- and as they are copied
-pub copied : (words : List ℕ) (count : ℕ) → count < length words →
-    take (getD (set words 0 count) 0 0 + 1) (set words 0 count) ≡ length (stored count words) ∷ stored count words
-copied [] count h = absurd (omega arith)
-copied (x ∷ rest) count h = rw (add-one, length-take-le count rest (omega arith))

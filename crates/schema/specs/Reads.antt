@@ -5,7 +5,7 @@ use mathlib.Core.List.{List, [], _∷_, _++_, map}
 use mathlib.Core.Option.{Option, none, some}
 use mathlib.Core.Path.{_≡_}
 use lib.Dec.{eqb}
-use lib.ListN.{length, take, drop}
+use lib.ListN.{length}
 use Rattle.rules.specs.Numbers.{Answer, accepted, refused}
 use Rattle.rules.specs.Text.{fieldsOf}
 use Rattle.rules.specs.Schema.{Item, Known, itemOf, fits, beyond}
@@ -15,6 +15,7 @@ use Rattle.schema.specs.declared.reading.Took.{Took}
 use Rattle.schema.specs.declared.reading.Took.the-variants.{Next, Refused as Stopped}
 use Rattle.schema.specs.declared.reading.Got.{Got}
 use Rattle.schema.specs.declared.reading.Got.the-variants.{Items, Refused}
+use Rattle.words.specs.Runs.{stored}
 
 abbrev pub knownFor : Kept → Known
 knownFor kept = record {
@@ -46,10 +47,6 @@ pub record Room (count : ℕ) (kept : Kept) (words : List ℕ) : Type 0 where
   pub bounded : Bounded (knownFor kept)
   pub words-length : length words ≡ 142337
   pub counted : count + kept .room ≤ mostLines (kept .section) (kept .lines)
-
--- so many words are stored, from place 1 on
-abbrev pub stored : ℕ → List ℕ → List ℕ
-stored count words = take count (drop 1 words)
 
 -- a line was taken: its word is stored behind the others
 pub record Passed (count : ℕ) (kept : Kept) (line words words′ : List ℕ) (next : Kept) : Type 0 where

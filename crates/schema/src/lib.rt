@@ -5,9 +5,7 @@ mod known;
 mod lawful;
 mod line;
 mod reading;
-mod search;
 
 pub use item::Item;
 pub use lawful::is_lawful;
 pub use reading::Schema;
-pub use search::Search;

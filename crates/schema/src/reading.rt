@@ -1,6 +1,6 @@
 // Lines to items, each judged after those before it, and a schema's text read into a lent state.
 ghost use mathlib.Core.Path.{_≡_};
-ghost use Prim.Native.Nat.{_≤_, _<_};
+ghost use Prim.Native.Nat.{_<_};
 ghost use lib.ListN.{length};
 ghost use Rattle.schema.specs.Items.{readIn};
 ghost use Rattle.schema.specs.Reads.{Room, Taken, gotIn, wordsFor, countOf};
@@ -9,7 +9,7 @@ use crate::known::Known;
 use crate::line::Parsed;
 use crate::line::parse;
 use text::Line;
-use trie::Reply;
+use words::Reply;
 
 // What a line gives: where the schema has come to, or that it is not of the stated form or may not stand there.
 enum Took {
@@ -85,7 +85,7 @@ impl Schema {
             Got::Refused(line) => Reply::Refused(1, line),
             Got::Items(count) => {
                 words[0] = count;
-                manifest::copy_rows(&words, out);
+                words::copy_rows(&words, out);
                 Reply::Done
             }
         }

@@ -4,7 +4,7 @@ ghost use lib.ListN.{length};
 use libc::STDOUT_FILENO;
 use schema::Schema;
 use text::Line;
-use trie::Reply;
+use words::Reply;
 
 // The longest text of a case, and the most words that an answer gives.
 const TEXT: usize = 200_000;

@@ -3,8 +3,8 @@ use libc::STDOUT_FILENO;
 use manifest::Written;
 use schema::Schema;
 use text::Line;
-use trie::Kind;
-use trie::Reply;
+use rows::Kind;
+use words::Reply;
 
 const TEXT: usize = 65_536;
 

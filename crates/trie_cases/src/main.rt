@@ -3,10 +3,10 @@ ghost use Prim.Native.Nat.{_≤_, _<_};
 ghost use lib.ListN.{length};
 use libc::STDOUT_FILENO;
 use text::Line;
-use trie::Held;
-use trie::Kind;
-use trie::Reply;
-use trie::Row;
+use rows::Held;
+use rows::Kind;
+use words::Reply;
+use rows::Row;
 
 // The words of a manifest, and the places of a position with its request type.
 const WORDS: usize = 4_161;
@@ -153,7 +153,7 @@ fn say_refused(number: u64, place: u64) {
 // The union of the two states, held against the expected one.
 fn ask_union(line: &[u8], a: &[u64], b: &[u64], want: &[u64]) {
     let mut out = [0u64; WORDS];
-    let reply = trie::union(kind_of(line), a, b, &mut out);
+    let reply = union::union(kind_of(line), a, b, &mut out);
     match reply {
         Reply::Done => {
             if same_rows(&out, want) {
@@ -169,7 +169,7 @@ fn ask_union(line: &[u8], a: &[u64], b: &[u64], want: &[u64]) {
 // The union of the two states, held against the published Rust's.
 fn ask_rust(line: &[u8], a: &[u64], b: &[u64], want: &[u64]) {
     let mut out = [0u64; WORDS];
-    let reply = trie::union(kind_of(line), a, b, &mut out);
+    let reply = union::union(kind_of(line), a, b, &mut out);
     match reply {
         Reply::Done => cases::say_rust(same_rows(&out, want)),
         Reply::Refused(number, place) => {
@@ -217,7 +217,7 @@ fn ask_place(line: &[u8], a: &[u64]) {
     let mut place = [0u64; PLACE];
     place[0] = request(line, 3);
     let n = read_steps(line, &mut place);
-    say_held(trie::has(kind_of(line), a, &place[..n]));
+    say_held(rows::has(kind_of(line), a, &place[..n]));
 }
 
 // One line of the data file: `case` empties the states. A line of another form is a comment.

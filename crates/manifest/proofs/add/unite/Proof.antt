@@ -5,7 +5,7 @@ use native.Mathlib.Nat.{add-sub-cancel}
 use native.Mathlib.Omega.{arith}
 use borrow.Author.Needs.{needs}
 use lib.ListN.{length, getD}
-use Rattle.trie.specs.StateLaws.{count-within, words-good}
+use Rattle.rows.specs.StateLaws.{count-within, words-good}
 use Rattle.manifest.proofs.add.unite.Statement.{statement}
 use Rattle.manifest.proofs.add.unite.Tie as tie
 

@@ -8,16 +8,7 @@ use Rattle.rules.specs.Text.{TAB, LF, bytes, decimalOf, decimal}
 use Rattle.rules.specs.TextLaws.{decimal-read}
 use Rattle.rules.specs.Listing.{rowOf}
 use Rattle.text.proofs.Laws.{NumberEnds, number-ends, number-unended}
-use Rattle.manifest.specs.ReadLaws.{
-  decimal-free,
-  row-number,
-  row-ends,
-  row-unread,
-  row-unended,
-  entry-no-principal,
-  entry-no-action,
-  entry-no-resource,
-}
+use Rattle.manifest.specs.ReadLaws.{decimal-free, row-number, row-ends, row-unread, row-unended, entry-no-principal, entry-no-action, entry-no-resource}
 use borrow.Author.Needs.{needs}
 use Rattle.manifest.proofs.line.entry.Statement.{statement}
 use Rattle.manifest.proofs.line.entry.Tie as tie

@@ -9,22 +9,7 @@ use Rattle.rules.specs.TextLaws.{decimal-read}
 use Rattle.rules.specs.Listing.{rowOf, placeIn, letters}
 use Rattle.text.proofs.Laws.{NumberEnds, number-ends, number-unended}
 use Rattle.manifest.specs.Lines.{kindRead}
-use Rattle.manifest.specs.ReadLaws.{
-  StepEnds,
-  step-ends,
-  kind-none-first,
-  decimal-free,
-  letter-free,
-  row-number,
-  row-step,
-  row-ends,
-  row-unread,
-  row-unended,
-  node-no-depth,
-  node-no-kind,
-  node-no-id,
-  node-no-mark,
-}
+use Rattle.manifest.specs.ReadLaws.{StepEnds, step-ends, kind-none-first, decimal-free, letter-free, row-number, row-step, row-ends, row-unread, row-unended, node-no-depth, node-no-kind, node-no-id, node-no-mark}
 use borrow.Author.Needs.{needs}
 use Rattle.manifest.proofs.line.node.Statement.{statement}
 use Rattle.manifest.proofs.line.node.Tie as tie

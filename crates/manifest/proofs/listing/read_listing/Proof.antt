@@ -2,7 +2,8 @@
 -- Assumes nothing.
 use Prim.Native.Nat.{ℕ, _≤_, _<_}
 use lib.Seq.{length-take-le, sets}
-use Rattle.manifest.specs.ReadLaws.{read-short, read-refused, read-empty, read-stored, counted-room, copied}
+use Rattle.manifest.specs.ReadLaws.{read-short, read-refused, read-empty, read-stored}
+use Rattle.words.specs.RunLaws.{counted, copied, by-parts}
 use native.Mathlib.Omega.{arith}
 use mathlib.Core.Bool.{false}
 use mathlib.Core.List.{List, []}
@@ -10,10 +11,11 @@ use mathlib.Core.Logic.{⊎-elim}
 use mathlib.Core.Path.{_≡_, sym, ap, _∙_}
 use lib.ListN.{length, drop, length-set, length-drop}
 use Rattle.rules.specs.Numbers.{accepted}
-use Rattle.trie.specs.States.{formOf, wordsOf}
-use Rattle.trie.specs.StateLaws.{by-parts, kind-room, kind-most}
-use Rattle.trie.specs.declared.Kind.{Kind}
-use Rattle.manifest.specs.Reads.{formFor, stored, rowsBy, wordsFor}
+use Rattle.rows.specs.States.{formOf, wordsOf}
+use Rattle.rows.specs.StateLaws.{kind-room, kind-most}
+use Rattle.rows.specs.declared.Kind.{Kind}
+use Rattle.manifest.specs.Reads.{formFor, rowsBy, wordsFor}
+use Rattle.words.specs.Runs.{stored}
 use borrow.Author.Needs.{needs}
 use Rattle.manifest.proofs.listing.read_listing.Statement.{statement}
 use Rattle.manifest.proofs.listing.read_listing.Tie as tie
@@ -79,17 +81,14 @@ some-words c e =
     (λ w. absurd (w .left (omega (arith, ap length e, length-take-le (c .before .before .count .given .0 .0) (drop 1 rows) (omega (arith, length-drop 1 rows))))))
     (c .if2 .came)
 
-array-share-prefix-rows : tie.Need-array-share-prefix-rows
-array-share-prefix-rows c = simp length-set (omega (arith, count-fits (c .before .before)))
-
 slice-aggregate-copy-rows : tie.Need-slice-aggregate-copy-rows
-slice-aggregate-copy-rows c = sym (length-take-le _ _ (simp length-set (omega (arith, count-fits (c .before .before .before)))))
+slice-aggregate-copy-rows c = search needs
 
 copy-rows-requires : tie.Need-copy-rows-requires
 copy-rows-requires c κs =
     let (few, room) = count-fits (c .before .before .before .before) in
-    let (counted, whole) = counted-room (c .before .before .before .before .before .before .before .read-rows .last .1 .1 .0) (c .before .before .before .before .before .before .before .before .before .before .before .words .result) (c .before .before .before .before .count .given .0 .0) (omega arith) (omega arith) in
-    (counted, omega arith)
+    rw (counted (c .before .before .before .before .before .before .before .read-rows .last .1 .1 .0) (c .before .before .before .before .count .given .0 .0) (omega arith))
+    (simp length-set (omega arith), omega arith)
 
 returns-3 : tie.Need-returns-3
 returns-3 c =
@@ -104,7 +103,7 @@ returns-4 c =
     let a = c .before .before .before .before .before .before .before .before .before .before .before .before .before .before .before .before .before .args in
     let (few, room) = count-fits (c .before .before .before .before .before .before .before) in
     let stored-rows = by-parts (read-stored (a .kind) (a .text .now) (a .out .now) (omega arith) (given-form (c .before .before .before .before .before .before .before .before .before .before .before .before)) (words-read (c .before .before .before .before .before .before .before)) (some-words (c .before .before .before .before .before))) in
-    (stored-rows .0, c .before .before .copy-rows .ensures ∙ ap (λ (l : List ℕ). sets (a .out .now) 0 l) (copied (c .before .before .before .before .before .before .before .before .before .before .read-rows .last .1 .1 .0) (c .before .before .before .before .before .before .before .before .before .before .before .before .before .before .words .result) _ (omega arith) (omega arith)) ∙ stored-rows .1)
+    (stored-rows .0, c .before .before .copy-rows .ensures ∙ ap (λ (l : List ℕ). sets (a .out .now) 0 l) (copied (c .before .before .before .before .before .before .before .before .before .before .read-rows .last .1 .1 .0) _ (omega arith)) ∙ stored-rows .1)
 
 pub read-listing-spec : {M : Type 1} → statement M
 read-listing-spec =
@@ -121,7 +120,6 @@ read-listing-spec =
     returns-2
     enum-told-2
     array-write-rows
-    array-share-prefix-rows
     slice-aggregate-copy-rows
     copy-rows-requires
     returns-3

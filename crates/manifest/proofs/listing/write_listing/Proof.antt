@@ -6,8 +6,8 @@ use native.Mathlib.Nat.{add-sub-cancel, le-trans}
 use native.Mathlib.Omega.{arith}
 use borrow.Author.Tests.{not-true, not-false}
 use lib.ListN.{length, getD}
-use Rattle.trie.specs.States.{formOf, wordsOf, lawfulState}
-use Rattle.trie.specs.StateLaws.{count-within, words-good}
+use Rattle.rows.specs.States.{formOf, wordsOf, lawfulState}
+use Rattle.rows.specs.StateLaws.{count-within, words-good}
 use Rattle.manifest.specs.Outcomes.{bytesOf}
 use Rattle.manifest.specs.WriteLaws.{listing-fits, text-parts, write-short-state, write-short-out, write-unlawful, write-lawful}
 use borrow.Author.Needs.{needs}

@@ -9,16 +9,7 @@ use lib.ListN.{length}
 use Rattle.rules.specs.Tries.{Row}
 use Rattle.rules.specs.Listing.{read}
 use Rattle.manifest.specs.Lines.{rowRead, rowAt}
-use Rattle.manifest.specs.ReadLaws.{
-  Reading,
-  reading-none,
-  reading-all,
-  reading-unread,
-  reading-within,
-  reading-fits,
-  reading-stopped,
-  reading-next,
-}
+use Rattle.manifest.specs.ReadLaws.{Reading, reading-none, reading-all, reading-unread, reading-within, reading-fits, reading-stopped, reading-next}
 use borrow.Author.Needs.{needs}
 use Rattle.manifest.proofs.reading.read_rows.Statement.{statement}
 use Rattle.manifest.proofs.reading.read_rows.Tie as tie

@@ -1,6 +1,6 @@
 -- `manifest::writing::put_number` meets its contract: the store after the decimal is the byte that ends it.
 use Rattle.rules.specs.Text.{decimal}
-use Rattle.manifest.specs.WriteLaws.{wrote-ended}
+use Rattle.words.specs.RunLaws.{wrote-ended}
 use borrow.Author.Needs.{needs}
 use Rattle.manifest.proofs.writing.put_number.Statement.{statement}
 use Rattle.manifest.proofs.writing.put_number.Tie as tie

@@ -7,8 +7,9 @@ use lib.ListN.{length, drop, getD}
 use Rattle.rules.specs.Text.{LF, TAB}
 use Rattle.rules.specs.Tries.{kindOf}
 use Rattle.rules.specs.Listing.{letters}
-use Rattle.manifest.specs.Writes.{Wrote}
-use Rattle.manifest.specs.WriteLaws.{Room, nodeFields, node-fields, field-room, room-left, wrote-same, wrote-field, wrote-last}
+use Rattle.words.specs.Runs.{Wrote}
+use Rattle.manifest.specs.WriteLaws.{Room, nodeFields, node-fields, field-room, room-left, wrote-field, wrote-last}
+use Rattle.words.specs.RunLaws.{wrote-same}
 use borrow.Author.Needs.{needs}
 use Rattle.manifest.proofs.writing.write_node.Statement.{statement}
 use Rattle.manifest.proofs.writing.write_node.Tie as tie

@@ -3,7 +3,7 @@ use native.Mathlib.Omega.{arith}
 use mathlib.Core.Bool.{false}
 use mathlib.Core.Path.{_≡_}
 use Rattle.rules.specs.Listing.{read}
-use Rattle.trie.specs.Words.{rowOf}
+use Rattle.rows.specs.Words.{rowOf}
 use Rattle.manifest.specs.Lines.{lineFor}
 use Rattle.manifest.specs.WriteLaws.{entry-line, node-line, node-word-kind}
 use borrow.Author.Needs.{needs}

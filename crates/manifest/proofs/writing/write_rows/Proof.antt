@@ -1,7 +1,7 @@
 -- `manifest::writing::write_rows` meets its contract: at each turn the lines that are left lead to all lines.
 use Prim.Native.Nat.{_-_}
 use lib.ListN.{length}
-use Rattle.trie.specs.MergeLaws.{word-at}
+use Rattle.rows.specs.WordLaws.{word-at}
 use Rattle.manifest.specs.WriteLaws.{Leads, leads-first, leads-length, leads-all, leads-room, leads-next}
 use borrow.Author.Needs.{needs}
 use Rattle.manifest.proofs.writing.write_rows.Statement.{statement}

@@ -8,8 +8,8 @@ use mathlib.Core.List.{[], _∷_}
 use mathlib.Core.Option.{some}
 use Rattle.rules.specs.Text.{decimalOf, fieldsOf}
 use Rattle.text.specs.Answers.{numberOf}
-use Rattle.manifest.specs.ReadLaws.{Ends, field-ends, fields-last}
-use Rattle.schema.specs.LineLaws.{ascending-bad, ascending-low, given-next, given-last}
+use Rattle.text.proofs.FieldLaws.{Ends, field-ends, fields-last, ascending-bad, ascending-low}
+use Rattle.schema.specs.LineLaws.{given-next, given-last}
 use Rattle.schema.specs.Items.{given}
 use Rattle.rules.specs.Schema.{ascending}
 use Rattle.rules.specs.TextLaws.{decimal-written}

@@ -9,12 +9,11 @@ use mathlib.Core.Option.{none, some}
 use Rattle.rules.specs.Text.{decimalOf, fieldsOf, TAB}
 use Rattle.rules.specs.TextLaws.{decimal-written, parted-some}
 use Rattle.text.specs.Answers.{numberOf}
-use Rattle.manifest.specs.ReadLaws.{Ends, field-ends}
-use Rattle.schema.specs.LineLaws.{fields-whole, named-one, named-bad, named-more}
+use Rattle.text.proofs.FieldLaws.{Ends, field-ends, fields-whole}
+use Rattle.schema.specs.LineLaws.{named-one, named-bad, named-more}
 use Rattle.schema.specs.Items.{namedBy}
 use lib.Seq.{length-take-le}
 use native.Mathlib.Nat.{sub-zero}
-use Rattle.rules.specs.TextLaws.{decimal-written}
 use mathlib.Core.Bool.{cond}
 use borrow.Author.Needs.{needs}
 use Rattle.schema.proofs.line.names.Statement.{statement}

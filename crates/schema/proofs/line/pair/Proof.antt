@@ -5,7 +5,7 @@ use mathlib.Core.Path.{_≡_, sym, ap, _∙_}
 use mathlib.Core.Option.{some}
 use Rattle.rules.specs.Text.{bytes, decimalOf}
 use Rattle.rules.specs.Listing.{placeIn}
-use Rattle.manifest.specs.ReadLaws.{place-within}
+use Rattle.text.proofs.FieldLaws.{place-within}
 use Rattle.text.specs.Answers.{numberOf}
 use Rattle.schema.specs.Items.{tagRead}
 use borrow.Author.Needs.{needs}

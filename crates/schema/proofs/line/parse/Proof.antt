@@ -8,7 +8,7 @@ use lib.ListN.{length, take, drop, length-drop}
 use mathlib.Core.List.{[], _∷_}
 use Rattle.rules.specs.Text.{fieldsOf, TAB}
 use Rattle.rules.specs.TextLaws.{parted-some}
-use Rattle.manifest.specs.ReadLaws.{Ends, field-ends, fields-last}
+use Rattle.text.proofs.FieldLaws.{Ends, field-ends, fields-last}
 use Rattle.rules.specs.Schema.{itemOf}
 use lib.Seq.{length-take-le, take-all}
 use native.Mathlib.Nat.{sub-zero}

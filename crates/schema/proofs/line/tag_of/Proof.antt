@@ -5,7 +5,7 @@ use borrow.Author.Tests.{ne-eqb}
 use lib.ListN.{getD}
 use Rattle.rules.specs.Text.{bytes}
 use Rattle.rules.specs.Listing.{placeIn}
-use Rattle.manifest.specs.ReadLaws.{place-none, place-one}
+use Rattle.text.proofs.FieldLaws.{place-none, place-one}
 use borrow.Author.Needs.{needs}
 use Rattle.schema.proofs.line.tag_of.Statement.{statement}
 use Rattle.schema.proofs.line.tag_of.Tie as tie

@@ -5,8 +5,8 @@ use Prim.Native.Nat.{_+_}
 use lib.ListN.{drop}
 use Rattle.rules.specs.Text.{TAB}
 use Rattle.rules.specs.TextLaws.{parted-some}
-use Rattle.manifest.specs.ReadLaws.{Ends, field-ends}
-use Rattle.schema.specs.LineLaws.{fields-whole, value-names, value-one, value-more, value-none}
+use Rattle.text.proofs.FieldLaws.{Ends, field-ends, fields-whole}
+use Rattle.schema.specs.LineLaws.{value-names, value-one, value-more, value-none}
 use borrow.Author.Needs.{needs}
 use Rattle.schema.proofs.line.valued.Statement.{statement}
 use Rattle.schema.proofs.line.valued.Tie as tie

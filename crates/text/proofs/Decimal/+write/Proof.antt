@@ -8,7 +8,7 @@ use mathlib.Core.Path.{_≡_, ap, _∙_}
 use lib.ListN.{length, length-append, length-set}
 use Rattle.rules.specs.Text.{decimal}
 use Rattle.rules.specs.TextLaws.{decimalIn-digit, decimalIn-tenth}
-use Rattle.rules.specs.SeqLaws.{sets-snoc}
+use Rattle.words.specs.SeqLaws.{sets-snoc}
 use borrow.Fn.Kinds.{In}
 use borrow.Fn.PlainCycle.{Measures, is, falls, and}
 use Rattle.text.proofs.Decimal.write.Reads as write

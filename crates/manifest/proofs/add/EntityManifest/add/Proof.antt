@@ -6,15 +6,16 @@ use native.Mathlib.Omega.{arith}
 use borrow.Author.Needs.{needs}
 use borrow.Author.Tests.{not-true, not-false}
 use mathlib.Core.List.{List, _∷_, map}
-use lib.ListN.{length, replicate}
+use lib.ListN.{length, length-map, replicate}
 use lib.Seq.{length-sets}
 use Rattle.rules.specs.Numbers.{Answer, accepted}
 use Rattle.rules.specs.Building.{add}
 use Rattle.rules.specs.Tries.{Row, manifest, contribution}
-use Rattle.trie.specs.Words.{wordOf}
-use Rattle.trie.specs.States.{Outcome, lawfulState, rowsIn, holding, storing}
-use Rattle.trie.specs.StateLaws.{by-parts}
-use Rattle.manifest.specs.AddLaws.{add-short-m, add-short-c, add-unlawful-m, add-unlawful-c, add-lawful, same-reply, refused-kept, done-rows, added-most, held-count, held-copied}
+use Rattle.rows.specs.Words.{wordOf}
+use Rattle.words.specs.Runs.{Outcome}
+use Rattle.rows.specs.States.{lawfulState, rowsIn, holding, storing}
+use Rattle.words.specs.RunLaws.{by-parts, held-count, held-copied}
+use Rattle.manifest.specs.AddLaws.{add-short-m, add-short-c, add-unlawful-m, add-unlawful-c, add-lawful, same-reply, refused-kept, done-rows, added-most}
 use Rattle.manifest.proofs.add.EntityManifest.add.Statement.{statement}
 use Rattle.manifest.proofs.add.EntityManifest.add.Tie as tie
 
@@ -99,9 +100,9 @@ slice-aggregate-copy-rows c = search needs
 copy-rows-requires : tie.Need-copy-rows-requires
 copy-rows-requires c κs =
     let u = united-rows (c .before .before) in
-    let count = held-count (replicate 4161 0) (u .0) (omega (arith, u .2)) in (
+    let count = held-count (replicate 4161 0) (map wordOf (u .0)) (length-map (u .0) wordOf) (omega (arith, u .2)) in (
       rw (u .3, count) (omega (arith, u .2, length-sets (replicate 4161 0) 0 (length (u .0) ∷ map wordOf (u .0)))),
-      rw (u .3) (omega (arith, c .before .before .before .before .before .before .before .before .before .before .before .before .before .before .before .if1 .left, length-sets (replicate 4161 0) 0 (length (u .0) ∷ map wordOf (u .0)))),
+      rw (u .3, count) (omega (arith, u .2, c .before .before .before .before .before .before .before .before .before .before .before .before .before .before .before .if1 .left)),
     )
 
 same-length-4 : tie.Need-same-length-4
@@ -115,7 +116,7 @@ returns-6 c =
     let stored = ap (λ (o : Answer (List Row)). storing (a .manifest .now) o) (u .1) in
     let copied = rw (u .3) at (c .before .before .copy-rows .ensures) in (
       ap (λ (o : Outcome). o .reply) (sym stored) ∙ e .0,
-      copied ∙ held-copied (replicate 4161 0) (u .0) (omega (arith, u .2)) (a .manifest .now) ∙ ap (λ (o : Outcome). o .buffer) (sym stored) ∙ e .1,
+      copied ∙ held-copied (replicate 4161 0) (map wordOf (u .0)) (length-map (u .0) wordOf) (omega (arith, u .2)) (a .manifest .now) ∙ ap (λ (o : Outcome). o .buffer) (sym stored) ∙ e .1,
     )
 
 pub add-spec : {M : Type 1} → statement M

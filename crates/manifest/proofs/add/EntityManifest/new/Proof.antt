@@ -1,6 +1,6 @@
 -- `manifest::add::EntityManifest::new` meets its contract: by the length.
 use borrow.Author.Needs.{needs}
-use Rattle.trie.specs.StateLaws.{by-parts}
+use Rattle.words.specs.RunLaws.{by-parts}
 use Rattle.manifest.specs.AddLaws.{empty-short, empty-long}
 use Rattle.manifest.proofs.add.EntityManifest.new.Statement.{statement}
 use Rattle.manifest.proofs.add.EntityManifest.new.Tie as tie

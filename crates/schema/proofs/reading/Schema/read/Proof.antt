@@ -8,9 +8,10 @@ use mathlib.Core.List.{List}
 use lib.Seq.{sets}
 use Rattle.rules.specs.Numbers.{accepted}
 use Rattle.rules.specs.Schema.{readSchema}
-use Rattle.trie.specs.StateLaws.{by-parts}
-use Rattle.schema.specs.Reads.{stored, wordsFor}
-use Rattle.schema.specs.ReadLaws.{read-short, read-refused, read-stored, counted-room, copied}
+use Rattle.words.specs.RunLaws.{by-parts, counted, copied}
+use Rattle.words.specs.Runs.{stored}
+use Rattle.schema.specs.Reads.{wordsFor}
+use Rattle.schema.specs.ReadLaws.{read-short, read-refused, read-stored}
 use borrow.Author.Needs.{needs}
 use Rattle.schema.proofs.reading.Schema.read.Statement.{statement}
 use Rattle.schema.proofs.reading.Schema.read.Tie as tie
@@ -49,10 +50,10 @@ slice-aggregate-copy-rows c = search needs
 
 copy-rows-requires : tie.Need-copy-rows-requires
 copy-rows-requires c κs =
-    let words = c .before .before .before .before .before .before .read-items .last .1 .0 in (
-      counted-room words (c .before .before .before .count .given .0 .0) (count-fits (c .before .before .before)),
-      simp length-set (omega (arith, c .before .before .before .before .before .before .read-items .kept .1 .0, c .before .before .before .before .before .before .before .before .if1 .left)),
-    )
+    let words = c .before .before .before .before .before .before .read-items .last .1 .0 in
+    let few = count-fits (c .before .before .before) in
+    rw (counted words (c .before .before .before .count .given .0 .0) few)
+    (simp length-set few, omega (arith, few, c .before .before .before .before .before .before .read-items .kept .1 .0, c .before .before .before .before .before .before .before .before .if1 .left))
 
 returns-2 : tie.Need-returns-2
 returns-2 c =

@@ -1,0 +1,3 @@
+-- Which path takes which type.
+pub mod Required
+pub mod FullLaws

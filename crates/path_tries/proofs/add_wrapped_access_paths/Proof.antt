@@ -1,0 +1,90 @@
+-- `path_tries::add_wrapped_access_paths` meets its contract: the paths that are left to be added lead to what all of them give.
+-- Assumes nothing.
+use Prim.Native.Nat.{_-_, _≤_}
+use native.Mathlib.Omega.{arith}
+use mathlib.Core.Path.{refl}
+use borrow.Author.Tests.{not-true, not-false}
+use borrow.Author.Needs.{needs}
+use lib.ListN.{length, getD}
+use Rattle.rules.specs.Paths.{addAccessPath}
+use Rattle.rows.specs.States.{rowsIn}
+use Rattle.path_tries.specs.Nodes.{Became, leafOf}
+use Rattle.wrapped_paths.specs.Code.{AllWithin, pathAt}
+use Rattle.path_tries.specs.NodeLaws.{Adding, adding-within, adding-path, adding-fit, adding-next, adding-over, adding-all}
+use Rattle.path_tries.proofs.add_wrapped_access_paths.Statement.{statement}
+use Rattle.path_tries.proofs.add_wrapped_access_paths.Tie as tie
+
+abbrev Inv-loop : tie.InvT-loop
+Inv-loop trie₀ code places marked below i₀ trie i = (i ≤ length places) × Adding code places below marked trie₀ trie i
+
+abbrev μ-loop : tie.MeasureT-loop
+μ-loop trie₀ code places marked below i₀ trie i = length places - i
+
+-- what a path was added to
+became :
+    (c : tie.After-add-access-path Inv-loop μ-loop)
+    → let a = c .before .before .before .before .before .before .before .before .before .before .args in
+    Became
+    (addAccessPath (rowsIn (c .before .before .before .before .before .loop .trie)) (pathAt (a .code .now) (getD (a .places .now) (c .before .before .before .before .before .loop .i) 0)) (leafOf (a .marked) (a .below .now)))
+    (c .add-access-path .last .0)
+    (c .add-access-path .result)
+became c = rw (c .before .path-at .ensures) at (c .add-access-path .ensures)
+
+loop-holds : tie.Need-loop-holds Inv-loop μ-loop
+loop-holds c = (omega arith, record { still = c .before .before .before .before .pre .0 .0; within = c .before .before .before .before .pre .0 .1 .0; good = c .before .before .before .before .pre .0 .1 .1; fit = c .before .before .before .before .pre .1 .1; left = refl })
+
+mul-at : tie.Need-mul-at Inv-loop μ-loop
+mul-at c = search needs
+
+shared-slice-read-at : tie.Need-shared-slice-read-at Inv-loop μ-loop
+shared-slice-read-at c = search needs
+
+path-at-requires : tie.Need-path-at-requires Inv-loop μ-loop
+unfolding AllWithin
+path-at-requires c κs = (adding-within (c .before .before .before .loop .inv .1) (c .before .before .loop-test .taken), tt)
+
+add-access-path-requires : tie.Need-add-access-path-requires Inv-loop μ-loop
+add-access-path-requires c κs =
+    let adding = c .before .before .before .before .loop .inv .1 in
+    rw (c .path-at .ensures)
+    ((adding .still, adding-path adding (c .before .before .before .loop-test .taken)), (c .before .before .before .before .before .before .before .before .before .pre .1 .0, adding-fit adding (c .before .before .before .loop-test .taken)))
+
+same-length : tie.Need-same-length Inv-loop μ-loop
+same-length c = search needs
+
+returns : tie.Need-returns Inv-loop μ-loop
+returns c = adding-over (c .before .before .before .before .before .before .before .before .loop .inv .1) (c .before .before .before .before .before .before .before .loop-test .taken) (rw (not-true (c .before .before .before .add-access-path .result) (c .if1 .taken)) at (became (c .before .before .before)))
+
+add-i : tie.Need-add-i Inv-loop μ-loop
+add-i c = search needs
+
+loop-less : tie.Need-loop-less Inv-loop μ-loop
+loop-less c = search needs
+
+loop-again : tie.Need-loop-again Inv-loop μ-loop
+loop-again c = (omega arith, adding-next (c .before .before .before .before .before .before .before .before .loop .inv .1) (c .before .before .before .before .before .before .before .loop-test .taken) (rw (not-false (c .before .before .before .add-access-path .result) (c .if1 .left)) at (became (c .before .before .before))))
+
+same-length-2 : tie.Need-same-length-2 Inv-loop μ-loop
+same-length-2 c = search needs
+
+returns-2 : tie.Need-returns-2 Inv-loop μ-loop
+returns-2 c = adding-all (c .before .loop .inv .1) (omega arith)
+
+pub add-wrapped-access-paths-spec : {M : Type 1} → statement M
+add-wrapped-access-paths-spec =
+    tie.close
+    (tie.spec
+    Inv-loop
+    μ-loop
+    loop-holds
+    mul-at
+    shared-slice-read-at
+    path-at-requires
+    add-access-path-requires
+    same-length
+    returns
+    add-i
+    loop-less
+    loop-again
+    same-length-2
+    returns-2)

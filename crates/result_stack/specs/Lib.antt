@@ -1,0 +1,3 @@
+-- The stack of results in words.
+pub mod Stacks
+pub mod StackLaws

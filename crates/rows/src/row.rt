@@ -1,0 +1,134 @@
+// A row is one word (docs/FORMS.md, 'Words'). Taking it apart and putting it together.
+ghost use mathlib.Core.Path.{_≡_};
+ghost use mathlib.Core.Bool.{false};
+ghost use Prim.Native.Nat.{_<_, _^_};
+ghost use Rattle.rules.specs.Tries.{isStep, isRoot};
+ghost use Rattle.rules.specs.Listing.{read};
+ghost use Rattle.rows.specs.Words.{wordOf, depthIn, markIn, stepIn, keyIn, joinedWord, isWord};
+
+// Whether a number is a step: a field or a literal with its id, or another root with id 0.
+fn is_step(step: u64) -> bool
+    ensures { λ r. ⌜ r ≡ isStep step ⌝ }
+{
+    let kind = step / 0x1_0000;
+    if 5 < kind {
+        return false;
+    }
+    if kind == 0 {
+        return true;
+    }
+    if kind == 5 {
+        return true;
+    }
+    step % 0x1_0000 == 0
+}
+
+// Whether a number is a step that a position may begin with.
+fn is_root(step: u64) -> bool
+    ensures { λ r. ⌜ r ≡ isRoot step ⌝ }
+{
+    if step < 0x1_0000 {
+        return false;
+    }
+    is_step(step)
+}
+
+pub struct Row {
+    pub word: u64,
+}
+
+impl Row {
+    // The least key of an entry, and past every key of a row.
+    pub const ENTRIES: u64 = 0x1f_0000_0000_0000;
+
+    pub const END: u64 = 0x20_0000_0000_0000;
+
+    // The row of an entry.
+    pub fn entry(request: u64) -> Row
+        requires { ⌜ request < 2 ^ 48 ⌝ }
+        ensures { λ r. ⌜ r .word ≡ wordOf (read 0 request false) ⌝ }
+    {
+        Row { word: request * 64 }
+    }
+
+    // The row of a node without a type.
+    pub fn node(depth: u64, step: u64, marked: bool) -> Row
+        requires { ⌜ (depth < 32) × (step < 2 ^ 19) ⌝ }
+        ensures { λ r. ⌜ r .word ≡ wordOf (read depth step marked) ⌝ }
+    {
+        if marked {
+            Row {
+                word: depth + 32 + step * 64,
+            }
+        } else {
+            Row {
+                word: depth + step * 64,
+            }
+        }
+    }
+
+    pub fn depth(self) -> u64
+        ensures { λ r. ⌜ r ≡ depthIn (self .word) ⌝ }
+    {
+        self.word % 32
+    }
+
+    pub fn is_marked(self) -> bool
+        ensures { λ r. ⌜ r ≡ markIn (self .word) ⌝ }
+    {
+        self.word / 32 % 2 == 1
+    }
+
+    pub fn step(self) -> u64
+        ensures { λ r. ⌜ r ≡ stepIn (self .word) ⌝ }
+    {
+        if self.word % 32 == 0 {
+            self.word / 64
+        } else {
+            self.word / 64 % 0x8_0000
+        }
+    }
+
+    // The smaller key comes first in the listing's order.
+    pub fn key(self) -> u64
+        ensures { λ r. ⌜ r ≡ keyIn (self .word) ⌝ }
+    {
+        (31 - self.word % 32) * 0x1_0000_0000_0000 + self.step()
+    }
+
+    // The row of two that stand for one node: the left one, marked if either is.
+    pub fn joined(self, right: Row) -> Row
+        ensures { λ r. ⌜ r .word ≡ joinedWord (self .word) (right .word) ⌝ }
+    {
+        if self.is_marked() {
+            return self;
+        }
+        if right.is_marked() {
+            return Row {
+                word: self.word + 32,
+            };
+        }
+        self
+    }
+
+    // Whether the word packs a row of its form and nothing else.
+    pub fn is_word(self) -> bool
+        ensures { λ r. ⌜ r ≡ isWord (self .word) ⌝ }
+    {
+        let word = self.word;
+        let step = self.step();
+        if word % 32 == 0 {
+            if step < 0x1_0000_0000_0000 {
+                return !self.is_marked();
+            }
+            return false;
+        }
+        if 1_024 < word / 0x200_0000 {
+            return false;
+        }
+        if word % 32 == 1 {
+            return is_root(step);
+        }
+        is_step(step)
+    }
+}

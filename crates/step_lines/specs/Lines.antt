@@ -1,0 +1,61 @@
+-- What a line of a step text was read as.
+use Prim.Native.Nat.{ℕ, suc, _-_, _<_}
+use mathlib.Core.Path.{_≡_}
+use mathlib.Core.Bool.{true}
+use mathlib.Core.List.{List}
+use mathlib.Core.Option.{Option, none, some}
+use lib.ListN.{length, drop}
+use Rattle.rules.specs.Text.{bytes}
+use Rattle.rules.specs.Tries.{stepOf, isRoot}
+use Rattle.rules.specs.Listing.{placeIn, _>>=_}
+use Rattle.rules.specs.Steps.{Step, root, nothing, attr, both, dropped, full, inside, set, rec}
+use Rattle.step_lines.specs.declared.Step.{Step as StepRead}
+use Rattle.step_lines.specs.declared.Step.the-variants.{Root, None, Attr, Union, Drop, Full, In, Set, Rec, Bad}
+
+-- the step of a line, if it is one; the names of `rec` stand at the end of 32, last first
+abbrev pub stepRead : StepRead → List ℕ → Option Step
+stepRead (Root r) names = some (root r)
+stepRead None names = some nothing
+stepRead (Attr f) names = some (attr f)
+stepRead Union names = some both
+stepRead Drop names = some dropped
+stepRead (Full t) names = some (full t)
+stepRead In names = some inside
+stepRead Set names = some set
+stepRead (Rec count) names = some (rec (drop (32 - count) names))
+stepRead Bad names = none
+
+-- how many names a step has
+abbrev pub namesOf : StepRead → ℕ
+namesOf (Root r) = 0
+namesOf None = 0
+namesOf (Attr f) = 0
+namesOf Union = 0
+namesOf Drop = 0
+namesOf (Full t) = 0
+namesOf In = 0
+namesOf Set = 0
+namesOf (Rec count) = count
+namesOf Bad = 0
+
+-- a step without names, whatever is kept beside it
+pub record Bare (r : StepRead) (step : Option Step) : Type 0 where
+  pub alone : namesOf r ≡ 0
+  pub read : (names : List ℕ) → length names ≡ 32 → stepRead r names ≡ step
+
+-- the root of a variable's letter
+abbrev pub varStep : List ℕ → Option Step
+varStep name = placeIn (bytes "parc") name >>= (λ kind. some (root (stepOf (suc kind) 0)))
+
+-- what a step names is a root or a field
+abbrev pub GoodRead : StepRead → Type 0
+GoodRead (Root r) = isRoot r ≡ true
+GoodRead None = Unit
+GoodRead (Attr f) = f < 65536
+GoodRead Union = Unit
+GoodRead Drop = Unit
+GoodRead (Full t) = Unit
+GoodRead In = Unit
+GoodRead Set = Unit
+GoodRead (Rec count) = Unit
+GoodRead Bad = Unit

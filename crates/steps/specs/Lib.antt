@@ -1,0 +1,2 @@
+-- What each step leaves on the stack.
+pub mod StepsLaws

@@ -1,0 +1,131 @@
+-- Laws of the fields and the lines of a text, by the answers that find them, and of letters. No contract cites this file.
+use Prim.Native.Nat.{ℕ, _+_, _-_, _≤_, _<_}
+use native.Mathlib.Nat.{sub-zero, add-sub-cancel-left}
+use native.Mathlib.Omega.{arith}
+use mathlib.Core.Bool.{Bool, true, false, cond}
+use mathlib.Core.List.{List, [], _∷_}
+use mathlib.Core.Option.{none, some}
+use mathlib.Core.Path.{_≡_, refl, sym, ap, _∙_}
+use lib.Dec.{eqb}
+use lib.ListN.{length, getD, take, drop, length-drop}
+use lib.Seq.{take-all}
+use Rattle.rules.specs.Facts.{compared}
+use borrow.Author.Tests.{le-leb, lt-leb}
+use Rattle.rules.specs.Text.{linesOf, fieldsOf, decimalOf, LF, TAB}
+use Rattle.rules.specs.Listing.{_>>=_, placeIn}
+use Rattle.rules.specs.Schema.{ascending}
+use Rattle.rules.specs.ListingLaws.{place-read}
+use Rattle.text.specs.Answers.{lineAt, firstLine, fieldAt, firstField}
+use Rattle.text.specs.Before.{before as earlier}
+use Rattle.text.specs.declared.Line.{Line}
+use Rattle.text.specs.declared.Line.the-variants.{End, Whole, Cut}
+use Rattle.text.specs.declared.Field.{Field}
+use Rattle.text.specs.declared.Field.the-variants.{More, Last}
+use Rattle.text.proofs.Laws.{more-within, parted-next, parted-whole, parted-cut, drop-some, letter-none}
+
+-- ---- fields
+
+-- a field that a tab ends stands in front of the fields behind the tab
+fields-more : (line : List ℕ) (at end : ℕ) (r : Field) → r ≡ fieldAt line at → r ≡ More end →
+    fieldsOf (drop at line) ≡ take (end - at) (drop at line) ∷ fieldsOf (drop (end + 1) line)
+fields-more line at end r ensured e = go (fieldsOf (drop at line)) refl (sym ensured ∙ e)
+  where
+    go : (fields : List (List ℕ)) → fieldsOf (drop at line) ≡ fields → firstField at fields ≡ More end →
+        fieldsOf (drop at line) ≡ take (end - at) (drop at line) ∷ fieldsOf (drop (end + 1) line)
+    go [] q e = absurd (let z : _≡_ {A = ℕ} 0 1 = cc in omega arith)
+    go (field ∷ []) q e = absurd (let z : _≡_ {A = ℕ} 0 1 = cc in omega arith)
+    go (field ∷ next ∷ fields) q e =
+        let place : at + length field ≡ end = cc in
+        parted-next TAB at line field next fields q ∙ rw (← place, add-sub-cancel-left)
+
+-- what is known of a field that a tab ends: where it ends, and the fields from it on
+abbrev pub Ends : List ℕ → ℕ → ℕ → Type 0
+Ends line at end =
+    (at ≤ end) × (end < length line) × (fieldsOf (drop at line) ≡ take (end - at) (drop at line) ∷ fieldsOf (drop (end + 1) line))
+
+pub field-ends : (line : List ℕ) (at end : ℕ) (r : Field) → r ≡ fieldAt line at → r ≡ More end → Ends line at end
+field-ends line at end r ensured e =
+    let (behind, within) = more-within line at end r ensured e in
+    (behind, within, fields-more line at end r ensured e)
+
+-- a last field is all that is left
+pub fields-last : (line : List ℕ) (at : ℕ) (r : Field) → r ≡ fieldAt line at → r ≡ Last →
+    fieldsOf (drop at line) ≡ take (length line - at) (drop at line) ∷ []
+fields-last line at r ensured e =
+    compared (at + length (earlier TAB (drop at line))) (length line)
+    (λ h.
+    let (next, others, p) = parted-cut TAB at line h in
+    let other : Last ≡ More (at + length (earlier TAB (drop at line))) = sym e ∙ ensured ∙ ap (firstField at) p in
+    absurd (let z : _≡_ {A = ℕ} 0 1 = cc in omega arith))
+    (λ h. parted-whole TAB at line h ∙ rw (take-all (length line - at) (drop at line) (omega (arith, length-drop at line))))
+
+-- a line whose first field is the last is that field
+pub fields-whole : (line : List ℕ) (r : Field) → r ≡ fieldAt line 0 → r ≡ Last → fieldsOf line ≡ line ∷ []
+fields-whole line r ensured e = fields-last line 0 r ensured e ∙ rw (sub-zero, take-all (length line) line (omega arith))
+
+-- ---- lines
+
+-- a line that an LF ends stands in front of the lines behind the LF
+pub lines-whole : (text : List ℕ) (at end : ℕ) (r : Line) → r ≡ lineAt text at → r ≡ Whole end →
+    linesOf (drop at text) ≡ take (end - at) (drop at text) ∷ linesOf (drop (end + 1) text)
+lines-whole text at end r ensured e = go (linesOf (drop at text)) refl (sym ensured ∙ e)
+  where
+    last : (empty : Bool) → cond empty End Cut ≡ Whole end → ⊥
+    last true e = let z : _≡_ {A = ℕ} 0 1 = cc in omega arith
+    last false e = let z : _≡_ {A = ℕ} 0 1 = cc in omega arith
+
+    go : (lines : List (List ℕ)) → linesOf (drop at text) ≡ lines → firstLine at lines ≡ Whole end →
+        linesOf (drop at text) ≡ take (end - at) (drop at text) ∷ linesOf (drop (end + 1) text)
+    go [] q e = absurd (let z : _≡_ {A = ℕ} 0 1 = cc in omega arith)
+    go (line ∷ []) q e = absurd (last (eqb (length line) 0) e)
+    go (line ∷ next ∷ lines) q e =
+        let place : at + length line ≡ end = cc in
+        parted-next LF at text line next lines q ∙ rw (← place, add-sub-cancel-left)
+
+-- what is left without an LF is one line, and not an empty one
+pub lines-cut : (text : List ℕ) (at : ℕ) (r : Line) → r ≡ lineAt text at → ((end : ℕ) → r ≡ Whole end → ⊥) → at < length text →
+    (linesOf (drop at text) ≡ drop at text ∷ []) × (eqb (length (drop at text)) 0 ≡ false)
+lines-cut text at r ensured unended more =
+    compared (at + length (earlier LF (drop at text))) (length text)
+    (λ h. let (next, others, p) = parted-cut LF at text h in absurd (unended _ (ensured ∙ ap (firstLine at) p)))
+    (λ h. (parted-whole LF at text h, drop-some at text more))
+
+-- ---- letters
+
+-- a field of no byte, or of more, is at no place among letters
+pub place-none : (xs field : List ℕ) → (length field ≡ 1 → ⊥) → placeIn xs field ≡ none
+unfolding placeIn
+place-none [] field h = refl
+place-none (x ∷ xs) field h = rw (letter-none x field h, place-none xs field h)
+
+-- a field of one byte is that byte
+one-byte : (field : List ℕ) → length field ≡ 1 → field ≡ getD field 0 0 ∷ []
+one-byte [] h = absurd (omega arith)
+one-byte (byte ∷ []) h = refl
+one-byte (byte ∷ more ∷ field) h = absurd (omega arith)
+
+-- so its place among letters is that byte's
+pub place-one : (xs field : List ℕ) {byte : ℕ} → length field ≡ 1 → getD field 0 0 ≡ byte → placeIn xs field ≡ placeIn xs (byte ∷ [])
+place-one xs field h e = ap (placeIn xs) (one-byte field h) ∙ rw e
+
+-- a place among letters is one of theirs
+pub place-within : (xs field : List ℕ) (n : ℕ) → placeIn xs field ≡ some n → n < length xs
+place-within xs field n e = place-read xs field n e .0
+
+-- ---- decimals that ascend
+
+module _ (least : ℕ) (field : List ℕ) (fields : List (List ℕ)) where
+  -- the first field is no decimal, or too low
+  pub ascending-bad : decimalOf field ≡ none → ascending least (field ∷ fields) ≡ none
+  unfolding ascending
+  ascending-bad e = rw e
+
+  module _ {n : ℕ} (e : decimalOf field ≡ some n) where
+    pub ascending-low : n < least → ascending least (field ∷ fields) ≡ none
+    unfolding ascending
+    ascending-low h = rw (e, lt-leb least n h)
+
+    -- the others follow it
+    pub ascending-next : least ≤ n → ascending least (field ∷ fields) ≡ (ascending (n + 1) fields >>= (λ ns. some (n ∷ ns)))
+    unfolding ascending
+    ascending-next h = rw (e, le-leb least n h)

@@ -1,8 +1,0 @@
--- What a packed row and a lent state mean, and what the operations of `trie` answer, in the words of `rules`.
-pub mod Words
-pub mod States
-pub mod WordLaws
-pub mod Merge
-pub mod CountLaws
-pub mod MergeLaws
-pub mod StateLaws

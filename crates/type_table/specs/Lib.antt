@@ -1,0 +1,3 @@
+-- The table of types.
+pub mod Tables
+pub mod TypeTableLaws

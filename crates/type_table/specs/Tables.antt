@@ -1,0 +1,46 @@
+-- The table of types: where each stands, and the depth and the nodes of its trie, both stopping one past their limit.
+use Prim.Native.Nat.{ℕ, suc, _+_, _*_, _/_, _%_, _<_}
+use mathlib.Core.Path.{_≡_}
+use mathlib.Core.Bool.{Bool, false, cond}
+use mathlib.Core.List.{List}
+use mathlib.Core.Option.{some}
+use lib.Dec.{ltb, eqb}
+use lib.ListN.{length, drop, getD}
+use Rattle.rules.specs.Tries.{Row}
+use Rattle.rules.specs.Schema.{fromType, attributeLine}
+use Rattle.rules.specs.Paths.{typeBelow}
+use Rattle.rules.specs.TypeLaws.{deepest}
+use Rattle.rules.specs.Facts.{capped}
+use Rattle.schema.specs.Items.{itemsOf}
+use Rattle.type_table.specs.declared.TypeSize.{TypeSize}
+
+-- the nodes below a node of a type
+abbrev pub typeRows : List ℕ → ℕ → List Row
+typeRows words t = typeBelow (suc t) (itemsOf words) t
+
+-- what a word of the table says
+abbrev pub placeIn : ℕ → ℕ
+placeIn w = w / 1048576
+
+abbrev pub depthIn : ℕ → ℕ
+depthIn w = w / 4096 % 256
+
+abbrev pub nodesIn : ℕ → ℕ
+nodesIn w = w % 4096
+
+abbrev pub sizeWord : TypeSize → ℕ
+sizeWord size = size .nodes + (size .depth * 4096 + size .place * 1048576)
+
+-- a word of the table says it of a type
+pub record Sized (words : List ℕ) (t w : ℕ) : Type 0 where
+  pub inside : placeIn w < length words
+  pub there : fromType t (itemsOf words) ≡ some (itemsOf (drop (placeIn w) words))
+  pub depth : depthIn w ≡ capped 25 (deepest (typeRows words t))
+  pub nodes : nodesIn w ≡ capped 1025 (length (typeRows words t))
+
+abbrev pub Tabled : List ℕ → List ℕ → ℕ → Type 0
+Tabled words table types = (length table ≡ 1024) × ((t : ℕ) → t < types → Sized words t (getD table t 0))
+
+-- a word that is an attribute
+unfoldable pub attributeAt : List ℕ → ℕ → Bool
+attributeAt words at = cond (ltb at (length words)) (eqb (getD words at 0 % 16) attributeLine) false

@@ -1,0 +1,61 @@
+-- `wrapped_paths::WrappedAccessPaths::words` meets its contract: the head, and its steps or names.
+-- Assumes nothing.
+use mathlib.Core.Path.{ap}
+use native.Mathlib.Omega.{arith}
+use Rattle.wrapped_paths.specs.Code.{sizeOf}
+use borrow.Author.Needs.{needs}
+use Rattle.wrapped_paths.proofs.WrappedAccessPaths.words.Statement.{statement}
+use Rattle.wrapped_paths.proofs.WrappedAccessPaths.words.Tie as tie
+
+enum-told : tie.Need-enum-told
+enum-told c = search needs
+
+enum-known-self : tie.Need-enum-known-self
+enum-known-self c = search needs
+
+add-result : tie.Need-add-result
+add-result c = omega (arith, ap sizeOf (c .before .self .given .1), c .before .before .before .pre)
+
+enum-told-2 : tie.Need-enum-told-2
+enum-told-2 c = search needs
+
+enum-told-3 : tie.Need-enum-told-3
+enum-told-3 c = search needs
+
+enum-known-self-2 : tie.Need-enum-known-self-2
+enum-known-self-2 c = search needs
+
+add-result-2 : tie.Need-add-result-2
+add-result-2 c = omega (arith, ap sizeOf (c .before .self2 .given .1), c .before .before .before .pre)
+
+returns : tie.Need-returns
+returns c = omega (arith, ap sizeOf (c .enum-told .given .1))
+
+returns-2 : tie.Need-returns-2
+returns-2 c = omega (arith, ap sizeOf (c .before .self .given .1))
+
+returns-3 : tie.Need-returns-3
+returns-3 c = omega (arith, ap sizeOf (c .enum-told2 .given .1))
+
+returns-4 : tie.Need-returns-4
+returns-4 c = omega (arith, ap sizeOf (c .enum-told3 .given .1))
+
+returns-5 : tie.Need-returns-5
+returns-5 c = omega (arith, ap sizeOf (c .before .self2 .given .1))
+
+pub words-spec : {M : Type 1} → statement M
+words-spec =
+    tie.close
+    (tie.spec
+    enum-told
+    enum-known-self
+    add-result
+    enum-told-2
+    enum-told-3
+    enum-known-self-2
+    add-result-2
+    returns
+    returns-2
+    returns-3
+    returns-4
+    returns-5)

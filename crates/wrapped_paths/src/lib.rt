@@ -1,0 +1,316 @@
+// Wrapped paths as words: a head and what it wraps behind it, the right side of a union and the last field of a record first. So results that
+// are pushed stand in front of those below them, and wrapping them puts a head in front.
+ghost use mathlib.Core.Path.{_≡_};
+ghost use mathlib.Core.List.{[], _∷_};
+ghost use Prim.Native.Nat.{_+_, _^_, _<_, _≤_};
+ghost use lib.ListN.{length, getD};
+ghost use Rattle.wrapped_paths.specs.Code.{headOf, wordFor, sizeOf, wrapsOf, placeOf, Standing, Measures, Result, FoundAt, ExtendedAt};
+ghost use Rattle.wrapped_paths.specs.Turns.{placesFor, Noted, sidesOf, Took, Gained, Literal, FieldTaken, Room, Growing, Turned};
+
+use words::copy_words;
+
+// What a head says: a path has so many steps behind it, a record so many names and then as many fields.
+pub enum WrappedAccessPaths {
+    Empty,
+    AccessPath(usize),
+    Union,
+    RecordLiteral(usize),
+    SetLiteral,
+}
+
+// How far some wrapped paths go, and how many path nodes they have.
+pub struct Measured {
+    pub end: usize,
+    pub nodes: u64,
+}
+
+// The places after what was read and after what was written.
+pub struct Moved {
+    pub from: usize,
+    pub to: usize,
+}
+
+// What `attr` does with one head: it is passed, or a set is dereferenced.
+enum Turn {
+    Next(Moved),
+    SetDereferenced,
+}
+
+// What `attr` gives: so many words, and so many paths that gained the field; or a set was dereferenced.
+pub enum Extended {
+    Done(usize, usize),
+    SetDereferenced,
+}
+
+impl WrappedAccessPaths {
+    // A result has at most so many path nodes.
+    pub const NODES: u64 = 256;
+
+    // A union has two sides.
+    const SIDES: usize = 2;
+
+    // The words of a result's paths: each node at most 26, a path of 24 steps with its head and its name in a record.
+    pub const WORDS: usize = 6_656;
+
+    // What a word says.
+    pub fn of(word: u64) -> WrappedAccessPaths
+        ensures { λ r. ⌜ r ≡ headOf word ⌝ }
+        ensures { λ r. ⌜ sizeOf r < 2 ^ 61 ⌝ }
+    {
+        let kind = word % 8;
+        let count = (word / 8) as usize;
+        match kind {
+            0 => WrappedAccessPaths::Empty,
+            1 => WrappedAccessPaths::AccessPath(count),
+            2 => WrappedAccessPaths::Union,
+            3 => WrappedAccessPaths::SetLiteral,
+            _ => WrappedAccessPaths::RecordLiteral(count),
+        }
+    }
+
+    // The word that says it.
+    pub fn word(self) -> u64
+        requires { ⌜ sizeOf self < 2 ^ 60 ⌝ }
+        ensures { λ r. ⌜ r ≡ wordFor self ⌝ }
+    {
+        match self {
+            WrappedAccessPaths::Empty => 0,
+            WrappedAccessPaths::AccessPath(steps) => 1 + 8 * steps as u64,
+            WrappedAccessPaths::Union => 2,
+            WrappedAccessPaths::SetLiteral => 3,
+            WrappedAccessPaths::RecordLiteral(fields) => 4 + 8 * fields as u64,
+        }
+    }
+
+    // How many words it takes by itself: its head, and its steps or names.
+    fn words(self) -> usize
+        requires { ⌜ sizeOf self < 2 ^ 61 ⌝ }
+        ensures { λ r. ⌜ r ≡ 1 + sizeOf self ⌝ }
+    {
+        match self {
+            WrappedAccessPaths::Empty => 1,
+            WrappedAccessPaths::AccessPath(steps) => 1 + steps,
+            WrappedAccessPaths::Union => 1,
+            WrappedAccessPaths::SetLiteral => 1,
+            WrappedAccessPaths::RecordLiteral(fields) => 1 + fields,
+        }
+    }
+
+    // How many wrapped paths it wraps.
+    fn wraps(self) -> usize
+        ensures { λ r. ⌜ r ≡ wrapsOf self ⌝ }
+    {
+        match self {
+            WrappedAccessPaths::Empty => 0,
+            WrappedAccessPaths::AccessPath(_) => 0,
+            WrappedAccessPaths::Union => 2,
+            WrappedAccessPaths::SetLiteral => 1,
+            WrappedAccessPaths::RecordLiteral(fields) => fields,
+        }
+    }
+
+    // How many wrapped paths behind it `attr` extends too: the sides of a union.
+    fn sides(self) -> usize
+        ensures { λ r. ⌜ r ≡ sidesOf self ⌝ }
+    {
+        match self {
+            WrappedAccessPaths::Empty => 0,
+            WrappedAccessPaths::AccessPath(_) => 0,
+            WrappedAccessPaths::Union => WrappedAccessPaths::SIDES,
+            WrappedAccessPaths::SetLiteral => 0,
+            WrappedAccessPaths::RecordLiteral(_) => 0,
+        }
+    }
+}
+
+// How far so many wrapped paths go from a place on.
+pub fn measure(code: &[u64], at: usize, count: usize) -> Measured
+    requires { ⌜ Standing (now code) at count ⌝ }
+    ensures { λ r. ⌜ Measures (now (code .entry)) at count (r .end) (r .nodes) ⌝ }
+{
+    let mut from = at;
+    let mut left = count;
+    let mut nodes: u64 = 0;
+    while 0 < left {
+        let head = WrappedAccessPaths::of(code[from]);
+        from += head.words();
+        left = left - 1 + head.wraps();
+        nodes += 1;
+    }
+    Measured { end: from, nodes }
+}
+
+// Notes the place of a head behind so many others, if it is that of a path, and answers how many there are then.
+fn note_path(head: WrappedAccessPaths, at: usize, places: &mut [u64], found: usize) -> usize
+    requires { ⌜ found < length (now places) ⌝ }
+    ensures { λ r. ⌜ Noted (now (places .entry)) found (placesFor head at) (now (places .exit)) r ⌝ }
+{
+    match head {
+        WrappedAccessPaths::Empty => found,
+        WrappedAccessPaths::AccessPath(_) => note_place(at, places, found),
+        WrappedAccessPaths::Union => found,
+        WrappedAccessPaths::SetLiteral => found,
+        WrappedAccessPaths::RecordLiteral(_) => found,
+    }
+}
+
+// Notes a place behind so many others, and answers how many there are then.
+fn note_place(at: usize, places: &mut [u64], found: usize) -> usize
+    requires { ⌜ found < length (now places) ⌝ }
+    ensures { λ r. ⌜ Noted (now (places .entry)) found (at ∷ []) (now (places .exit)) r ⌝ }
+{
+    places[found] = at as u64;
+    found + 1
+}
+
+// The places of all paths among the wrapped paths at a place, and how many there are.
+pub fn paths_in(code: &[u64], at: usize, places: &mut [u64]) -> usize
+    requires { ⌜ Result (now code) at × (length (now places) ≡ 256) ⌝ }
+    ensures { λ r. ⌜ FoundAt (now (code .entry)) at (now (places .exit)) r ⌝ }
+{
+    let mut from = at;
+    let mut left: usize = 1;
+    let mut found = 0;
+    while 0 < left {
+        let head = WrappedAccessPaths::of(code[from]);
+        found = note_path(head, from, places, found);
+        from += head.words();
+        left = left - 1 + head.wraps();
+    }
+    found
+}
+
+// The place of a name among names, or their count.
+pub fn name_place(names: &[u64], name: u64) -> usize
+    ensures { λ r. ⌜ r ≡ placeOf (now (names .entry)) name ⌝ }
+{
+    let mut i = 0;
+    while i < names.len() {
+        if names[i] == name {
+            return i;
+        }
+        i += 1;
+    }
+    i
+}
+
+// A record literal's field, or the literal itself where it has not that field.
+fn take_field(
+    code: &[u64],
+    at: usize,
+    fields: usize,
+    name: u64,
+    out: &mut [u64],
+    to: usize,
+) -> Moved
+    requires { ⌜ Literal (now code) at fields name (now out) to ⌝ }
+    ensures { λ r. ⌜ FieldTaken (now (code .entry)) at fields name (now (out .entry)) to (now (out .exit)) r ⌝ }
+{
+    let names = at + 1;
+    let first = names + fields;
+    let end = measure(code, first, fields).end;
+    let place = name_place(&code[names..first], name);
+    if place == fields {
+        return Moved {
+            from: end,
+            to: copy_words(&code[at..end], out, to),
+        };
+    }
+    let field = measure(code, first, place).end;
+    let field_end = measure(code, field, 1).end;
+    Moved {
+        from: end,
+        to: copy_words(&code[field..field_end], out, to),
+    }
+}
+
+// A path that gains a field.
+fn grow_path(code: &[u64], at: usize, steps: usize, name: u64, out: &mut [u64], to: usize) -> Moved
+    requires { ⌜ (at + 1 + steps ≤ length (now code)) × (to + 2 + steps ≤ length (now out)) ⌝ }
+    ensures { λ r. ⌜ Gained (now (code .entry)) at steps name (now (out .entry)) to (now (out .exit)) r ⌝ }
+{
+    let first = at + 1;
+    let end = first + steps;
+    out[to] = WrappedAccessPaths::AccessPath(steps + 1).word();
+    let last = copy_words(&code[first..end], out, to + 1);
+    out[last] = name;
+    Moved {
+        from: end,
+        to: last + 1,
+    }
+}
+
+// A head that stays as it is.
+fn keep_head(code: &[u64], at: usize, out: &mut [u64], to: usize) -> Moved
+    requires { ⌜ (at < length (now code)) × (to < length (now out)) ⌝ }
+    ensures { λ r. ⌜ Took at (getD (now (code .entry)) at 0 ∷ []) (now (out .entry)) to (getD (now (code .entry)) at 0 ∷ []) (now (out .exit)) r ⌝ }
+{
+    out[to] = code[at];
+    Moved {
+        from: at + 1,
+        to: to + 1,
+    }
+}
+
+// One head, extended by a field: it stays, a path gains the field, or a record literal gives it.
+fn extend(
+    code: &[u64],
+    at: usize,
+    head: WrappedAccessPaths,
+    name: u64,
+    out: &mut [u64],
+    to: usize,
+) -> Turn
+    requires { ⌜ Room (now code) at name (now out) to × (head ≡ headOf (getD (now code) at 0)) ⌝ }
+    ensures { λ r. ⌜ Turned (now (code .entry)) at name (now (out .entry)) to (now (out .exit)) r ⌝ }
+{
+    match head {
+        WrappedAccessPaths::Empty => Turn::Next(keep_head(code, at, out, to)),
+        WrappedAccessPaths::AccessPath(steps) => Turn::Next(grow_path(
+            code,
+            at,
+            steps,
+            name,
+            out,
+            to,
+        )),
+        WrappedAccessPaths::Union => Turn::Next(keep_head(code, at, out, to)),
+        WrappedAccessPaths::SetLiteral => Turn::SetDereferenced,
+        WrappedAccessPaths::RecordLiteral(fields) => Turn::Next(take_field(
+            code,
+            at,
+            fields,
+            name,
+            out,
+            to,
+        )),
+    }
+}
+
+// `get_or_has_attr`: the wrapped paths at a place, extended by a field, and the places of the paths that gained it.
+pub fn get_or_has_attr(
+    code: &[u64],
+    at: usize,
+    name: u64,
+    out: &mut [u64],
+    places: &mut [u64],
+) -> Extended
+    requires { ⌜ Growing (now code) at name (now out) × (length (now places) ≡ 256) ⌝ }
+    ensures { λ r. ⌜ ExtendedAt (now (code .entry)) at name (now (out .exit)) (now (places .exit)) r ⌝ }
+{
+    let mut from = at;
+    let mut to = 0;
+    let mut grown = 0;
+    let mut left: usize = 1;
+    while 0 < left {
+        let head = WrappedAccessPaths::of(code[from]);
+        let Turn::Next(moved) = extend(code, from, head, name, out, to) else {
+            return Extended::SetDereferenced;
+        };
+        grown = note_path(head, to, places, grown);
+        from = moved.from;
+        to = moved.to;
+        left = left - 1 + head.sides();
+    }
+    Extended::Done(to, grown)
+}
