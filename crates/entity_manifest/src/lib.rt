@@ -10,9 +10,9 @@ ghost use Rattle.schema.specs.Items.{readIn as readSchemaIn};
 ghost use Rattle.analysis.specs.Outcomes.{analyseIn};
 use manifest::EntityManifest;
 pub use manifest::Written;
-use schema::Schema;
 pub use rows::Held;
 pub use rows::Kind;
+use schema::Schema;
 pub use words::Reply;
 
 // Makes a lent state the empty manifest.

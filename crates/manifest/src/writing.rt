@@ -11,8 +11,8 @@ ghost use Rattle.rows.specs.Words.{rowOf, isWord};
 ghost use Rattle.rows.specs.States.{allWords, rowsOf};
 ghost use Rattle.manifest.specs.Lines.{lineFor};
 ghost use Rattle.words.specs.Runs.{Wrote};
-use text::Decimal;
 use rows::Row;
+use text::Decimal;
 
 // The letters of the steps, by kind.
 fn letter(kind: u64) -> u8

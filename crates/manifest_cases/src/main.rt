@@ -4,8 +4,8 @@ ghost use lib.ListN.{length};
 use libc::STDOUT_FILENO;
 use manifest::EntityManifest;
 use manifest::Written;
-use text::Line;
 use rows::Kind;
+use text::Line;
 use words::Reply;
 
 // The longest text of a case, and the words of a contribution. Eight contributions are kept.

@@ -1,9 +1,9 @@
 // Replays the vectors of data/: step texts under request type (10, 500, 20) with their schema, in data/oracle also with the Rust's answer.
 use libc::STDOUT_FILENO;
 use manifest::Written;
+use rows::Kind;
 use schema::Schema;
 use text::Line;
-use rows::Kind;
 use words::Reply;
 
 const TEXT: usize = 65_536;

@@ -1,11 +1,11 @@
 -- What each answer of `text` means, by the definitions of document 01's texts (`rules`, Text).
-use Prim.Native.Nat.{ℕ, _+_}
+use Prim.Native.Nat.{ℕ, _+_, _-_, _*_}
 use mathlib.Core.Bool.{cond}
 use mathlib.Core.List.{List, [], _∷_}
 use mathlib.Core.Option.{Option, none, some}
-use lib.Dec.{eqb}
+use lib.Dec.{leb, eqb}
 use lib.ListN.{length, drop}
-use Rattle.rules.specs.Text.{parted, linesOf, fieldsOf, decimalOf}
+use Rattle.rules.specs.Text.{parted, linesOf, fieldsOf, isDigit, decimalOf}
 use Rattle.text.specs.declared.Line.{Line}
 use Rattle.text.specs.declared.Line.the-variants.{End, Whole, Cut}
 use Rattle.text.specs.declared.Field.{Field}
@@ -39,6 +39,13 @@ fieldAt line at = firstField at (fieldsOf (drop at line))
 abbrev pub numberOf : Decimal → Option ℕ
 numberOf (Value n) = some n
 numberOf Bad = none
+
+-- the number that the digits in front of some bytes write after n, and the place behind them, or that it is over 65,535
+unfoldable pub digitsFrom : ℕ → ℕ → List ℕ → Number
+digitsFrom n at [] = Of n at
+digitsFrom n at (d ∷ ds) =
+    let next : ℕ = n * 10 + (d - 48) in
+    cond (isDigit d) (cond (leb next 65535) (digitsFrom next (at + 1) ds) BadNumber) (Of n at)
 
 -- a number that was read, if any, with the place where it ends
 abbrev pub ending : ℕ → Option ℕ → Number

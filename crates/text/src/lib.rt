@@ -1,12 +1,12 @@
 // Bytes to lines, fields and decimals, and decimals back to bytes. Any bytes get an answer.
 ghost use mathlib.Core.Path.{_≡_};
-ghost use Prim.Native.Nat.{_+_, _≤_};
+ghost use Prim.Native.Nat.{_+_, _≤_, _<_};
 ghost use lib.ListN.{length, drop};
 ghost use lib.Seq.{sets};
 ghost use mathlib.Core.List.{_∷_};
-ghost use Rattle.rules.specs.Text.{decimalOf, decimal, parted, numberFrom};
+ghost use Rattle.rules.specs.Text.{decimalOf, decimal, parted};
 ghost use Rattle.rules.specs.Listing.{isLetter};
-ghost use Rattle.text.specs.Answers.{lineAt, fieldAt, numberOf, firstNumber, numberAt};
+ghost use Rattle.text.specs.Answers.{lineAt, fieldAt, numberOf, digitsFrom, firstNumber, numberAt};
 ghost use Rattle.text.specs.Before.{before};
 
 pub const LF: u8 = 10;
@@ -110,18 +110,11 @@ impl Decimal {
         if 1 < n && field[0] == 48 {
             return Decimal::Bad;
         }
-        let mut value: u64 = 0;
-        let mut i = 0;
-        while i < n {
-            let b = field[i];
-            if b < 48 || 57 < b {
-                return Decimal::Bad;
-            }
-            value = value * 10 + (b - 48) as u64;
-            if Decimal::MOST < value {
-                return Decimal::Bad;
-            }
-            i += 1;
+        let Number::Of(value, end) = Number::digits(field, 0) else {
+            return Decimal::Bad;
+        };
+        if end < n {
+            return Decimal::Bad;
         }
         Decimal::Value(value)
     }
@@ -142,24 +135,50 @@ impl Decimal {
 }
 
 impl Number {
-    // Reads the field from a place to the next byte `b` in one pass, by the rules of `Decimal::read`.
+    // The number that the digits from a place on write, 0 for none, and the place of the first byte behind them; or that it is over MOST.
+    fn digits(s: &[u8], at: usize) -> Number
+        ensures { λ r. ⌜ r ≡ digitsFrom 0 at (drop at (now (s .entry))) ⌝ }
+    {
+        let mut value: u64 = 0;
+        let mut i = at;
+        while i < s.len() {
+            let digit = s[i];
+            if digit < 48 || 57 < digit {
+                return Number::Of(value, i);
+            }
+            value = value * 10 + (digit - 48) as u64;
+            if Decimal::MOST < value {
+                return Number::Bad;
+            }
+            i += 1;
+        }
+        Number::Of(value, i)
+    }
+
+    // Reads the field from a place to the next byte `b`, which is no digit, in one pass, by the rules of `Decimal::read`.
     pub fn at(s: &[u8], at: usize, b: u8) -> Number
+        requires { ⌜ b < 48 ⌝ }
         ensures { λ r. ⌜ r ≡ numberAt b (now (s .entry)) at ⌝ }
     {
         if s.len() <= at {
             return Number::Bad;
         }
-        let first = s[at];
-        if first == b {
-            return Number::Bad;
-        }
-        if first == 48 {
+        if s[at] == 48 {
             return Number::zero(s, at + 1, b);
         }
-        if first < 48 || 57 < first {
+        let Number::Of(value, end) = Number::digits(s, at) else {
+            return Number::Bad;
+        };
+        if end == at {
             return Number::Bad;
         }
-        Number::digits(s, at + 1, b, (first - 48) as u64)
+        if s.len() <= end {
+            return Number::Bad;
+        }
+        if s[end] != b {
+            return Number::Bad;
+        }
+        Number::Of(value, end)
     }
 
     // What a field is that has a 0 in front of a place: 0 where it ends there.
@@ -171,30 +190,6 @@ impl Number {
         }
         if s[at] == b {
             return Number::Of(0, at);
-        }
-        Number::Bad
-    }
-
-    // The number that the digits from a place to the field's end write after the number `n` before them.
-    fn digits(s: &[u8], at: usize, b: u8, n: u64) -> Number
-        requires { ⌜ n ≤ 65535 ⌝ }
-        ensures { λ r. ⌜ r ≡ firstNumber (numberFrom 65535 n) at (parted b (drop at (now (s .entry)))) ⌝ }
-    {
-        let mut value = n;
-        let mut i = at;
-        while i < s.len() {
-            let digit = s[i];
-            if digit == b {
-                return Number::Of(value, i);
-            }
-            if digit < 48 || 57 < digit {
-                return Number::Bad;
-            }
-            value = value * 10 + (digit - 48) as u64;
-            if Decimal::MOST < value {
-                return Number::Bad;
-            }
-            i += 1;
         }
         Number::Bad
     }

@@ -2,11 +2,11 @@
 ghost use Prim.Native.Nat.{_≤_, _<_};
 ghost use lib.ListN.{length};
 use libc::STDOUT_FILENO;
-use text::Line;
 use rows::Held;
 use rows::Kind;
-use words::Reply;
 use rows::Row;
+use text::Line;
+use words::Reply;
 
 // The words of a manifest, and the places of a position with its request type.
 const WORDS: usize = 4_161;

@@ -6,7 +6,6 @@ ghost use Prim.Native.Nat.{_+_, _^_, _<_, _≤_};
 ghost use lib.ListN.{length, getD};
 ghost use Rattle.wrapped_paths.specs.Code.{headOf, wordFor, sizeOf, wrapsOf, placeOf, Standing, Measures, Result, FoundAt, ExtendedAt};
 ghost use Rattle.wrapped_paths.specs.Turns.{placesFor, Noted, sidesOf, Took, Gained, Literal, FieldTaken, Room, Growing, Turned};
-
 use words::copy_words;
 
 // What a head says: a path has so many steps behind it, a record so many names and then as many fields.
