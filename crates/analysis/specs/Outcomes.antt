@@ -6,6 +6,7 @@ use mathlib.Core.List.{List}
 use lib.Dec.{leb, ltb}
 use lib.ListN.{length}
 use Rattle.rules.specs.Numbers.{accepted, refused}
+use Rattle.rules.specs.Lines.{folded}
 use Rattle.rules.specs.Schema.{Item}
 use Rattle.rules.specs.Steps.{Result, run, analyse}
 use Rattle.words.specs.Runs.{Outcome, refusing}
@@ -29,7 +30,7 @@ analyseIn schema request text out =
 -- a text was run to its end, and the stack holds the results
 pub record Finished (items : List Item) (text code tries : List ℕ) (stack : Stack) (lines : ℕ) : Type 0 where
   pub results : List Result
-  pub ran : run items text ≡ accepted (record { lines = lines; stack = results })
+  pub ran : run items text ≡ accepted (folded lines results)
   pub held : Held code tries stack results
 
 -- the runs are not the large ones, which no text fills

@@ -13,8 +13,7 @@ use lib.ListN.{length, take, drop, getD, set, length-drop, length-set, drop-of-l
 use lib.Seq.{length-take-le}
 use Rattle.rules.specs.Numbers.{accepted, refused}
 use Rattle.rules.specs.Facts.{by-option, compared}
-use Rattle.rules.specs.Text.{parted, linesOf, fieldsOf, LF}
-use Rattle.rules.specs.TextLaws.{parted-some}
+use Rattle.rules.specs.Text.{fieldsOf}
 use Rattle.rules.specs.Tries.{Row}
 use Rattle.rules.specs.Listing.{read}
 use Rattle.rules.specs.ListingLaws.{refused-not}
@@ -47,20 +46,20 @@ use Rattle.rules.specs.Steps.{
   fullStep,
   apply,
   stepped,
-  runFrom,
+  stepLine,
   run,
   ended,
 }
 use Rattle.rules.specs.StepLaws.{Each, AllGood, GoodSchema, judged-accepted, step-good, apply-good}
 use Rattle.text.specs.Answers.{lineAt}
-use Rattle.text.proofs.Laws.{whole-within}
+use Rattle.text.proofs.Laws.{whole-line, cut-line}
+use Rattle.text.proofs.FoldLaws.{CameTo, came-start, came-end, came-cut, came-refused, came-next}
 use Rattle.text.specs.declared.Line.{Line}
 use Rattle.text.specs.declared.Line.the-variants.{Whole}
 use Rattle.rows.specs.Words.{wordOf}
 use Rattle.rows.specs.States.{holding, storing}
 use Rattle.words.specs.declared.Reply.the-variants.{Done, Refused}
 use Rattle.words.specs.Runs.{Wrote}
-use Rattle.text.proofs.FieldLaws.{lines-whole, lines-cut}
 use Rattle.schema.specs.Items.{itemsOf, goodItems}
 use Rattle.wrapped_paths.specs.Code.{codes}
 use Rattle.step_lines.specs.Lines.{stepRead, GoodRead}
@@ -155,41 +154,11 @@ stepped-held words place fields stack after good all e =
 
 -- ---- running from line to line
 
-module _ (items : List Item) (place : ℕ) (stack : List Result) where
-  -- what is left without an LF is no step
-  run-cut :
-      (text : List ℕ) (at : ℕ) (r : Line)
-      → r ≡ lineAt text at
-      → ((end : ℕ) → r ≡ Whole end → ⊥)
-      → at < length text
-      → runFrom items place (linesOf (drop at text)) stack ≡ refused 1 place
-  unfolding runFrom
-  run-cut text at r ensured unended more = let (alone, some-byte) = lines-cut text at r ensured unended more in rw (alone, some-byte)
-
-  module _ (line rest : List ℕ) where
-    -- a step that is accepted comes before those of the lines behind it
-    run-next :
-        (after : List Result)
-        → stepped items place (stepFrom (fieldsOf line)) stack ≡ accepted after
-        → runFrom items place (line ∷ linesOf rest) stack ≡ runFrom items (place + 1) (linesOf rest) after
-    unfolding runFrom
-    run-next after e = rw (parted-some LF rest .2, runFrom, e)
-
-    -- one that is refused ends the run
-    run-stopped :
-        (number : ℕ)
-        → stepped items place (stepFrom (fieldsOf line)) stack ≡ refused number place
-        → runFrom items place (line ∷ linesOf rest) stack ≡ refused number place
-    unfolding runFrom
-    run-stopped number e = rw (parted-some LF rest .2, runFrom, e)
-
--- the stack holds the results of the lines that were passed, from which the others lead to what the text gives
+-- the lines that were passed came to the results that the stack holds
 pub record Running (words text code tries : List ℕ) (stack : Stack) (at line : ℕ) : Type 0 where
   pub results : List Result
   pub held : Held code tries stack results
-  pub in-text : at ≤ length text
-  pub lines-passed : line ≤ at
-  pub left : run (itemsOf words) text ≡ runFrom (itemsOf words) line (linesOf (drop at text)) results
+  pub came : CameTo (stepLine (itemsOf words)) [] text at line results
 
 -- before the first line there is no result
 pub running-none :
@@ -210,9 +179,7 @@ running-none words text code tries stack (at-code, (at-tries, no-result)) = reco
     few = omega arith;
     good = tt;
   };
-  in-text = omega arith;
-  lines-passed = omega arith;
-  left = refl;
+  came = came-start (stepLine (itemsOf words)) [] text;
 }
 
 module _ {words text code tries : List ℕ} {stack : Stack} {at line : ℕ} (running : Running words text code tries stack at line) where
@@ -233,12 +200,7 @@ module _ {words text code tries : List ℕ} {stack : Stack} {at line : ℕ} (run
 
   -- no line is left
   pub running-all : length text ≤ at → Finished (itemsOf words) text code tries stack line
-  unfolding runFrom parted
-  running-all h = record {
-    results = running .results;
-    ran = running .left ∙ rw (drop-of-length-le text h);
-    held = running .held;
-  }
+  running-all h = record { results = running .results; ran = came-end (running .came) h; held = running .held }
 
   -- the next line has no LF
   pub running-cut :
@@ -247,7 +209,7 @@ module _ {words text code tries : List ℕ} {stack : Stack} {at line : ℕ} (run
       → ((end : ℕ) → r ≡ Whole end → ⊥)
       → at < length text
       → run (itemsOf words) text ≡ refused 1 line
-  running-cut {r} ensured unended more = running .left ∙ run-cut (itemsOf words) line (running .results) text at r ensured unended more
+  running-cut {r} ensured unended more = came-cut (running .came) more (cut-line text at r ensured unended)
 
   module _
       {end : ℕ} {r : Line} {step : Option Step}
@@ -259,10 +221,8 @@ module _ {words text code tries : List ℕ} {stack : Stack} {at line : ℕ} (run
         {number : ℕ}
         → ((results : List Result) → Held code tries stack results → (place : ℕ) → stepped (itemsOf words) place step results ≡ refused number place)
         → run (itemsOf words) text ≡ refused number line
-    running-stopped {number} steps =
-        running .left
-        ∙ rw (lines-whole text at end r ensured e)
-        (run-stopped (itemsOf words) line (running .results) _ _ number (rw given at (steps (running .results) (running .held) line)))
+    running-stopped steps =
+        came-refused (running .came) (whole-line text at end r ensured e) (rw given at (steps (running .results) (running .held) line))
 
     -- the next line is taken
     pub running-next :
@@ -275,15 +235,10 @@ module _ {words text code tries : List ℕ} {stack : Stack} {at line : ℕ} (run
         let accepts : stepped (itemsOf words) line (stepFrom (fieldsOf (take (end - at) (drop at text)))) (running .results) ≡ accepted (reached .after) =
         rw given at (reached .reached line) in
         let (few, all-good) = stepped-held words line _ (running .results) (reached .after) good (running .held .good) accepts in
-        let (behind-at, within) = whole-within text at end r ensured e in
         record {
           results = reached .after;
           held = record { layout = reached .layout; few = few; good = all-good };
-          in-text = omega arith;
-          lines-passed = omega (arith, running .lines-passed);
-          left =
-              running .left
-              ∙ rw (lines-whole text at end r ensured e) (run-next (itemsOf words) line (running .results) _ _ (reached .after) accepts);
+          came = came-next (running .came) (whole-line text at end r ensured e) accepts;
         }
 
 -- ---- the contribution of a result

@@ -1,17 +1,16 @@
 -- Laws of the fields of a line and of the rows that a listing is read as. No contract cites this file.
 use Prim.Native.Nat.{ℕ, suc, _+_, _*_, _/_, _%_, _^_, _≤_, _<_}
 use native.Mathlib.Nat.{add-zero}
-use native.Mathlib.Numerals.{add-one}
 use native.Mathlib.Omega.{arith}
 use mathlib.Core.Bool.{Bool, true, false, cond, not, _&&_, _||_, and-false, or-true, false≢true}
-use mathlib.Core.List.{List, [], _∷_, _++_, map, append-nil, append-assoc, nil≢cons, head-eq-of-cons-eq, tail-eq-of-cons-eq}
+use mathlib.Core.List.{List, [], _∷_, _++_, map, map-append, append-assoc, nil≢cons, head-eq-of-cons-eq, tail-eq-of-cons-eq}
 use mathlib.Core.Logic.{_≢_, _⊎_, inl, inr}
-use mathlib.Core.Option.{Option, none, some, Option·none-ne-some, Option·some-injective}
+use mathlib.Core.Option.{Option, none, some, Option·none-ne-some, Option·some-ne-none, Option·some-injective}
 use mathlib.Core.Path.{_≡_, refl, sym, ap, _∙_}
 use borrow.Author.Tests.{eqb-true, eqb-false, eq-eqb, ne-eqb, le-leb, lt-leb, lt-ltb, le-ltb, ltb-false, leb-false, not-false}
 use lib.Dec.{eqb, ltb, leb}
-use lib.ListN.{length, getD, take, drop, set, length-drop, length-set, length-map, length-append, drop-of-length-le}
-use lib.Seq.{drop-cons, length-take-le, getD-take, getD-drop, take-take, take-suc-set, append-snoc, sets}
+use lib.ListN.{length, getD, take, drop, set, length-drop, length-set, length-map, length-append}
+use lib.Seq.{drop-cons, length-take-le, getD-take, getD-drop, append-snoc, sets}
 use Rattle.rules.specs.Text.{bytes, parted, linesOf, fieldsOf, decimalOf, decimal, LF, TAB}
 use Rattle.rules.specs.TextLaws.{
   Free,
@@ -29,24 +28,28 @@ use Rattle.rules.specs.TextLaws.{
   decimal-written,
 }
 use Rattle.rules.specs.Numbers.{Answer, accepted, refused, mostSteps}
+use Rattle.rules.specs.Lines.{Folded, foldText}
+use Rattle.rules.specs.LineLaws.{gathering, gathered, rowLine, rows-folded}
+use Rattle.rules.specs.WalkLaws.{kept-stored}
 use Rattle.rules.specs.Facts.{by-test, by-option, compared, cond-some, cond-other, cond-none}
 use Rattle.rules.specs.Tries.{Row, Form, stepOf, requestOf, isEntry, isRow, at, follows}
 use Rattle.rules.specs.TrieLaws.{Follows, follows-true, true-follows}
-use Rattle.rules.specs.Listing.{Sofar, isLetter, placeIn, letters, markOf, read, ofForm, entryOf, nodeOf, rowOf, past, refusal, before, rowsFrom, enteredBy}
+use Rattle.rules.specs.Listing.{Sofar, isLetter, placeIn, letters, markOf, read, ofForm, entryOf, nodeOf, rowOf, start, refusal, enteredBy}
 use Rattle.rules.specs.ListingLaws.{bind-some, place-read}
 use Rattle.text.proofs.FieldLaws.{place-within}
-use Rattle.text.proofs.Laws.{NumberEnds, part-split, part-within, drop-some}
+use Rattle.text.proofs.Laws.{NumberEnds, LineTo, by-line}
 use Rattle.rows.specs.Words.{wordOf}
 use Rattle.rows.specs.States.{formOf, wordsOf, storing}
 use Rattle.words.specs.Runs.{refusing, stored}
 use Rattle.rows.specs.declared.Kind.{Kind}
 use Rattle.rows.specs.declared.Limits.{Limits}
 use Rattle.words.specs.declared.Reply.the-variants.{Done}
+use Rattle.text.proofs.FoldLaws.{CameTo, came-start, came-end, came-cut, came-refused, came-next}
 use Rattle.manifest.specs.declared.reading.Sofar.{Sofar as Kept}
 use Rattle.manifest.specs.Lines.{ended, rowFrom, rowAt, kindIn}
 use Rattle.manifest.specs.Reads.{nodeRow, formFor, sofarIn, Room, RowFits, Passed, rowsBy, wordsFor}
 use Rattle.manifest.specs.Outcomes.{readIn}
-use Rattle.words.specs.RunLaws.{stored-next, behind, behind-none}
+use Rattle.words.specs.RunLaws.{stored-next}
 
 -- ---- the fields of a line, one after the other
 
@@ -507,11 +510,6 @@ row-fits (a ∷ b ∷ c ∷ d ∷ []) row e = entry-fits b c d row (cond-some (i
 row-fits (a ∷ b ∷ c ∷ d ∷ f ∷ []) row e = node-fits b c d f row (cond-some (isLetter 78 a) (nodeOf b c d f) row e .1)
 row-fits (a ∷ b ∷ c ∷ d ∷ f ∷ g ∷ more) row e = absurd (Option·none-ne-some row e)
 
--- the step of a row that may come, stored at its depth, makes the row's place the front
-place-next : (path : List ℕ) (len : ℕ) (row : Row) → len ≤ length path → row .depth ≤ len → row .depth < length path →
-    take (row .depth + 1) (set path (row .depth) (row .step)) ≡ at (take len path) row
-place-next path len row fits near inside =
-    rw (add-one, take-suc-set path (row .depth) (row .step) inside, take-take (row .depth) len path near)
 
 -- a row that is not refused is passed with its step in the path and its word behind the others
 pub row-passed :
@@ -528,7 +526,7 @@ row-passed limits kept path rows row {word} {next} room unrefused packed len ent
     let fits : kept .len ≤ length path = omega (arith, room .path-length, room .in-path) in
     let near : row .depth ≤ kept .len = omega (arith, allowed .near, length-take-le (kept .len) path fits) in
     let place : take (next .len) (set path (row .depth) (row .step)) ≡ at (take (kept .len) path) row =
-    rw len (place-next path (kept .len) row fits near (omega (arith, room .path-length, allowed .shallow))) in
+    rw len (kept-stored path (kept .len) row (row .step) near (omega (arith, room .path-length, allowed .shallow))) in
     let (few-entries, few-nodes, one-more) = counts allowed (isEntry row) refl entries nodes in
     record {
       unrefused = unrefused;
@@ -556,130 +554,90 @@ row-passed limits kept path rows row {word} {next} room unrefused packed len ent
 
 -- ---- the lines of a text
 
--- what is known of a line that is read: its fields are the row's, and an LF ends it
-abbrev RowLine : List ℕ → ℕ → Row → ℕ → Type 0
-RowLine text at row end =
-    (line : List ℕ) × (at ≤ end) × (end < length text) × (rowOf (fieldsOf line) ≡ some row)
-    × (linesOf (drop at text) ≡ line ∷ linesOf (drop (end + 1) text))
+-- what is read of a line that an LF ends
+line-read : {text : List ℕ} {at end : ℕ} {line : List ℕ} → LineTo text at end line → rowAt text at ≡ ended end (rowOf (fieldsOf line))
+line-read {text} {at} {end} {line} to = rw (to .first, parted-some LF (drop (end + 1) text) .2, to .ends)
 
-row-line : (text : List ℕ) (at : ℕ) (row : Row) (end : ℕ) → rowAt text at ≡ some (row, end) → RowLine text at row end
-row-line text at row end e = go (linesOf (drop at text)) refl e
-  where
-    go : (lines : List (List ℕ)) → linesOf (drop at text) ≡ lines → rowFrom [] at lines ≡ some (row, end) → RowLine text at row end
-    go [] q e = absurd (Option·none-ne-some (row, end) e)
-    go (line ∷ []) q e = absurd (Option·none-ne-some (row, end) e)
-    go (line ∷ next ∷ more) q e =
-        by-option (rowOf (fieldsOf line))
-        (λ bad. absurd (Option·none-ne-some (row, end) (sym (ap (ended (at + length line)) bad) ∙ e)))
-        λ found good.
-        let same : (found, at + length line) ≡ (row, end) = Option·some-injective _ _ (sym (ap (ended (at + length line)) good) ∙ e) in
-        let place : at + length line ≡ end = ap (λ (w : Row × ℕ). w .1) same in
-        let behind : linesOf (drop (at + length line + 1) text) ≡ next ∷ more = part-split LF at text line next more q .1 in (
-          line,
-          omega arith,
-          omega (arith, part-within LF at text line next more q),
-          good ∙ ap (λ (w : Row × ℕ). some (w .0)) same,
-          q ∙ rw (← behind, place),
-        )
-
-module _ (form : Form) (sofar : Sofar) (place : ℕ) (text : List ℕ) (at : ℕ) where
-  -- a line that is not read is where reading ends
-  rows-unread : rowAt text at ≡ none → at < length text → rowsFrom form sofar place (linesOf (drop at text)) ≡ refused 1 place
-  unfolding rowsFrom joinedBy
-  rows-unread e inside = go (linesOf (drop at text)) refl e
-    where
-      go : (lines : List (List ℕ)) → linesOf (drop at text) ≡ lines → rowFrom [] at lines ≡ none → rowsFrom form sofar place lines ≡ refused 1 place
-      go [] q e = let (line, others, some-line) = parted-some LF (drop at text) in absurd (nil≢cons (sym q ∙ some-line))
-      go (line ∷ []) q e =
-          let same : line ≡ drop at text = sym (ap (joinedBy LF) q) ∙ joined-parted LF (drop at text) in
-          rw (same, drop-some at text inside)
-      go (line ∷ next ∷ more) q e =
-          by-option (rowOf (fieldsOf line))
-          (λ bad. rw (rowsFrom, bad))
-          λ row good. absurd (Option·none-ne-some (row, at + length line) (sym e ∙ ap (ended (at + length line)) good))
-
-  module _ {row : Row} {end : ℕ} (e : rowAt text at ≡ some (row, end)) where
-    -- so is one whose row gives a number
-    rows-stopped : {number : ℕ} → refusal form sofar row ≡ some number → rowsFrom form sofar place (linesOf (drop at text)) ≡ refused number place
-    unfolding rowsFrom
-    rows-stopped stopped =
-        let (line, _, _, read-row, lines) = row-line text at row end e in
-        rw (lines, parted-some LF (drop (end + 1) text) .2, rowsFrom, read-row, stopped)
-
-    -- a row that is not refused comes before those of the lines behind it
-    rows-next : refusal form sofar row ≡ none →
-        rowsFrom form sofar place (linesOf (drop at text)) ≡ before row (rowsFrom form (past sofar row) (place + 1) (linesOf (drop (end + 1) text)))
-    unfolding rowsFrom
-    rows-next unrefused =
-        let (line, _, _, read-row, lines) = row-line text at row end e in
-        rw (lines, parted-some LF (drop (end + 1) text) .2, rowsFrom, read-row, unrefused)
+-- a line that is read as a row has the row's fields, and an LF ends it
+row-line : (text : List ℕ) (at : ℕ) (row : Row) (end : ℕ) → rowAt text at ≡ some (row, end) →
+    (line : List ℕ) × LineTo text at end line × (rowOf (fieldsOf line) ≡ some row)
+row-line text at row end e =
+    by-line text at
+    (λ alone. absurd (Option·none-ne-some (row, end) (sym (rw alone) ∙ e)))
+    (λ last line to.
+    by-option (rowOf (fieldsOf line))
+    (λ bad. absurd (Option·none-ne-some (row, end) (sym (line-read to ∙ rw bad) ∙ e)))
+    (λ found good.
+    let same : (found, last) ≡ (row, end) = Option·some-injective _ _ (sym (line-read to ∙ rw good) ∙ e) in
+    let place : last ≡ end = ap (λ (w : Row × ℕ). w .1) same in
+    (line, rw place at to, good ∙ ap (λ (w : Row × ℕ). some (w .0)) same)))
 
 -- ---- reading from line to line
 
-behind-row : (words : List ℕ) (row : Row) (answer : Answer (List Row)) →
-    behind words (wordsFor (before row answer)) ≡ behind (words ++ (wordOf row ∷ [])) (wordsFor answer)
-behind-row words row (accepted rows) = rw (append-snoc words (wordOf row) (map wordOf rows))
-behind-row words row (refused number place) = refl
-
--- the words of what a text gives are those that are stored, and then those of the lines that are left
+-- the lines that were passed came to the rows whose words are stored
 pub record Reading (limits : Limits) (text : List ℕ) (kept : Kept) (path rows : List ℕ) (at line : ℕ) : Type 0 where
   pub room : Room limits kept path rows
-  pub inside : at ≤ length text
-  pub lines-passed : line ≤ at
-  pub left :
-      wordsFor (rowsBy limits text)
-      ≡ behind (stored (kept .entries + kept .nodes) rows) (wordsFor (rowsFrom (formFor limits) (sofarIn kept path) line (linesOf (drop at text))))
+  pub passed : List Row
+  pub in-words : stored (kept .entries + kept .nodes) rows ≡ map wordOf passed
+  pub came : CameTo (gathering (rowLine (formFor limits))) (start, []) text at line (sofarIn kept path, passed)
 
 pub reading-none : (limits : Limits) (text path rows : List ℕ) → length path ≡ 25 → limits .entries + limits .nodes < length rows →
     Reading limits text (record { len = 0; entries = 0; nodes = 0 }) path rows 0 0
 reading-none limits text path rows steps fits = record {
   room = record { path-length = steps; in-path = omega arith; few-entries = omega arith; few-nodes = omega arith; in-rows = fits };
-  inside = omega arith;
-  lines-passed = omega arith;
-  left = sym (behind-none _);
+  passed = [];
+  in-words = refl;
+  came = came-start (gathering (rowLine (formFor limits))) (start, []) text;
 }
 
 module _ {limits : Limits} {text : List ℕ} {kept : Kept} {path rows : List ℕ} {at line : ℕ} (reading : Reading limits text kept path rows at line) where
+  -- the words of what the text gives, by what its lines come to
+  words-given : {answer : Answer (Folded (Sofar × List Row))} → foldText (gathering (rowLine (formFor limits))) text (start, []) ≡ answer →
+      wordsFor (gathered answer) ≡ wordsFor (rowsBy limits text)
+  words-given e = rw (rows-folded (formFor limits) start 0 (linesOf text), e)
+
   -- no line is left
   pub reading-all : length text ≤ at → accepted (stored (kept .entries + kept .nodes) rows) ≡ wordsFor (rowsBy limits text)
-  unfolding rowsFrom parted
-  reading-all h = sym (reading .left ∙ rw (drop-of-length-le text h, append-nil))
+  reading-all h = rw (reading .in-words) (words-given (came-end (reading .came) h))
 
   -- the next line is not read
   pub reading-unread : rowAt text at ≡ none → at < length text → refused 1 line ≡ wordsFor (rowsBy limits text)
-  reading-unread e more = sym (reading .left ∙ rw (rows-unread (formFor limits) (sofarIn kept path) line text at e more))
+  reading-unread e more =
+      words-given
+      (by-line text at
+      (λ alone. came-cut (reading .came) more alone)
+      (λ end l to. came-refused (reading .came) to (rw (unread end (rowOf (fieldsOf l)) (sym (line-read to) ∙ e)))))
+    where
+      unread : (end : ℕ) (o : Option Row) → ended end o ≡ none → o ≡ none
+      unread end none e = refl
+      unread end (some row) e = absurd (Option·some-ne-none _ e)
 
   module _ {row : Row} {end : ℕ} (e : rowAt text at ≡ some (row, end)) where
     -- the next line's LF stands in the text
     pub reading-within : (at ≤ end) × (end < length text)
-    reading-within = let (_, behind, within, _, _) = row-line text at row end e in (behind, within)
+    reading-within = let (_, to, _) = row-line text at row end e in (omega (arith, to .ends), to .within)
 
     -- its row can be stored
     pub reading-fits : RowFits row
-    reading-fits = let (_, _, _, read-row, _) = row-line text at row end e in row-fits _ row read-row
+    reading-fits = let (_, _, read-row) = row-line text at row end e in row-fits _ row read-row
 
     -- its row is refused
     pub reading-stopped : {number : ℕ} → refusal (formFor limits) (sofarIn kept path) row ≡ some number → refused number line ≡ wordsFor
         (rowsBy limits text)
-    reading-stopped stopped = sym (reading .left ∙ rw (rows-stopped (formFor limits) (sofarIn kept path) line text at e stopped))
+    reading-stopped stopped =
+        let (_, to, read-row) = row-line text at row end e in
+        words-given (came-refused (reading .came) to (rw (read-row, stopped)))
 
     -- its row is taken
     pub reading-next : {path′ rows′ : List ℕ} {next : Kept} → Passed limits kept row path rows path′ rows′ next →
         Reading limits text next path′ rows′ (end + 1) (line + 1)
     reading-next passed =
-        let (behind-at, within) = reading-within in
+        let (_, to, read-row) = row-line text at row end e in
         record {
           room = passed .room;
-          inside = omega arith;
-          lines-passed = omega (arith, reading .lines-passed);
-          left =
-              reading .left
-              ∙ rw (
-                rows-next (formFor limits) (sofarIn kept path) line text at e (passed .unrefused),
-                behind-row (stored (kept .entries + kept .nodes) rows) row _,
-                ← passed .stored-row,
-                ← passed .comes-past,
-              );
+          passed = reading .passed ++ (row ∷ []);
+          in-words = passed .stored-row ∙ rw (reading .in-words, map-append wordOf (reading .passed) (row ∷ []));
+          came = rw (passed .comes-past) (came-next (reading .came) to (rw (read-row, passed .unrefused)));
         }
 
 -- ---- what reading answers, by what was tested

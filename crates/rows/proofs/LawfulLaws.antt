@@ -1,17 +1,20 @@
 -- Laws of rows that come after a place, and of what a pass over words has found, for the proofs of `lawful`. No contract cites this file.
-use Prim.Native.Nat.{ℕ, _+_, _≤_, _<_}
+use Prim.Native.Nat.{ℕ, zero, suc, _+_, _≤_, _<_}
 use native.Mathlib.Numerals.{add-one}
 use native.Mathlib.Omega.{arith}
 use mathlib.Core.Bool.{Bool, true, false, cond, _&&_, and-true, and-false, and-assoc, and-eq-true-iff}
-use mathlib.Core.List.{List, [], _∷_}
+use mathlib.Core.List.{List, [], _∷_, map}
 use mathlib.Core.Logic.{_≢_}
-use mathlib.Core.Path.{_≡_, refl, _∙_}
+use mathlib.Core.Path.{_≡_, refl, sym, _∙_}
 use borrow.Author.Tests.{lt-ltb, le-ltb, le-leb, lt-leb, leb-true}
 use lib.Dec.{leb, ltb, eqb}
-use lib.ListN.{length, take, drop, getD, set, drop-of-length-le}
-use lib.Seq.{length-take-le, getD-take, take-take, take-suc-set, drop-cons}
+use lib.ListN.{length, take, drop, getD, set, length-map, drop-of-length-le}
+use lib.Seq.{length-take-le, getD-take, drop-cons}
 use Rattle.rules.specs.Numbers.{mostSteps}
 use Rattle.rules.specs.Tries.{Form, isRow, at, follows, ordered, entriesIn, nodesIn}
+use Rattle.rules.specs.Facts.{by-test}
+use Rattle.rules.specs.Walks.{walked}
+use Rattle.rules.specs.WalkLaws.{kept-stored, went-start, orderly, OrderlyTo, orderly-end, orderly-next, orderly-refused}
 use Rattle.rules.specs.TrieLaws.{follows-true}
 use Rattle.rows.specs.Words.{depthIn, stepIn, isWord, rowOf}
 use Rattle.rows.specs.States.{allWords, rowsOf, goodRows, mayFollow, lawfulState, Counted}
@@ -51,66 +54,77 @@ module _ (path : List ℕ) (len word : ℕ) (fits : len ≤ length path) where
       at (take len path) (rowOf word) ≡ take (depthIn word + 1) (set path (depthIn word) (stepIn word))
   place-stored room next =
       let (near, shallow) = follow-depth (take len path) word next in
-      let reached : depthIn word ≤ len = rw (length-take-le len path fits) at near in
-      let inside : depthIn word < length path = omega arith in
-      rw (add-one, take-suc-set path (depthIn word) (stepIn word), take-take (depthIn word) len path)
+      sym (kept-stored path len (rowOf word) (stepIn word) (rw (length-take-le len path fits) at near) (omega arith))
 
 -- ---- a pass over words
 
--- words that pack rows in the listing's order after the place s
-abbrev pub goodAfter : List ℕ → List ℕ → Bool
-goodAfter s words = allWords words && ordered s (rowsOf words)
+drop-map : {A B : Type 0} (f : A → B) (i : ℕ) (l : List A) → drop i (map f l) ≡ map f (drop i l)
+drop-map f zero l = refl
+drop-map f (suc i) [] = refl
+drop-map f (suc i) (x ∷ l) = drop-map f i l
 
--- the first word is judged after the place, and the others after its own
-good-next : (s : List ℕ) (word : ℕ) (words : List ℕ) →
-    goodAfter s (word ∷ words) ≡ cond (mayFollow s word) (goodAfter (at s (rowOf word)) words) false
-unfolding allWords ordered isWord mayFollow
-good-next s word words = go (isRow (rowOf word)) _ _ _ _
-  where
-    go : (row form place rest-words rest-rows : Bool) →
-        cond (row && form) rest-words false && cond (row && place) rest-rows false ≡ cond (row && form && place) (rest-words && rest-rows) false
-    go false form place rest-words rest-rows = refl
-    go true false place rest-words rest-rows = refl
-    go true true false rest-words rest-rows = and-false rest-words
-    go true true true rest-words rest-rows = refl
-
--- i words are passed, each of them counted, and the others come after the place s
+-- i words are passed, each of them counted: the walk that judges the listing's order has come to the place s
 pub record Passed (words s : List ℕ) (i entries nodes : ℕ) : Type 0 where
   pub inside : i ≤ length words
-  pub good : goodRows words ≡ goodAfter s (drop i words)
+  pub whole : allWords words ≡ allWords (drop i words)
+  pub went : OrderlyTo (rowsOf words) i s
   pub counted : Counted words (drop i words) entries nodes
   pub each : entries + nodes ≡ i
 
 pub passed-none : (words : List ℕ) → Passed words [] 0 0 0
-passed-none words = record { inside = omega arith; good = refl; counted = counted-none words; each = refl }
+passed-none words = record {
+  inside = omega arith;
+  whole = refl;
+  went = went-start orderly (walked [] tt) (rowsOf words);
+  counted = counted-none words;
+  each = refl;
+}
 
 module _ {words s : List ℕ} {i entries nodes : ℕ} (passed : Passed words s i entries nodes) where
   -- where no word is left, all is found
   pub passed-all : length words ≤ i → (goodRows words ≡ true) × ((entries ≡ entriesIn (rowsOf words)) × (nodes ≡ nodesIn (rowsOf words)))
-  unfolding allWords ordered
+  unfolding allWords
   passed-all h =
-      let none-left : drop i words ≡ [] = drop-of-length-le words h in
-      (passed .good ∙ rw none-left, counted-all (rw none-left at (passed .counted)))
+      let none-left : drop i words ≡ [] = drop-of-length-le words h in (
+        rw (passed .whole, none-left, orderly-end s (passed .went) (rw (length-map words rowOf) h)),
+        counted-all (rw none-left at (passed .counted)),
+      )
 
   module _ {word : ℕ} (more : i < length words) (here : getD words i 0 ≡ word) where
     words-left : drop i words ≡ word ∷ drop (i + 1) words
     words-left = rw (add-one, drop-cons words i 0, here)
 
-    good-left : goodRows words ≡ cond (mayFollow s word) (goodAfter (at s (rowOf word)) (drop (i + 1) words)) false
-    good-left = passed .good ∙ rw words-left (good-next s word (drop (i + 1) words))
+    rows-left : drop i (rowsOf words) ≡ rowOf word ∷ drop (i + 1) (rowsOf words)
+    rows-left = rw (drop-map rowOf i words, drop-map rowOf (i + 1) words, words-left)
 
     counted-left : Counted words (word ∷ drop (i + 1) words) entries nodes
     counted-left = rw words-left at (passed .counted)
 
     -- where the next row may not come, the words are no rows in order
     pub passed-bad : mayFollow s word ≡ false → goodRows words ≡ false
-    passed-bad bad = good-left ∙ rw bad
+    unfolding mayFollow allWords
+    passed-bad bad =
+        by-test (isWord word)
+        (λ good.
+        let refused : ordered [] (rowsOf words) ≡ false = orderly-refused s (passed .went) rows-left (rw (rw good at bad, and-false)) in
+        rw (refused, and-false))
+        (λ no-word. rw (passed .whole, words-left, no-word))
 
     -- where it may come, it is passed, and counted as what it is
     module _ (next : mayFollow s word ≡ true) where
       passed-row : {entries′ nodes′ : ℕ} → Counted words (drop (i + 1) words) entries′ nodes′ → entries′ + nodes′ ≡ i + 1 →
           Passed words (at s (rowOf word)) (i + 1) entries′ nodes′
-      passed-row counted each = record { inside = omega arith; good = good-left ∙ rw next; counted = counted; each = each }
+      unfolding mayFollow isWord allWords
+      passed-row counted each =
+          let (good, place) = and-eq-true-iff (isWord word) _ .0 next in
+          let (row, _) = and-eq-true-iff (isRow (rowOf word)) _ .0 good in
+          record {
+            inside = omega arith;
+            whole = passed .whole ∙ rw (words-left, good);
+            went = orderly-next s (passed .went) rows-left (rw (row, place));
+            counted = counted;
+            each = each;
+          }
 
       pub passed-entry : depthIn word ≡ 0 → Passed words (at s (rowOf word)) (i + 1) (entries + 1) nodes
       passed-entry e = passed-row (counted-entry counted-left e) (omega arith)

@@ -1,11 +1,16 @@
 -- Worked examples of document 01, which the checker computes.
 use Prim.Native.Nat.{ℕ, zero, suc, _+_}
 use mathlib.Core.Path.{_≡_, refl}
-use mathlib.Core.Bool.{true, false}
-use mathlib.Core.List.{List, [], _∷_, map}
-use Rattle.rules.specs.Numbers.{accepted, refused}
-use Rattle.rules.specs.Text.{bytes, parted, numberFrom, decimalUpTo, decimalIn}
-use Rattle.rules.specs.Tries.{Row, Form, requestOf, stepOf, union, unionOnto, next, ordered, count, lawful, manifest, contribution}
+use mathlib.Core.Bool.{true, false, cond}
+use mathlib.Core.List.{List, [], _∷_, _++_, map}
+use mathlib.Core.Option.{none, some}
+use lib.Dec.{ltb, eqb}
+use Rattle.rules.specs.Numbers.{Answer, accepted, refused, answerBy, firstOf}
+use Rattle.rules.specs.Text.{bytes, parted, numberFrom, decimalUpTo, decimalOf, decimalIn}
+use Rattle.rules.specs.Lines.{folded, foldLines, foldText}
+use Rattle.rules.specs.Walks.{Rule, walked, walk}
+use Rattle.rules.specs.WalkLaws.{allIn, orderly}
+use Rattle.rules.specs.Tries.{Row, Form, at, requestOf, stepOf, union, unionOnto, next, ordered, count, lawful, manifest, contribution}
 use Rattle.rules.specs.Listing.{listing, lineOf, placeIn, rowOf, rowsFrom, readListing, read}
 
 -- Case *L: `principal.7` in one contribution, `principal in resource.3` in another, both of request type (10, 500, 20).
@@ -139,3 +144,46 @@ lawful-rows :
     ≡ true ∷ true ∷ false ∷ true ∷ false ∷ []
 unfolding ordered count union unionOnto next chain chainFrom
 lawful-rows = refl
+
+-- Lines that each hold one decimal, added up: the sum and how many there are, 7 with the line where it passes 100, 1 for any other line.
+abbrev added : ℕ → List ℕ → ℕ → Answer ℕ
+added place line sum =
+    elim (decimalOf line) [ none ↦ refused 1 place | some n ↦ answerBy place (sum + n) (firstOf ((ltb 100 (sum + n), 7) ∷ [])) ]
+
+sums :
+    map (λ text. foldText added text 0) ([] ∷ bytes "40\n60\n" ∷ bytes "40\n60\n1\nx\n" ∷ bytes "40\n\n60\n" ∷ bytes "40\n60" ∷ [])
+    ≡ accepted (folded 0 0) ∷ accepted (folded 2 100) ∷ refused 7 2 ∷ refused 1 1 ∷ refused 1 1 ∷ []
+unfolding foldLines parted numberFrom decimalUpTo
+sums = refl
+
+-- A walk that keeps steps, passes over all below the principal, takes note of the places that it looks at, and is refused at a marked row:
+-- over case *L it looks at the entry, the principal, the resource and its field 3.
+abbrev noting : Rule ℕ (List (List ℕ))
+noting place row rows w =
+    cond (row .mark) (refused 9 place)
+    (accepted (cond (eqb (row .step) (stepOf 1 0)) none (some (row .step)), w .state ++ (at (allIn (w .kept)) row ∷ [])))
+
+noted :
+    walk noting 0 (union attribute membership) (walked [] [])
+    ≡ accepted
+    (walked
+    (some (entry .step) ∷ some (stepOf 3 0) ∷ some (stepOf 0 3) ∷ [])
+    ((entry .step ∷ [])
+    ∷ (entry .step ∷ stepOf 1 0 ∷ [])
+    ∷ (entry .step ∷ stepOf 3 0 ∷ [])
+    ∷ (entry .step ∷ stepOf 3 0 ∷ stepOf 0 3 ∷ [])
+    ∷ []))
+unfolding walk union unionOnto next
+noted = refl
+
+-- a marked row below the resource is looked at, and refused with its place
+noted-mark : walk noting 0 (entry ∷ read 1 (stepOf 3 0) false ∷ read 2 (stepOf 0 3) true ∷ []) (walked [] []) ≡ refused 9 2
+unfolding walk
+noted-mark = refl
+
+-- the walk that judges the listing's order
+orderly-rows :
+    map (λ rows. walk orderly 0 rows (walked [] tt)) ((entry ∷ entry ∷ []) ∷ chain 24 ∷ attribute ∷ [])
+    ≡ refused 1 1 ∷ refused 1 25 ∷ accepted (walked (some (entry .step) ∷ some (stepOf 1 0) ∷ some 7 ∷ []) tt) ∷ []
+unfolding walk chain chainFrom
+orderly-rows = refl

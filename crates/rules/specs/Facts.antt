@@ -1,4 +1,4 @@
--- Facts on tests, on statements and on lists that speak of no trie.
+-- Facts on tests, on answers, on statements and on lists that speak of no trie.
 use Prim.Native.Nat.{ℕ, zero, suc, _+_, _≤_, _<_, min, max}
 use native.Mathlib.Nat.{le-of-lt, min-eq-left, min-eq-right, max-eq-left, max-eq-right}
 use native.Mathlib.Omega.{arith}
@@ -10,6 +10,7 @@ use mathlib.Core.Option.{Option, none, some, Option·none-ne-some, Option·some-
 use borrow.Author.Tests.{ltb-true, ltb-false, lt-ltb, le-ltb}
 use lib.Dec.{ltb}
 use lib.ListN.{length, take, getD}
+use Rattle.rules.specs.Numbers.{Answer, accepted, refused, andThen}
 
 -- Tests.
 
@@ -107,6 +108,18 @@ larger-above most a b =
     compared most b
     (λ k. rw (larger-max, le-ltb most a, lt-ltb most b) (lt-ltb most (max a b) (omega arith)))
     (λ k. rw (larger-max, le-ltb most a, le-ltb most b) (le-ltb most (max a b) (omega arith))))
+
+-- Answers.
+
+-- an answer that accepts something accepts nothing else
+pub accepted-same : {A : Type 0} (a b : A) → accepted a ≡ accepted b → a ≡ b
+accepted-same a b e = cc
+
+-- what is done next is accepted where both are
+pub then-accepted : {A B : Type 0} (answer : Answer A) (next : A → Answer B) {b : B} → andThen answer next ≡ accepted b →
+    (a : A) × (answer ≡ accepted a) × (next a ≡ accepted b)
+then-accepted (accepted a) next e = (a, refl, e)
+then-accepted (refused number place) next e = absurd (let z : _≡_ {A = ℕ} 0 1 = cc in omega arith)
 
 -- Choices.
 

@@ -2,8 +2,11 @@
 pub mod Numbers
 pub mod Text
 pub mod TextLaws
+pub mod Lines
 pub mod Tries
 pub mod Facts
+pub mod Walks
+pub mod WalkLaws
 pub mod TrieLaws
 pub mod PlaceLaws
 pub mod Building
@@ -12,6 +15,7 @@ pub mod BuildingLaws
 pub mod ListingLaws
 pub mod Demand3
 pub mod Schema
+pub mod LineLaws
 pub mod Paths
 pub mod Steps
 pub mod StepLaws

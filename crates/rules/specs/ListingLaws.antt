@@ -59,7 +59,7 @@ use Rattle.rules.specs.Listing.{
   enteredBy,
   readListing,
 }
-use Rattle.rules.specs.Facts.{by-test, by-option, and-false, cond-some, cond-other, cond-none}
+use Rattle.rules.specs.Facts.{by-test, by-option, and-false, cond-some, cond-other, cond-none, accepted-same}
 use Rattle.rules.specs.TextLaws.{
   Free,
   free-empty,
@@ -449,11 +449,7 @@ module _ (form : Form) where
         rows-written rows (past sofar row) (place + 1) rest,
       )
 
--- an answer that accepts rows accepts no others
-pub accepted-same : {A : Type 0} (a b : A) → accepted a ≡ accepted b → a ≡ b
-accepted-same a b e = cc
-
--- and it is no refusal
+-- a refusal accepts nothing
 pub refused-not : {A B : Type 0} (number place : ℕ) (a : A) → refused number place ≡ accepted a → B
 refused-not number place a e = let z : _≡_ {A = ℕ} 0 1 = cc in absurd (omega arith)
 

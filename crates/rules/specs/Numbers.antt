@@ -9,6 +9,16 @@ pub data Answer (A : Type 0) : Type 0 where
   accepted : A → Answer A
   refused : ℕ → ℕ → Answer A
 
+-- what is done next with what was accepted; a refusal stays
+abbrev pub andThen : {A B : Type 0} → Answer A → (A → Answer B) → Answer B
+andThen (accepted a) next = next a
+andThen (refused number place) next = refused number place
+
+-- the answer at a place by a refusal's number, if there is one
+abbrev pub answerBy : {A : Type 0} → ℕ → A → Option ℕ → Answer A
+answerBy place a none = accepted a
+answerBy place a (some number) = refused number place
+
 -- tests in the order in which they are judged, each with the number that is given where it holds: the first that holds
 abbrev pub firstOf : List (Bool × ℕ) → Option ℕ
 firstOf [] = none

@@ -25,13 +25,14 @@ use Rattle.rules.specs.Paths.{
   toRootAccessTrieWithLeaf,
   addPaths,
 }
-use Rattle.rules.specs.Steps.{Run, result, stepFrom, wrapped, isTooDeep, apply, runFrom, run, analyse}
+use Rattle.rules.specs.Lines.{Folded, foldLines}
+use Rattle.rules.specs.Steps.{Result, result, stepFrom, wrapped, isTooDeep, apply, run, analyse}
 
 -- A case: step texts, what each comes to, and the listing once the contributions of those that are accepted are added to an empty
 -- manifest, all under request type (10, 500, 20).
 pub record Case : Type 0 where
   pub texts : List (List ℕ)
-  pub runs : List (Answer Run)
+  pub runs : List (Answer (Folded (List Result)))
   pub manifest : List ℕ
 
 abbrev onto : Answer (List Row) → List (List Row) → List (List Row)
@@ -53,10 +54,10 @@ abbrev resource : ℕ
 resource = stepOf 3 0
 
 -- one result on the stack after so many lines
-abbrev one : ℕ → List Row → Paths → Answer Run
-one lines trie paths = accepted (record { lines = lines; stack = result trie paths ∷ [] })
+abbrev one : ℕ → List Row → Paths → Answer (Folded (List Result))
+one lines trie paths = accepted (record { lines = lines; state = result trie paths ∷ [] })
 
-abbrev attribute : Answer Run
+abbrev attribute : Answer (Folded (List Result))
 attribute = one 2 (read 1 principal false ∷ read 2 7 false ∷ []) (AccessPath (principal ∷ 7 ∷ []))
 
 abbrev pub cases : List Case
@@ -120,5 +121,5 @@ cases =
 
 -- Every case comes out as the table says.
 pub starred : map (λ case. outcome (case .texts)) cases ≡ cases
-unfolding parted numberFrom decimalUpTo decimalIn sameList union unionOnto next ordered count listing lineOf placeIn build ascending pathsIn nodesOf fieldOf getOrHasAttr deeper chain toRootAccessTrieWithLeaf addPaths stepFrom wrapped isTooDeep apply runFrom
+unfolding parted numberFrom decimalUpTo decimalIn sameList union unionOnto next ordered count listing lineOf placeIn build ascending pathsIn nodesOf fieldOf getOrHasAttr deeper chain toRootAccessTrieWithLeaf addPaths stepFrom wrapped isTooDeep apply foldLines
 starred = refl

@@ -9,10 +9,10 @@ use lib.Dec.{leb, ltb, eqb}
 use lib.ListN.{length, take, getD, length-append}
 use lib.Seq.{take-append-add, getD-append-add, take-all, append-snoc}
 use borrow.Author.Tests.{ltb-false, leb-true, eqb-false, le-ltb, ne-eqb}
-use Rattle.rules.specs.Numbers.{accepted, firstOf, mostSteps}
+use Rattle.rules.specs.Numbers.{accepted, firstOf, mostSteps, answerBy}
 use Rattle.rules.specs.Text.{bytes, decimalOf}
 use Rattle.rules.specs.TextLaws.{decimal-written}
-use Rattle.rules.specs.Facts.{by-test, by-option, cond-true, cond-some, cond-none}
+use Rattle.rules.specs.Facts.{by-test, by-option, cond-true, cond-some, cond-none, accepted-same}
 use Rattle.rules.specs.Tries.{Row, isStep, isRoot, isEntry, isRow, kindOf, stepOf, literals, at, ordered, contribution, union}
 use Rattle.rules.specs.TrieLaws.{
   Follows,
@@ -35,7 +35,7 @@ use Rattle.rules.specs.TrieLaws.{
   union-left-length,
 }
 use Rattle.rules.specs.Listing.{read, _>>=_, placeIn}
-use Rattle.rules.specs.ListingLaws.{bind-some, place-read, accepted-same, refused-not}
+use Rattle.rules.specs.ListingLaws.{bind-some, place-read, refused-not}
 use Rattle.rules.specs.TypeLaws.{deepest, path-deep, union-too-deep}
 use Rattle.rules.specs.Schema.{
   Item,
@@ -121,7 +121,6 @@ use Rattle.rules.specs.Steps.{
   isTooDeep,
   mostResults,
   mostPathNodes,
-  answerBy,
   judged,
   attrStep,
   recStep,

@@ -1,12 +1,13 @@
 -- Document 01, 'Paths and analysis steps': 'a list of steps in postfix order over a stack', one a line.
-use Prim.Native.Nat.{ℕ, suc, _+_}
+use Prim.Native.Nat.{ℕ, suc}
 use mathlib.Core.Bool.{Bool, false, cond, _||_}
 use mathlib.Core.List.{List, [], _∷_, _++_}
 use mathlib.Core.Option.{Option, none, some}
-use lib.Dec.{leb, ltb, eqb}
+use lib.Dec.{leb, ltb}
 use lib.ListN.{length}
-use Rattle.rules.specs.Numbers.{Answer, accepted, refused, firstOf, mostSteps}
-use Rattle.rules.specs.Text.{bytes, linesOf, fieldsOf, decimalOf}
+use Rattle.rules.specs.Numbers.{Answer, accepted, refused, andThen, answerBy, firstOf, mostSteps}
+use Rattle.rules.specs.Text.{bytes, fieldsOf, decimalOf}
+use Rattle.rules.specs.Lines.{Folded, foldText}
 use Rattle.rules.specs.Tries.{Row, stepOf, literals, sameList, contribution, union as unionTries}
 use Rattle.rules.specs.Listing.{read, placeIn, _>>=_}
 use Rattle.rules.specs.Schema.{Item, fromType, ascending}
@@ -143,10 +144,6 @@ mostResults = 32
 abbrev pub mostPathNodes : ℕ
 mostPathNodes = 256
 
-abbrev pub answerBy : {A : Type 0} → ℕ → A → Option ℕ → Answer A
-answerBy place a none = accepted a
-answerBy place a (some number) = refused number place
-
 -- a step's result on the stack, judged as a whole: over 32 results is 6, then 15, 3, 4
 abbrev pub judged : ℕ → Result → List Result → Answer (List Result)
 judged place top stack =
@@ -210,23 +207,13 @@ abbrev pub stepped : List Item → ℕ → Option Step → List Result → Answe
 stepped items place none stack = refused 1 place
 stepped items place (some step) stack = apply items place step stack
 
--- What lines come to: how many there are, and the stack after them.
-pub record Run : Type 0 where
-  pub lines : ℕ
-  pub stack : List Result
+-- the step of a line on a stack
+abbrev pub stepLine : List Item → ℕ → List ℕ → List Result → Answer (List Result)
+stepLine items place line stack = stepped items place (stepFrom (fieldsOf line)) stack
 
--- the lines from one on. What stands last is no line where it is empty, and otherwise a line without LF
-unfoldable pub runFrom : List Item → ℕ → List (List ℕ) → List Result → Answer Run
-runFrom items place [] stack = accepted (record { lines = place; stack = stack })
-runFrom items place (line ∷ []) stack = cond (eqb (length line) 0) (accepted (record { lines = place; stack = stack })) (refused 1 place)
-runFrom items place (line ∷ next ∷ lines) stack =
-    elim (stepped items place (stepFrom (fieldsOf line)) stack) [
-      | accepted after ↦ runFrom items (place + 1) (next ∷ lines) after
-      | refused number at ↦ refused number at
-    ]
-
-abbrev pub run : List Item → List ℕ → Answer Run
-run items text = runFrom items 0 (linesOf text) []
+-- what a text comes to: how many lines it has, and the stack after them
+abbrev pub run : List Item → List ℕ → Answer (Folded (List Result))
+run items text = foldText (stepLine items) text []
 
 -- 'At the end exactly one result is on the stack; its trie is the contribution.' 6 otherwise, at the number of lines.
 abbrev pub ended : ℕ → ℕ → List Result → Answer (List Row)
@@ -234,9 +221,8 @@ ended request lines [] = refused 6 lines
 ended request lines (top ∷ []) = accepted (read 0 request false ∷ top .trie)
 ended request lines (top ∷ next ∷ stack) = refused 6 lines
 
-abbrev pub contributionOf : ℕ → Answer Run → Answer (List Row)
-contributionOf request (accepted run) = ended request (run .lines) (run .stack)
-contributionOf request (refused number place) = refused number place
+abbrev pub contributionOf : ℕ → Answer (Folded (List Result)) → Answer (List Row)
+contributionOf request ran = andThen ran (λ run. ended request (run .lines) (run .state))
 
 -- the contribution of a step text under a request type
 abbrev pub analyse : List Item → ℕ → List ℕ → Answer (List Row)

@@ -2,14 +2,13 @@
 use Prim.Native.Nat.{ℕ, suc, _+_, _^_, _≤_, _<_}
 use native.Mathlib.Omega.{arith}
 use native.Mathlib.Nat.{le-refl, le-of-lt}
-use mathlib.Core.Path.{_≡_, refl, sym, ap, _∙_}
+use mathlib.Core.Path.{_≡_, refl, sym, ap}
 use mathlib.Core.Logic.{_⊎_, inl, inr, ⊎-elim, _↔_, Iff·rfl, Iff·symm, Iff·trans}
 use mathlib.Core.Bool.{Bool, true, false, cond, not, _||_, and-eq-true-iff, or-false, or-self, or-comm}
 use mathlib.Core.List.{List, [], _∷_, map}
 use mathlib.Core.Option.{none}
 use lib.Dec.{ltb, eqb}
-use lib.ListN.{length, take, getD, length-append, List·getD-append}
-use lib.Seq.{length-take-le, take-append-le, take-take, getD-at, getD-take}
+use lib.ListN.{length, take, getD}
 use borrow.Author.Tests.{ltb-true, ltb-false, leb-true, eqb-true, lt-ltb, le-ltb, le-leb, eq-eqb, not-true}
 use Rattle.rules.specs.Numbers.{mostSteps}
 use Rattle.rules.specs.Facts.{
@@ -26,6 +25,7 @@ use Rattle.rules.specs.Facts.{
   earlier-irrefl,
   earlier-at,
 }
+use Rattle.rules.specs.WalkLaws.{kept-length, kept-own, kept-above, kept-down, Stepwise}
 use Rattle.rules.specs.Tries.{
   Row,
   ids,
@@ -96,22 +96,25 @@ true-ordered s (row ∷ rows) h =
 
 -- a row's place is one longer than the row is deep
 pub length-at : (s : List ℕ) (row : Row) → row .depth ≤ length s → length (at s row) ≡ row .depth + 1
-length-at s row near = simp (length-append, length-take-le)
+length-at s row near = kept-length s row (row .step) near
 
 -- a row's place has the row's step at the row's depth, and above it what the place before has
 pub step-at : (s : List ℕ) (row : Row) → row .depth ≤ length s → getD (at s row) (row .depth) 0 ≡ row .step
-step-at s row near = getD-at (take (row .depth) s) (row .step) [] 0 (row .depth) (length-take-le _ _ near)
+step-at s row near = kept-own s row (row .step) near 0
 
 pub above-at : (s : List ℕ) (row : Row) (d : ℕ) → row .depth ≤ length s → d < row .depth → getD (at s row) d 0 ≡ getD s d 0
-above-at s row d near less =
-    let inside : d < length (take (row .depth) s) = simp length-take-le less in
-    List·getD-append (take (row .depth) s) (row .step ∷ []) 0 d inside ∙ getD-take (row .depth) s d 0 less
+above-at s row d near less = kept-above s row (row .step) near 0 d less
 
 pub take-above :
     (s : List ℕ) (row : Row) (d : ℕ) → row .depth ≤ length s → d ≤ row .depth → take d (at s row) ≡ take d s
-take-above s row d near no-deeper =
-    let inside : d ≤ length (take (row .depth) s) = simp length-take-le no-deeper in
-    rw (take-append-le d (take (row .depth) s) (row .step ∷ []) inside, take-take d (row .depth) s no-deeper)
+take-above s row d near no-deeper = kept-down s row (row .step) d (omega arith) no-deeper
+
+-- rows in listing order are each at most one deeper than the one before
+pub ordered-stepwise : (s : List ℕ) (rows : List Row) → Ordered s rows → Stepwise (length s) rows
+unfolding Ordered Stepwise
+ordered-stepwise s [] o = tt
+ordered-stepwise s (row ∷ rows) (whole, after, shallow, rest) =
+    (after .near, rw (length-at s row (after .near)) at (ordered-stepwise (at s row) rows rest))
 
 -- after x, a row that is no deeper than x has the place that it has before x
 place-past : (s : List ℕ) (x y : Row) → x .depth ≤ length s → y .depth ≤ x .depth → at (at s x) y ≡ at s y

@@ -77,10 +77,14 @@ isRow row =
     (ltb (row .step) (ids ^ 3) && (not (row .mark) && untyped (row .type)))
     ((cond (eqb (row .depth) 1) (isRoot (row .step)) (isStep (row .step))) && isType (row .type))
 
+-- What is kept for each depth down to a row that keeps k: as much of what was kept as lies above the row, and then k.
+abbrev pub keptWith : {K : Type 0} → List K → Row → K → List K
+keptWith kept row k = take (row .depth) kept ++ (k ∷ [])
+
 -- A place in a manifest is a request type and then a position of its trie, as one list.
--- The place of a row that comes after the place s: as much of s as lies above the row, and then its own step.
+-- The place of a row that comes after the place s: each row keeps its own step.
 abbrev pub at : List ℕ → Row → List ℕ
-at s row = take (row .depth) s ++ (row .step ∷ [])
+at s row = keptWith s row (row .step)
 
 -- 'Listing': 'nodes in preorder; siblings strictly in order'. A row may come after the place s where it is at most one
 -- deeper and, if it is not deeper, past the last earlier sibling.

@@ -2,28 +2,31 @@
 use Prim.Native.Nat.{ℕ, _+_, _-_, _≤_, _<_}
 use native.Mathlib.Omega.{arith}
 use mathlib.Core.Bool.{Bool, true, false, cond}
-use mathlib.Core.List.{List, [], _∷_, _++_, map, append-nil}
+use mathlib.Core.List.{List, [], _∷_, _++_, map, map-append}
 use mathlib.Core.Option.{Option, none, some, Option·none-ne-some, Option·some-injective}
 use mathlib.Core.Path.{_≡_, refl, sym, ap, _∙_}
 use borrow.Author.Tests.{eqb-true, leb-true, le-leb, lt-leb}
 use lib.Dec.{eqb, leb}
-use lib.ListN.{length, take, drop, set, length-set, length-map, drop-of-length-le}
-use lib.Seq.{append-snoc, sets}
+use lib.ListN.{length, take, drop, set, length-set, length-map}
+use lib.Seq.{sets}
 use Rattle.rules.specs.Facts.{by-option, cond-some}
 use Rattle.rules.specs.Numbers.{Answer, accepted, refused}
-use Rattle.rules.specs.Text.{parted, bytes, linesOf, fieldsOf, decimalOf, LF}
-use Rattle.rules.specs.TextLaws.{parted-some, decimal-written}
+use Rattle.rules.specs.Lines.{Folded, foldText}
+use Rattle.rules.specs.LineLaws.{gathering, gathered, itemAfter, itemLine, items-folded}
+use Rattle.rules.specs.Text.{bytes, linesOf, fieldsOf, decimalOf}
+use Rattle.rules.specs.TextLaws.{decimal-written}
 use Rattle.rules.specs.Listing.{_>>=_, isLetter, placeIn}
 use Rattle.rules.specs.ListingLaws.{bind-some}
-use Rattle.rules.specs.Schema.{Item, Known, item, unknown, ascending, valueOf, typeOf, pairOf, itemOf, fits, beyond, ahead, itemsFrom, readSchema}
+use Rattle.rules.specs.Schema.{Item, Known, item, unknown, ascending, valueOf, typeOf, pairOf, itemOf, fits, beyond, readSchema}
 use Rattle.text.specs.Answers.{lineAt}
-use Rattle.text.proofs.Laws.{whole-within}
+use Rattle.text.proofs.Laws.{whole-line, cut-line}
+use Rattle.text.proofs.FoldLaws.{CameTo, came-start, came-end, came-cut, came-refused, came-next}
 use Rattle.text.specs.declared.Line.{Line}
 use Rattle.text.specs.declared.Line.the-variants.{Whole}
 use Rattle.words.specs.Runs.{refusing, stored}
 use Rattle.words.specs.declared.Reply.the-variants.{Done}
-use Rattle.text.proofs.FieldLaws.{lines-whole, lines-cut, place-within}
-use Rattle.words.specs.RunLaws.{stored-next, behind, behind-none}
+use Rattle.text.proofs.FieldLaws.{place-within}
+use Rattle.words.specs.RunLaws.{stored-next}
 use Rattle.schema.specs.declared.known.Known.{Known as Kept}
 use Rattle.schema.specs.Items.{given, namedBy, wordFor, storingItems, readIn}
 use Rattle.schema.specs.Reads.{knownFor, Bounded, Room, Passed, refusedLine, wordsFor}
@@ -137,95 +140,66 @@ item-passed count kept line words it {word} {next} room e may packed past bounde
       };
     }
 
--- ---- the lines of a text
-
-module _ (known : Known) (place : ℕ) where
-  -- what is left without an LF is a line of no form
-  items-cut : (text : List ℕ) (at : ℕ) (r : Line) → r ≡ lineAt text at → ((end : ℕ) → r ≡ Whole end → ⊥) → at < length text →
-      itemsFrom known place (linesOf (drop at text)) ≡ refused 1 place
-  unfolding itemsFrom
-  items-cut text at r ensured unended inside = let (alone, some-byte) = lines-cut text at r ensured unended inside in rw (alone, some-byte)
-
-  module _ (line rest : List ℕ) where
-    -- a line that may come stands before those behind it
-    items-next : (it : Item) → itemOf (fieldsOf line) ≡ some it → fits known it ≡ true →
-        itemsFrom known place (line ∷ linesOf rest) ≡ ahead it (itemsFrom (beyond known it) (place + 1) (linesOf rest))
-    unfolding itemsFrom
-    items-next it e may = rw (parted-some LF rest .2, itemsFrom, e, may)
-
-    -- any other is where reading ends
-    items-stopped : refusedLine known (itemOf (fieldsOf line)) → itemsFrom known place (line ∷ linesOf rest) ≡ refused 1 place
-    unfolding itemsFrom
-    items-stopped stopped = go (itemOf (fieldsOf line)) refl stopped
-      where
-        go : (it : Option Item) → itemOf (fieldsOf line) ≡ it → refusedLine known it → itemsFrom known place (line ∷ linesOf rest) ≡ refused 1 place
-        go none q e = rw (parted-some LF rest .2, itemsFrom, q)
-        go (some it) q e = rw (parted-some LF rest .2, itemsFrom, q, e)
-
 -- ---- reading from line to line
 
-behind-item : (words : List ℕ) (it : Item) (answer : Answer (List Item)) →
-    behind words (wordsFor (ahead it answer)) ≡ behind (words ++ (wordFor it ∷ [])) (wordsFor answer)
-behind-item words it (accepted items) = rw (append-snoc words (wordFor it) (map wordFor items))
-behind-item words it (refused number place) = refl
-
--- the words of what a text gives are those that are stored, and then those of the lines that are left
+-- the lines that were passed came to the items whose words are stored
 pub record Reading (text : List ℕ) (kept : Kept) (words : List ℕ) (at count : ℕ) : Type 0 where
   pub room : Room count kept words
-  pub inside : at ≤ length text
-  pub left :
-      wordsFor (readSchema text)
-      ≡ behind (stored count words) (wordsFor (itemsFrom (knownFor kept) count (linesOf (drop at text))))
+  pub passed : List Item
+  pub in-words : stored count words ≡ map wordFor passed
+  pub came : CameTo (gathering itemLine) (unknown, []) text at count (knownFor kept, passed)
 
 pub reading-none : (text words : List ℕ) (kept : Kept) → knownFor kept ≡ unknown → Bounded unknown → length words ≡ 142337 → Reading text kept words 0 0
 reading-none text words kept start bounded fits =
     let none-left : kept .room ≡ 0 = ap (λ (k : Known). k .room) start in
     record {
       room = record { bounded = rw start bounded; words-length = fits; counted = rw none-left (omega arith) };
-      inside = omega arith;
-      left = rw start (sym (behind-none _));
+      passed = [];
+      in-words = refl;
+      came = rw start (came-start (gathering itemLine) (unknown, []) text);
     }
+
+-- a line that may not come is where reading ends
+line-refused : (place : ℕ) (known : Known) (o : Option Item) → refusedLine known o → itemAfter place known o ≡ refused 1 place
+line-refused place known none stopped = refl
+line-refused place known (some it) stopped = rw stopped
 
 module _ {text : List ℕ} {kept : Kept} {words : List ℕ} {at count : ℕ} (reading : Reading text kept words at count) where
   -- there are fewer items than a state has words
   pub few-items : count < 142337
   few-items = omega (arith, reading .room .counted, most-lines (knownFor kept) (reading .room .bounded))
 
+  -- the words of what the text gives, by what its lines come to
+  words-given : {answer : Answer (Folded (Known × List Item))} → foldText (gathering itemLine) text (unknown, []) ≡ answer →
+      wordsFor (gathered answer) ≡ wordsFor (readSchema text)
+  words-given e = rw (items-folded unknown 0 (linesOf text), e)
+
   -- no line is left
   pub reading-all : length text ≤ at → accepted (stored count words) ≡ wordsFor (readSchema text)
-  unfolding itemsFrom parted
-  reading-all h = sym (reading .left ∙ rw (drop-of-length-le text h, append-nil))
+  reading-all h = rw (reading .in-words) (words-given (came-end (reading .came) h))
 
   -- the next line has no LF
   pub reading-cut : {r : Line} → r ≡ lineAt text at → ((end : ℕ) → r ≡ Whole end → ⊥) → at < length text →
       refused 1 count ≡ wordsFor (readSchema text)
-  reading-cut {r} ensured unended more =
-      sym (reading .left ∙ rw (items-cut (knownFor kept) count text at r ensured unended more))
+  reading-cut {r} ensured unended more = words-given (came-cut (reading .came) more (cut-line text at r ensured unended))
 
   module _ {end : ℕ} {r : Line} (ensured : r ≡ lineAt text at) (e : r ≡ Whole end) where
     -- the next line is refused
     pub reading-stopped : refusedLine (knownFor kept) (itemOf (fieldsOf (take (end - at) (drop at text)))) → refused 1 count ≡ wordsFor (readSchema text)
     reading-stopped stopped =
-        sym (reading .left ∙ rw (lines-whole text at end r ensured e, items-stopped (knownFor kept) count _ _ stopped))
+        words-given (came-refused (reading .came) (whole-line text at end r ensured e) (rw (line-refused count (knownFor kept) _ stopped)))
 
     -- the next line is taken
     pub reading-next : {words′ : List ℕ} {next : Kept} → Passed count kept (take (end - at) (drop at text)) words words′ next →
         Reading text next words′ (end + 1) (count + 1)
-    reading-next passed =
-        let (behind-at, within) = whole-within text at end r ensured e in
-        record {
-          room = passed .room;
-          inside = omega arith;
-          left =
-              reading .left
-              ∙ rw (
-                lines-whole text at end r ensured e,
-                items-next (knownFor kept) count _ _ (passed .it) (passed .read-item) (passed .may-follow),
-                behind-item (stored count words) (passed .it) _,
-                ← passed .stored-word,
-                ← passed .comes-past,
-              );
-        }
+    reading-next passed = record {
+      room = passed .room;
+      passed = reading .passed ++ (passed .it ∷ []);
+      in-words = passed .stored-word ∙ rw (reading .in-words, map-append wordFor (reading .passed) (passed .it ∷ []));
+      came =
+          rw (passed .comes-past)
+          (came-next (reading .came) (whole-line text at end r ensured e) (rw (passed .read-item, passed .may-follow)));
+    }
 
 -- ---- what reading answers, by what was tested
 

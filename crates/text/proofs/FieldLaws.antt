@@ -1,27 +1,23 @@
--- Laws of the fields and the lines of a text, by the answers that find them, and of letters. No contract cites this file.
+-- Laws of the fields of a line, by the answers that find them, of letters and of decimals that ascend. No contract cites this file.
 use Prim.Native.Nat.{ℕ, _+_, _-_, _≤_, _<_}
 use native.Mathlib.Nat.{sub-zero, add-sub-cancel-left}
 use native.Mathlib.Omega.{arith}
-use mathlib.Core.Bool.{Bool, true, false, cond}
 use mathlib.Core.List.{List, [], _∷_}
 use mathlib.Core.Option.{none, some}
 use mathlib.Core.Path.{_≡_, refl, sym, ap, _∙_}
-use lib.Dec.{eqb}
 use lib.ListN.{length, getD, take, drop, length-drop}
 use lib.Seq.{take-all}
 use Rattle.rules.specs.Facts.{compared}
 use borrow.Author.Tests.{le-leb, lt-leb}
-use Rattle.rules.specs.Text.{linesOf, fieldsOf, decimalOf, LF, TAB}
+use Rattle.rules.specs.Text.{fieldsOf, decimalOf, TAB}
 use Rattle.rules.specs.Listing.{_>>=_, placeIn}
 use Rattle.rules.specs.Schema.{ascending}
 use Rattle.rules.specs.ListingLaws.{place-read}
-use Rattle.text.specs.Answers.{lineAt, firstLine, fieldAt, firstField}
+use Rattle.text.specs.Answers.{fieldAt, firstField}
 use Rattle.text.specs.Before.{before as earlier}
-use Rattle.text.specs.declared.Line.{Line}
-use Rattle.text.specs.declared.Line.the-variants.{End, Whole, Cut}
 use Rattle.text.specs.declared.Field.{Field}
 use Rattle.text.specs.declared.Field.the-variants.{More, Last}
-use Rattle.text.proofs.Laws.{more-within, parted-next, parted-whole, parted-cut, drop-some, letter-none}
+use Rattle.text.proofs.Laws.{more-within, parted-next, parted-whole, parted-cut, letter-none}
 
 -- ---- fields
 
@@ -62,33 +58,6 @@ fields-last line at r ensured e =
 -- a line whose first field is the last is that field
 pub fields-whole : (line : List ℕ) (r : Field) → r ≡ fieldAt line 0 → r ≡ Last → fieldsOf line ≡ line ∷ []
 fields-whole line r ensured e = fields-last line 0 r ensured e ∙ rw (sub-zero, take-all (length line) line (omega arith))
-
--- ---- lines
-
--- a line that an LF ends stands in front of the lines behind the LF
-pub lines-whole : (text : List ℕ) (at end : ℕ) (r : Line) → r ≡ lineAt text at → r ≡ Whole end →
-    linesOf (drop at text) ≡ take (end - at) (drop at text) ∷ linesOf (drop (end + 1) text)
-lines-whole text at end r ensured e = go (linesOf (drop at text)) refl (sym ensured ∙ e)
-  where
-    last : (empty : Bool) → cond empty End Cut ≡ Whole end → ⊥
-    last true e = let z : _≡_ {A = ℕ} 0 1 = cc in omega arith
-    last false e = let z : _≡_ {A = ℕ} 0 1 = cc in omega arith
-
-    go : (lines : List (List ℕ)) → linesOf (drop at text) ≡ lines → firstLine at lines ≡ Whole end →
-        linesOf (drop at text) ≡ take (end - at) (drop at text) ∷ linesOf (drop (end + 1) text)
-    go [] q e = absurd (let z : _≡_ {A = ℕ} 0 1 = cc in omega arith)
-    go (line ∷ []) q e = absurd (last (eqb (length line) 0) e)
-    go (line ∷ next ∷ lines) q e =
-        let place : at + length line ≡ end = cc in
-        parted-next LF at text line next lines q ∙ rw (← place, add-sub-cancel-left)
-
--- what is left without an LF is one line, and not an empty one
-pub lines-cut : (text : List ℕ) (at : ℕ) (r : Line) → r ≡ lineAt text at → ((end : ℕ) → r ≡ Whole end → ⊥) → at < length text →
-    (linesOf (drop at text) ≡ drop at text ∷ []) × (eqb (length (drop at text)) 0 ≡ false)
-lines-cut text at r ensured unended more =
-    compared (at + length (earlier LF (drop at text))) (length text)
-    (λ h. let (next, others, p) = parted-cut LF at text h in absurd (unended _ (ensured ∙ ap (firstLine at) p)))
-    (λ h. (parted-whole LF at text h, drop-some at text more))
 
 -- ---- letters
 

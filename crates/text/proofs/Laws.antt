@@ -1,10 +1,10 @@
 -- Laws of `before`, of the parts of a text by it, of a run of stores that gets one more, and of letters. No contract cites this file.
 use Prim.Native.Nat.{ℕ, zero, suc, _+_, _-_, _*_, _≤_, _<_}
-use native.Mathlib.Nat.{add-zero, zero-add, add-suc, suc-add, add-assoc}
+use native.Mathlib.Nat.{add-zero, zero-add, add-suc, suc-add, add-assoc, add-sub-cancel-left}
 use native.Mathlib.Numerals.{add-one}
 use native.Mathlib.Omega.{arith}
 use mathlib.Core.Bool.{Bool, true, false, cond}
-use mathlib.Core.List.{List, [], _∷_, _++_}
+use mathlib.Core.List.{List, [], _∷_, _++_, nil≢cons}
 use mathlib.Core.Logic.{_≢_, _⊎_, inl, inr, ⊎-elim}
 use mathlib.Core.Option.{Option, none, some}
 use mathlib.Core.Path.{_≡_, refl, sym, ap, _∙_}
@@ -13,7 +13,7 @@ use lib.Dec.{eqb, ltb}
 use lib.ListN.{length, getD, take, drop, drop-of-length-le, length-append, length-drop}
 use lib.Seq.{drop-cons, drop-drop, take-append-seam, drop-append-add}
 use Rattle.rules.specs.Text.{parted, onto, linesOf, fieldsOf, numberFrom, decimalUpTo, decimalOf, decimal, LF, TAB}
-use Rattle.rules.specs.TextLaws.{Free, free-empty, free-more, parted-free, parted-first, parted-some, parted-split, numberFrom-digit, numberFrom-none, decimalUpTo-one, decimalUpTo-more, decimal-written}
+use Rattle.rules.specs.TextLaws.{Free, free-empty, free-more, parted-free, parted-first, parted-some, parted-split, numberFrom-digit, numberFrom-none, decimalUpTo-one, decimalUpTo-more, decimal-written, joinedBy, joined-parted}
 use Rattle.rules.specs.Facts.{by-test, by-option, compared}
 use Rattle.rules.specs.Listing.{isLetter}
 use Rattle.text.specs.Answers.{lineAt, firstLine, fieldAt, firstField, numberOf, digitsFrom, firstNumber, numberAt, ending}
@@ -114,7 +114,7 @@ part-within b at s part next more e =
     let split = parted-split b (drop at s) part next more e in
     omega (arith, length-drop at s, ap length (split .1) ∙ length-append part (b ∷ split .0))
 
--- the tab that ends a field, and the LF that ends a line, stand in the text
+-- the tab that ends a field stands in the text
 pub more-within : (line : List ℕ) (at end : ℕ) (r : Field) → r ≡ fieldAt line at → r ≡ More end → (at ≤ end) × (end < length line)
 more-within line at end r ensured e = go (fieldsOf (drop at line)) refl (sym ensured ∙ e)
   where
@@ -125,19 +125,65 @@ more-within line at end r ensured e = go (fieldsOf (drop at line)) refl (sym ens
         let place : at + length field ≡ end = cc in
         omega (arith, part-within TAB at line field next fields q)
 
-pub whole-within : (text : List ℕ) (at end : ℕ) (r : Line) → r ≡ lineAt text at → r ≡ Whole end → (at ≤ end) × (end < length text)
-whole-within text at end r ensured e = go (linesOf (drop at text)) refl (sym ensured ∙ e)
+-- ---- the lines of a text from a place on
+
+-- a line that begins at a place and that an LF ends: it stands in front of the lines behind the LF
+pub record LineTo (text : List ℕ) (at end : ℕ) (line : List ℕ) : Type 0 where
+  pub ends : at + length line ≡ end
+  pub within : end < length text
+  pub first : linesOf (drop at text) ≡ line ∷ linesOf (drop (end + 1) text)
+
+line-to : (text : List ℕ) (at : ℕ) (line next : List ℕ) (more : List (List ℕ)) → linesOf (drop at text) ≡ line ∷ next ∷ more →
+    LineTo text at (at + length line) line
+line-to text at line next more q = record {
+  ends = refl;
+  within = part-within LF at text line next more q;
+  first = q ∙ rw (part-split LF at text line next more q .1);
+}
+
+-- what is left from a place on has no LF, or begins with a line that an LF ends
+pub by-line :
+    {P : Type 0} (text : List ℕ) (at : ℕ)
+    → (linesOf (drop at text) ≡ drop at text ∷ [] → P)
+    → ((end : ℕ) (line : List ℕ) → LineTo text at end line → P)
+    → P
+unfolding joinedBy
+by-line {P} text at cut-then whole-then = go (linesOf (drop at text)) refl
+  where
+    go : (lines : List (List ℕ)) → linesOf (drop at text) ≡ lines → P
+    go [] q = let (line, others, some-line) = parted-some LF (drop at text) in absurd (nil≢cons (sym q ∙ some-line))
+    go (line ∷ []) q =
+        let same : line ≡ drop at text = sym (ap (joinedBy LF) q) ∙ joined-parted LF (drop at text) in
+        cut-then (q ∙ rw same)
+    go (line ∷ next ∷ more) q = whole-then (at + length line) line (line-to text at line next more q)
+
+-- the line that was found from a place to an LF
+pub whole-line : (text : List ℕ) (at end : ℕ) (r : Line) → r ≡ lineAt text at → r ≡ Whole end → LineTo text at end (take (end - at) (drop at text))
+whole-line text at end r ensured e = go (linesOf (drop at text)) refl (sym ensured ∙ e)
   where
     last : (empty : Bool) → cond empty End Cut ≡ Whole end → ⊥
     last true e = let z : _≡_ {A = ℕ} 0 1 = cc in omega arith
     last false e = let z : _≡_ {A = ℕ} 0 1 = cc in omega arith
 
-    go : (lines : List (List ℕ)) → linesOf (drop at text) ≡ lines → firstLine at lines ≡ Whole end → (at ≤ end) × (end < length text)
+    go : (lines : List (List ℕ)) → linesOf (drop at text) ≡ lines → firstLine at lines ≡ Whole end →
+        LineTo text at end (take (end - at) (drop at text))
     go [] q e = absurd (let z : _≡_ {A = ℕ} 0 1 = cc in omega arith)
     go (line ∷ []) q e = absurd (last (eqb (length line) 0) e)
     go (line ∷ next ∷ lines) q e =
         let place : at + length line ≡ end = cc in
-        omega (arith, part-within LF at text line next lines q)
+        let same : take (end - at) (drop at text) ≡ line =
+        rw (← place, add-sub-cancel-left, part-split LF at text line next lines q .0) (take-append-seam line _) in
+        rw (same, ← place) (line-to text at line next lines q)
+
+pub whole-within : (text : List ℕ) (at end : ℕ) (r : Line) → r ≡ lineAt text at → r ≡ Whole end → (at ≤ end) × (end < length text)
+whole-within text at end r ensured e = let found = whole-line text at end r ensured e in (omega (arith, found .ends), found .within)
+
+-- where no LF was found there is none
+pub cut-line : (text : List ℕ) (at : ℕ) (r : Line) → r ≡ lineAt text at → ((end : ℕ) → r ≡ Whole end → ⊥) →
+    linesOf (drop at text) ≡ drop at text ∷ []
+cut-line text at r ensured unended =
+    by-line text at (λ alone. alone)
+    (λ end line to. absurd (unended (at + length line) (ensured ∙ rw (to .first, parted-some LF (drop (end + 1) text) .2))))
 
 -- a number that was read is an id
 pub value-most : (field : List ℕ) (r : Decimal) (n : ℕ) → numberOf r ≡ decimalOf field → r ≡ Value n → n ≤ 65535

@@ -7,7 +7,6 @@ use mathlib.Core.List.{List, [], _∷_, _++_}
 use mathlib.Core.Path.{_≡_, refl, sym, ap, _∙_}
 use lib.ListN.{length, getD, take, drop, set, length-drop, length-append}
 use lib.Seq.{sets, sets-eq, length-sets, take-append-seam, getD-take, getD-set-same, take-suc-set, drop-set-add, length-take-le}
-use Rattle.rules.specs.Numbers.{Answer, accepted, refused}
 use Rattle.words.specs.Runs.{Wrote, stored, Outcome}
 
 -- ---- runs after one another
@@ -82,17 +81,6 @@ pub copied : (words : List ℕ) (count : ℕ) → count < length words →
     take (getD (set words 0 count) 0 0 + 1) (set words 0 count) ≡ length (stored count words) ∷ stored count words
 copied [] count h = absurd (omega arith)
 copied (x ∷ rest) count h = rw (add-one, length-take-le count rest (omega arith))
-
--- ---- words that are still to come
-
--- words in front of those
-abbrev pub behind : List ℕ → Answer (List ℕ) → Answer (List ℕ)
-behind words (accepted more) = accepted (words ++ more)
-behind words (refused number place) = refused number place
-
-pub behind-none : (answer : Answer (List ℕ)) → behind [] answer ≡ answer
-behind-none (accepted more) = refl
-behind-none (refused number place) = refl
 
 -- ---- outcomes
 

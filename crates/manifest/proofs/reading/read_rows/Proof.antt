@@ -1,5 +1,4 @@
--- `manifest::reading::read_rows` meets its contract: the words of what the text gives are those that are stored,
--- and then those of the lines that are left.
+-- `manifest::reading::read_rows` meets its contract: the lines that were passed came to the rows whose words are stored.
 -- Assumes nothing.
 use Prim.Native.Nat.{_≤_, _<_, _-_}
 use native.Mathlib.Omega.{arith}
@@ -88,7 +87,7 @@ add-line c =
     omega (
       arith,
       within (c .before .before .before .before .before .before .before .before .before .before),
-      c .before .before .before .before .before .before .before .before .before .before .before .before .before .before .loop .inv .0 .lines-passed,
+      c .before .before .before .before .before .before .before .before .before .before .before .before .before .before .loop .inv .0 .came .lines-passed,
     )
 
 loop-less : tie.Need-loop-less Inv-loop μ-loop

@@ -1,5 +1,5 @@
--- `schema::reading::read_items` meets its contract: the words of what the text gives are those that are stored,
--- and then those of the lines that are left. Assumes nothing.
+-- `schema::reading::read_items` meets its contract: the lines that were passed came to the items whose words are stored.
+-- Assumes nothing.
 use native.Mathlib.Omega.{arith}
 use mathlib.Core.Path.{_≡_, refl, _∙_}
 use Prim.Native.Nat.{ℕ, _-_, _≤_, _<_}
