@@ -1,3 +1,5 @@
 -- Which path takes which type.
-pub mod Required
+pub mod Pairs
 pub mod FullLaws
+pub mod Required
+pub mod RequiredLaws

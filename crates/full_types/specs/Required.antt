@@ -1,114 +1,143 @@
--- Which path takes which type, as pairs in words.
-use Prim.Native.Nat.{ℕ, _+_, _/_, _%_, _≤_, _<_}
+-- Wrapped paths against types, head by head: for what a head wraps, types wait on a stack.
+use Prim.Native.Nat.{ℕ, _+_, _*_, _^_, _≤_, _<_}
 use mathlib.Core.Path.{_≡_}
-use mathlib.Core.Bool.{Bool, false, _||_}
-use mathlib.Core.List.{List, [], _∷_, _++_, map}
+use mathlib.Core.Bool.{cond, _&&_}
+use mathlib.Core.List.{List, [], _∷_, _++_, map, reverse}
 use mathlib.Core.Option.{Option, none, some}
-use lib.Dec.{ltb}
+use lib.Dec.{eqb}
 use lib.ListN.{length, take, drop, getD}
-use Rattle.rules.specs.Numbers.{mostSteps}
-use Rattle.rules.specs.Schema.{Item, fromType, attributesOf}
-use Rattle.rules.specs.Paths.{Paths, Taken, attributeType, fullTypeRequired, nodesOf}
-use Rattle.rules.specs.StepLaws.{IsPath}
-use Rattle.rules.specs.TypeLaws.{typesIn, deepest}
-use Rattle.schema.specs.Items.{itemsOf}
-use Rattle.wrapped_paths.specs.Code.{code, pathAt}
+use Rattle.rules.specs.Schema.{Item, setType, recordType}
+use Rattle.rules.specs.Paths.{
+  Paths,
+  Empty,
+  AccessPath,
+  Union,
+  RecordLiteral,
+  SetLiteral,
+  Fields,
+  nodesOf,
+  kindAt,
+  elementAt,
+  attributesAt,
+  attributeType,
+  hasAll,
+  fullTypeRequired,
+}
+use Rattle.rules.specs.TypeLaws.{typesIn}
+use Rattle.wrapped_paths.specs.declared.WrappedAccessPaths.{WrappedAccessPaths}
+use Rattle.wrapped_paths.specs.declared.WrappedAccessPaths.the-variants.{
+  Empty as EmptyHead,
+  AccessPath as PathHead,
+  Union as UnionHead,
+  RecordLiteral as RecordHead,
+  SetLiteral as SetHead,
+}
+use Rattle.full_types.specs.declared.Awaited.{Awaited}
+use Rattle.full_types.specs.declared.Awaited.the-variants.{Left, Mismatch as NoneWait}
 use Rattle.full_types.specs.declared.Required.{Required}
 use Rattle.full_types.specs.declared.Required.the-variants.{Next, Mismatch}
-use Rattle.type_table.specs.Tables.{typeRows, Tabled}
+use Rattle.wrapped_paths.specs.Code.{headOf, namesIn, code, Result}
+use Rattle.wrapped_paths.specs.Turns.{Noted}
+use Rattle.full_types.specs.Pairs.{takenAt, AllPairs}
+use Rattle.type_table.specs.Tables.{KnownType}
 
--- a path and its type as one word
-abbrev pub takenAt : List ℕ → ℕ → Taken
-takenAt words pair = record { path = pathAt words (pair / 1024); type = pair % 1024 }
+-- ---- what waits
 
-unfoldable pub AllPairs : List ℕ → ℕ → List ℕ → Type 0
-AllPairs words types [] = Unit
-AllPairs words types (pair ∷ pairs) =
-    (pair / 1024 + 1 + getD words (pair / 1024) 0 / 8 ≤ length words) × ((pair % 1024 < types) × AllPairs words types pairs)
+-- a number past all types: what it waits for is passed over
+abbrev pub passedOver : ℕ
+passedOver = 1024
 
--- which path takes which type: pairs were written behind so many others
-pub record Took (words : List ℕ) (items : List Item) (paths : Paths) (t at : ℕ) (before : List ℕ) (count : ℕ) (pairs : List ℕ) (end more : ℕ) : Type 0 where
-  pub taken : List Taken
-  pub required : fullTypeRequired items paths t ≡ some taken
-  pub ends : end ≡ at + length (code paths)
-  pub in-pairs : more ≤ length pairs
-  pub kept : take count pairs ≡ take count before
+-- the type that attributes give each field; a field that they have not is passed over
+abbrev pub typeOr : Option ℕ → ℕ
+typeOr none = passedOver
+typeOr (some t) = t
+
+abbrev pub fieldTypes : List Item → List ℕ → List ℕ
+fieldTypes attributes names = map (λ name. typeOr (attributeType name attributes)) names
+
+-- the types that wait for what a head wraps, in its order; none where a literal is against its type
+abbrev pub setAwaits : List Item → ℕ → Option (List ℕ)
+setAwaits items t = cond (eqb (kindAt items t) setType) (some (elementAt items t ∷ [])) none
+
+abbrev pub recordAwaits : List Item → Fields → ℕ → Option (List ℕ)
+recordAwaits items fields t =
+    cond (eqb (kindAt items t) recordType && hasAll fields (attributesAt items t))
+    (some (fieldTypes (attributesAt items t) (namesIn fields)))
+    none
+
+abbrev pub awaits : List Item → Paths → ℕ → Option (List ℕ)
+awaits items Empty t = some []
+awaits items (AccessPath path) t = some []
+awaits items (Union left right) t = some (t ∷ t ∷ [])
+awaits items (RecordLiteral fields) t = recordAwaits items fields t
+awaits items (SetLiteral elements) t = setAwaits items t
+
+-- they come on top of those that wait, the first on top
+pub record Stacked (types : Option (List ℕ)) (waiting : List ℕ) (left : ℕ) (waiting′ : List ℕ) (more : ℕ) : Type 0 where
   pub new : List ℕ
-  pub added : take more pairs ≡ take count before ++ new
-  pub there : map (takenAt words) new ≡ taken
-  pub all-pairs : AllPairs words (typesIn items) new
+  pub awaited : types ≡ some new
+  pub there : Noted waiting left (reverse new) waiting′ more
 
-abbrev pub RequiredBy : List ℕ → List Item → Paths → ℕ → ℕ → List ℕ → ℕ → List ℕ → Required → Type 0
-RequiredBy words items paths t at before count pairs (Next end more) = Took words items paths t at before count pairs end more
-RequiredBy words items paths t at before count pairs Mismatch = fullTypeRequired items paths t ≡ none
+abbrev pub StackedBy : Option (List ℕ) → List ℕ → ℕ → List ℕ → Awaited → Type 0
+StackedBy types waiting left waiting′ (Left more) = Stacked types waiting left waiting′ more
+StackedBy types waiting left waiting′ NoneWait = types ≡ none
 
-abbrev pub RequiredAt : List ℕ → List Item → ℕ → ℕ → List ℕ → ℕ → List ℕ → Required → Type 0
-RequiredAt words items t at before count pairs r =
+abbrev pub RecordStacked : List ℕ → List Item → ℕ → ℕ → List ℕ → ℕ → List ℕ → Awaited → Type 0
+RecordStacked words items at t waiting left waiting′ r =
+    (fields : Fields) (rest : List ℕ)
+    → drop at words ≡ code (RecordLiteral fields) ++ rest
+    → StackedBy (recordAwaits items fields t) waiting left waiting′ r
+
+abbrev pub PathsStacked : List ℕ → List Item → ℕ → ℕ → List ℕ → ℕ → List ℕ → Awaited → Type 0
+PathsStacked words items at t waiting left waiting′ r =
     (paths : Paths) (rest : List ℕ)
     → drop at words ≡ code paths ++ rest
-    → RequiredBy words items paths t at before count pairs r
+    → StackedBy (awaits items paths t) waiting left waiting′ r
 
--- wrapped paths of at most so many nodes stand at a place
-pub record Walk (words : List ℕ) (at left : ℕ) : Type 0 where
+-- wrapped paths stand there behind a head, their type is known, and there is room for the types that wait for what they wrap
+pub record Meeting (words : List ℕ) (at : ℕ) (head : WrappedAccessPaths) (schema table : List ℕ) (t : ℕ) (waiting : List ℕ) (left : ℕ) : Type 0 where
   pub paths : Paths
   pub rest : List ℕ
   pub coded : drop at words ≡ code paths ++ rest
-  pub few-nodes : nodesOf paths ≤ left
+  pub said : head ≡ headOf (getD words at 0)
+  pub type : KnownType schema table t
+  pub room : left + nodesOf paths ≤ length waiting
 
--- the attributes of a type stand between two places
-pub record Fielded (words : List ℕ) (first end : ℕ) : Type 0 where
-  pub type : ℕ
-  pub place : ℕ
-  pub inside : place < length words
-  pub there : fromType type (itemsOf words) ≡ some (itemsOf (drop place words))
-  pub begins : first ≡ place + 1
-  pub ends : end ≡ first + length (attributesOf (itemsOf (drop first words)))
+-- ---- which path takes which type
 
--- what a field of a record literal gives: nothing where the attributes have it not
-abbrev pub fieldRequired : List Item → Paths → ℕ → List Item → Option (List Taken)
-fieldRequired items paths name attributes =
-    elim (attributeType name attributes) [ none ↦ some [] | some t ↦ fullTypeRequired items paths t ]
+-- the pair that a head gives, if it is that of a path
+abbrev pub pairsFor : WrappedAccessPaths → ℕ → ℕ → List ℕ
+pairsFor EmptyHead at t = []
+pairsFor (PathHead steps) at t = (at * 1024 + t) ∷ []
+pairsFor UnionHead at t = []
+pairsFor SetHead at t = []
+pairsFor (RecordHead fields) at t = []
 
--- so many pairs were written behind others
-pub record Added (words : List ℕ) (types : ℕ) (taken : List Taken) (before : List ℕ) (count : ℕ) (pairs : List ℕ) (more : ℕ) : Type 0 where
-  pub in-pairs : more ≤ length pairs
-  pub kept : take count pairs ≡ take count before
-  pub new : List ℕ
-  pub added : take more pairs ≡ take count before ++ new
-  pub there : map (takenAt words) new ≡ taken
-  pub all-pairs : AllPairs words types new
+-- a place and a type that one word holds, and a place for it behind so many others
+pub record PairRoom (at t : ℕ) (pairs : List ℕ) (count : ℕ) : Type 0 where
+  pub place : at < 2 ^ 53
+  pub type : t < 1024
+  pub room : count < length pairs
 
-pub record FieldTook (words : List ℕ) (types : ℕ) (given : Option (List Taken)) (size at : ℕ) (before : List ℕ) (count : ℕ) (pairs : List ℕ) (end more : ℕ) : Type 0 where
-  pub taken : List Taken
-  pub required : given ≡ some taken
-  pub ends : end ≡ at + size
-  pub pairs-added : Added words types taken before count pairs more
+-- wrapped paths of a result stand there, and there is a place for each of their paths
+pub record Room (words : List ℕ) (at : ℕ) (pairs : List ℕ) : Type 0 where
+  pub result : Result words at
+  pub short : length words < 2 ^ 53
+  pub places : length pairs ≡ 256
 
-abbrev pub FieldBy : List ℕ → ℕ → Option (List Taken) → ℕ → ℕ → List ℕ → ℕ → List ℕ → Required → Type 0
-FieldBy words types given size at before count pairs (Next end more) = FieldTook words types given size at before count pairs end more
-FieldBy words types given size at before count pairs Mismatch = given ≡ none
+-- which path takes which type, in pairs
+pub record Took (words : List ℕ) (items : List Item) (paths : Paths) (t at : ℕ) (pairs : List ℕ) (end count : ℕ) : Type 0 where
+  pub ends : end ≡ at + length (code paths)
+  pub in-pairs : count ≤ length pairs
+  pub all-pairs : AllPairs words (typesIn items) (take count pairs)
+  pub required : fullTypeRequired items paths t ≡ some (map (takenAt words) (take count pairs))
 
-abbrev pub FieldAt : List ℕ → List Item → ℕ → List Item → ℕ → List ℕ → ℕ → List ℕ → Required → Type 0
-FieldAt words items name attributes at before count pairs r =
+abbrev pub RequiredBy : List ℕ → List Item → Paths → ℕ → ℕ → List ℕ → Required → Type 0
+RequiredBy words items paths t at pairs (Next end count) = Took words items paths t at pairs end count
+RequiredBy words items paths t at pairs Mismatch = fullTypeRequired items paths t ≡ none
+
+abbrev pub RequiredAt : List ℕ → List Item → ℕ → ℕ → List ℕ → Required → Type 0
+RequiredAt words items t at pairs r =
     (paths : Paths) (rest : List ℕ)
     → drop at words ≡ code paths ++ rest
-    → FieldBy words (typesIn items) (fieldRequired items paths name attributes) (length (code paths)) at before count pairs r
-
--- some path with the trie of its type below it exceeds the steps of a position
-unfoldable pub anyTakenDeep : List ℕ → List Taken → Bool
-anyTakenDeep words [] = false
-anyTakenDeep words (taken ∷ more) =
-    ltb mostSteps (length (taken .path) + deepest (typeRows words (taken .type))) || anyTakenDeep words more
-
--- what the table says of it
-abbrev pub DeepBy : List ℕ → List ℕ → List ℕ → Bool → Type 0
-DeepBy words table pairs r =
-    (items : List ℕ) (types : ℕ)
-    → Tabled items table types
-    → AllPairs words types pairs
-    → r ≡ anyTakenDeep items (map (takenAt words) pairs)
-
--- all these paths are paths
-unfoldable pub AllTakenPaths : List Taken → Type 0
-AllTakenPaths [] = Unit
-AllTakenPaths (taken ∷ more) = IsPath (taken .path) × AllTakenPaths more
+    → RequiredBy words items paths t at pairs r

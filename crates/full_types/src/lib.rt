@@ -1,20 +1,20 @@
-// `full_type_required`: which path takes which type.
+// `full_type_required`: which path takes which type. The types that wrapped paths have to meet wait on a stack, that of the next on top.
 ghost use mathlib.Core.Path.{_≡_};
-ghost use mathlib.Core.Bool.{true, false};
-ghost use mathlib.Core.List.{map};
+ghost use mathlib.Core.List.{map, reverse};
 ghost use Prim.Native.Nat.{_+_, _*_, _^_, _<_, _≤_};
-ghost use lib.ListN.{length, drop, getD};
-ghost use Rattle.rules.specs.Schema.{attributesOf, recordType};
-ghost use Rattle.rules.specs.Paths.{Fields, kindAt, hasAll, addAccessPath, typeToAccessTrie, addTaken};
-ghost use Rattle.rules.specs.StepLaws.{IsPath};
-ghost use Rattle.rules.specs.TypeLaws.{typesIn, deepest};
+ghost use lib.ListN.{length, drop};
+ghost use Rattle.rules.specs.Schema.{attributesOf};
+ghost use Rattle.rules.specs.Paths.{Fields, hasAll, attributeType, addAccessPath, typeToAccessTrie, addTaken};
+ghost use Rattle.rules.specs.TypeLaws.{Ascends};
 ghost use Rattle.rows.specs.States.{rowsIn};
-ghost use Rattle.schema.specs.Items.{itemsOf, goodItems};
-ghost use Rattle.wrapped_paths.specs.Code.{headOf, namesIn};
+ghost use Rattle.schema.specs.Items.{itemsOf};
+ghost use Rattle.wrapped_paths.specs.Code.{namesIn};
+ghost use Rattle.wrapped_paths.specs.Turns.{Noted};
 ghost use Rattle.wrapped_paths.specs.declared.WrappedAccessPaths.the-variants.{RecordLiteral as RecordHead};
-ghost use Rattle.path_tries.specs.Nodes.{IsState, Became};
-ghost use Rattle.type_table.specs.Tables.{typeRows, Tabled};
-ghost use Rattle.full_types.specs.Required.{Walk, RequiredAt, Fielded, FieldAt, AllPairs, takenAt, anyTakenDeep, AllTakenPaths, DeepBy};
+ghost use Rattle.path_tries.specs.Nodes.{Became};
+ghost use Rattle.type_table.specs.Tables.{KnownType};
+ghost use Rattle.full_types.specs.Pairs.{AllPairs, takenAt, DeepBy, TypedPath, TypedLeaf, TypedPairs};
+ghost use Rattle.full_types.specs.Required.{typeOr, fieldTypes, setAwaits, StackedBy, RecordStacked, PathsStacked, Meeting, pairsFor, PairRoom, Room, RequiredAt};
 use path_tries::FEW;
 use path_tries::add_access_path;
 use path_tries::path_at;
@@ -33,6 +33,18 @@ pub enum Required {
     Next(usize, usize),
     Mismatch,
 }
+
+// How many types wait once a head has met its own, or a literal against its type.
+enum Awaited {
+    Left(usize),
+    Mismatch,
+}
+
+// A result has at most so many path nodes: no more paths are in it, and no more types wait.
+pub const NODES: usize = 256;
+
+// The number past all types that waits for a field which its record type has not.
+const PASSED_OVER: u64 = 1_024;
 
 // A path's place and its type as one word.
 fn pair_of(place: usize, t: u64) -> u64
@@ -68,80 +80,121 @@ fn has_all(attributes: &[u64], names: &[u64]) -> bool
     true
 }
 
-// One field of a record literal against the attributes of a record type; a field that these have not is passed over.
-fn field_required(
-    code: &[u64],
-    at: usize,
-    name: u64,
-    words: &[u64],
-    table: &[u64],
-    first: usize,
-    end: usize,
-    pairs: &mut [u64],
-    count: usize,
-    left: u64,
-) -> Required
-    requires { ⌜ (goodItems (now words) ≡ true) × (Tabled (now words) (now table) (typesIn (itemsOf (now words))) × Fielded (now words) first end) ⌝ }
-    requires { ⌜ Walk (now code) at left × ((count + left ≤ length (now pairs)) × (length (now code) < 2 ^ 53)) ⌝ }
-    ensures { λ r. ⌜ FieldAt (now (code .entry)) (itemsOf (now (words .entry))) name (attributesOf (itemsOf (drop first (now (words .entry))))) at (now (pairs .entry)) count (now (pairs .exit)) r ⌝ }
+// The type that attributes give a field; one that they have not is passed over.
+fn field_type(attributes: &[u64], name: u64) -> u64
+    requires { ⌜ Ascends 0 (itemsOf (now attributes)) ⌝ }
+    ensures { λ r. ⌜ r ≡ typeOr (attributeType name (itemsOf (now (attributes .entry)))) ⌝ }
 {
-    let Search::Found(place) = Search::of(&words[first..end], name) else {
-        return Required::Next(measure(code, at, 1).end, count);
+    let Search::Found(place) = Search::of(attributes, name) else {
+        return PASSED_OVER;
     };
-    let t = Item::of(words[first + place]).value;
-    full_type_required(code, at, words, table, t, pairs, count, left)
+    Item::of(attributes[place]).value
 }
 
-// The record literal at a place, of so many fields, against a record type.
-fn fields_required(
+// The types of a record literal's fields wait, that of its first name on top; answers how many wait then.
+fn await_fields(attributes: &[u64], names: &[u64], waiting: &mut [u64], left: usize) -> usize
+    requires { ⌜ Ascends 0 (itemsOf (now attributes)) × (left + length (now names) ≤ length (now waiting)) ⌝ }
+    ensures { λ r. ⌜ Noted (now (waiting .entry)) left (reverse (fieldTypes (itemsOf (now (attributes .entry))) (now (names .entry)))) (now (waiting .exit)) r ⌝ }
+{
+    let mut more = left;
+    let mut i = names.len();
+    while 0 < i {
+        i -= 1;
+        waiting[more] = field_type(attributes, names[i]);
+        more += 1;
+    }
+    more
+}
+
+// The record literal at a place, of so many fields, against a type: it needs a record type and every attribute of it.
+fn await_record(
     code: &[u64],
     at: usize,
     fields: usize,
     words: &[u64],
     table: &[u64],
     t: u64,
-    pairs: &mut [u64],
-    count: usize,
-    left: u64,
-) -> Required
-    requires { ⌜ (goodItems (now words) ≡ true) × (Tabled (now words) (now table) (typesIn (itemsOf (now words))) × (t < typesIn (itemsOf (now words)))) ⌝ }
-    requires { ⌜ Walk (now code) at (left + 1) × ((count + left ≤ length (now pairs)) × (length (now code) < 2 ^ 53)) ⌝ }
-    requires { ⌜ (headOf (getD (now code) at 0) ≡ RecordHead fields) × (kindAt (itemsOf (now words)) t ≡ recordType) ⌝ }
-    ensures { λ r. ⌜ RequiredAt (now (code .entry)) (itemsOf (now (words .entry))) t at (now (pairs .entry)) count (now (pairs .exit)) r ⌝ }
+    waiting: &mut [u64],
+    left: usize,
+) -> Awaited
+    requires { ⌜ Meeting (now code) at (RecordHead fields) (now words) (now table) t (now waiting) left ⌝ }
+    ensures { λ r. ⌜ RecordStacked (now (code .entry)) (itemsOf (now (words .entry))) at t (now (waiting .entry)) left (now (waiting .exit)) r ⌝ }
 {
-    let first = size_at(table, t).place + 1;
+    let place = size_at(table, t).place;
+    if Item::of(words[place]).tag != Item::RECORD {
+        return Awaited::Mismatch;
+    }
+    let first = place + 1;
     let end = attributes_end(words, first);
     let names = at + 1;
-    let mut from = names + fields;
+    let from = names + fields;
     if !has_all(&words[first..end], &code[names..from]) {
-        return Required::Mismatch;
+        return Awaited::Mismatch;
     }
-    let mut more = count;
-    let mut i = 0;
-    while i < fields {
-        let name = code[names + i];
-        let Required::Next(next, found) = field_required(
-            code,
-            from,
-            name,
-            words,
-            table,
-            first,
-            end,
-            pairs,
-            more,
-            left - (more - count) as u64,
-        ) else {
-            return Required::Mismatch;
-        };
-        from = next;
-        more = found;
-        i += 1;
-    }
-    Required::Next(from, more)
+    Awaited::Left(await_fields(&words[first..end], &code[names..from], waiting, left))
 }
 
-// The wrapped paths at a place against a type, with at most so many path nodes left.
+// A set literal against a type: it needs a set type, whose element type waits.
+fn await_set(words: &[u64], table: &[u64], t: u64, waiting: &mut [u64], left: usize) -> Awaited
+    requires { ⌜ KnownType (now words) (now table) t × (left < length (now waiting)) ⌝ }
+    ensures { λ r. ⌜ StackedBy (setAwaits (itemsOf (now (words .entry))) t) (now (waiting .entry)) left (now (waiting .exit)) r ⌝ }
+{
+    let place = size_at(table, t).place;
+    let item = Item::of(words[place]);
+    if item.tag != Item::SET {
+        return Awaited::Mismatch;
+    }
+    waiting[left] = item.value;
+    Awaited::Left(left + 1)
+}
+
+// The head at a place against a type: the types of what it wraps wait.
+fn await_wrapped(
+    code: &[u64],
+    at: usize,
+    head: WrappedAccessPaths,
+    words: &[u64],
+    table: &[u64],
+    t: u64,
+    waiting: &mut [u64],
+    left: usize,
+) -> Awaited
+    requires { ⌜ Meeting (now code) at head (now words) (now table) t (now waiting) left ⌝ }
+    ensures { λ r. ⌜ PathsStacked (now (code .entry)) (itemsOf (now (words .entry))) at t (now (waiting .entry)) left (now (waiting .exit)) r ⌝ }
+{
+    match head {
+        WrappedAccessPaths::Empty => Awaited::Left(left),
+        WrappedAccessPaths::AccessPath(_) => Awaited::Left(left),
+        WrappedAccessPaths::Union => {
+            waiting[left] = t;
+            waiting[left + 1] = t;
+            Awaited::Left(left + 2)
+        }
+        WrappedAccessPaths::SetLiteral => await_set(words, table, t, waiting, left),
+        WrappedAccessPaths::RecordLiteral(fields) => {
+            await_record(code, at, fields, words, table, t, waiting, left)
+        }
+    }
+}
+
+// Notes a head's place and type behind so many pairs, if it is that of a path, and answers how many there are then.
+fn note_pair(head: WrappedAccessPaths, at: usize, t: u64, pairs: &mut [u64], count: usize) -> usize
+    requires { ⌜ PairRoom at t (now pairs) count ⌝ }
+    ensures { λ r. ⌜ Noted (now (pairs .entry)) count (pairsFor head at t) (now (pairs .exit)) r ⌝ }
+{
+    match head {
+        WrappedAccessPaths::Empty => count,
+        WrappedAccessPaths::AccessPath(_) => {
+            pairs[count] = pair_of(at, t);
+            count + 1
+        }
+        WrappedAccessPaths::Union => count,
+        WrappedAccessPaths::SetLiteral => count,
+        WrappedAccessPaths::RecordLiteral(_) => count,
+    }
+}
+
+// The wrapped paths at a place against a type: each head in turn meets the type that waits for it.
 pub fn full_type_required(
     code: &[u64],
     at: usize,
@@ -149,67 +202,39 @@ pub fn full_type_required(
     table: &[u64],
     t: u64,
     pairs: &mut [u64],
-    count: usize,
-    left: u64,
 ) -> Required
-    requires { ⌜ (goodItems (now words) ≡ true) × (Tabled (now words) (now table) (typesIn (itemsOf (now words))) × (t < typesIn (itemsOf (now words)))) ⌝ }
-    requires { ⌜ Walk (now code) at left × ((count + left ≤ length (now pairs)) × (length (now code) < 2 ^ 53)) ⌝ }
-    ensures { λ r. ⌜ RequiredAt (now (code .entry)) (itemsOf (now (words .entry))) t at (now (pairs .entry)) count (now (pairs .exit)) r ⌝ }
+    requires { ⌜ KnownType (now words) (now table) t × Room (now code) at (now pairs) ⌝ }
+    ensures { λ r. ⌜ RequiredAt (now (code .entry)) (itemsOf (now (words .entry))) t at (now (pairs .exit)) r ⌝ }
 {
-    let place = size_at(table, t).place;
-    let item = Item::of(words[place]);
-    match WrappedAccessPaths::of(code[at]) {
-        WrappedAccessPaths::Empty => Required::Next(at + 1, count),
-        WrappedAccessPaths::AccessPath(steps) => {
-            pairs[count] = pair_of(at, t);
-            Required::Next(at + 1 + steps, count + 1)
-        }
-        WrappedAccessPaths::Union => {
-            let Required::Next(end, more) = full_type_required(
+    let mut waiting = [t; NODES];
+    let mut from = at;
+    let mut left: usize = 1;
+    let mut count = 0;
+    while 0 < left {
+        left -= 1;
+        let next = waiting[left];
+        if next == PASSED_OVER {
+            from = measure(code, from, 1).end;
+        } else {
+            let head = WrappedAccessPaths::of(code[from]);
+            let Awaited::Left(more) = await_wrapped(
                 code,
-                at + 1,
+                from,
+                head,
                 words,
                 table,
-                t,
-                pairs,
-                count,
-                left - 1,
+                next,
+                &mut waiting,
+                left,
             ) else {
                 return Required::Mismatch;
             };
-            full_type_required(
-                code,
-                end,
-                words,
-                table,
-                t,
-                pairs,
-                more,
-                left - 1 - (more - count) as u64,
-            )
-        }
-        WrappedAccessPaths::SetLiteral => {
-            if item.tag != Item::SET {
-                return Required::Mismatch;
-            }
-            full_type_required(
-                code,
-                at + 1,
-                words,
-                table,
-                item.value,
-                pairs,
-                count,
-                left - 1,
-            )
-        }
-        WrappedAccessPaths::RecordLiteral(fields) => {
-            if item.tag != Item::RECORD {
-                return Required::Mismatch;
-            }
-            fields_required(code, at, fields, words, table, t, pairs, count, left - 1)
+            count = note_pair(head, from, next, pairs, count);
+            from += head.words();
+            left = more;
         }
     }
+    Required::Next(from, count)
 }
 
 // Whether some path with the trie of its type below it would exceed the steps of a position.
@@ -237,10 +262,7 @@ fn add_typed_by(
     t: u64,
     leaf: &mut [u64],
 ) -> bool
-    requires { ⌜ (goodItems (now words) ≡ true) × (Tabled (now words) (now table) (typesIn (itemsOf (now words))) × (t < typesIn (itemsOf (now words)))) ⌝ }
-    requires { ⌜ IsState (now trie) × IsPath (now path) ⌝ }
-    requires { ⌜ length (now path) + deepest (typeRows (now words) t) ≤ 24 ⌝ }
-    requires { ⌜ (length (typeRows (now words) t) ≤ length (now leaf)) × (length (now leaf) ≤ 1024) ⌝ }
+    requires { ⌜ TypedLeaf (now trie) (now path) (now words) (now table) t (now leaf) ⌝ }
     ensures { λ r. ⌜ Became (addAccessPath (rowsIn (now (trie .entry))) (now (path .entry)) (typeToAccessTrie (itemsOf (now (words .entry))) t)) (now (trie .exit)) r ⌝ }
 {
     let end = type_to_access_trie(words, table, t, 0, leaf, 0);
@@ -249,9 +271,7 @@ fn add_typed_by(
 
 // Merges a path with the trie of a type as its leaf into a trie, and answers whether it stays within the limit of nodes.
 fn add_typed(trie: &mut [u64], path: &[u64], words: &[u64], table: &[u64], t: u64) -> bool
-    requires { ⌜ (goodItems (now words) ≡ true) × (Tabled (now words) (now table) (typesIn (itemsOf (now words))) × (t < typesIn (itemsOf (now words)))) ⌝ }
-    requires { ⌜ IsState (now trie) × IsPath (now path) ⌝ }
-    requires { ⌜ length (now path) + deepest (typeRows (now words) t) ≤ 24 ⌝ }
+    requires { ⌜ TypedPath (now trie) (now path) (now words) (now table) t ⌝ }
     ensures { λ r. ⌜ Became (addAccessPath (rowsIn (now (trie .entry))) (now (path .entry)) (typeToAccessTrie (itemsOf (now (words .entry))) t)) (now (trie .exit)) r ⌝ }
 {
     let nodes = size_at(table, t).nodes;
@@ -274,9 +294,7 @@ pub fn add_taken(
     table: &[u64],
     pairs: &[u64],
 ) -> bool
-    requires { ⌜ (goodItems (now words) ≡ true) × Tabled (now words) (now table) (typesIn (itemsOf (now words))) ⌝ }
-    requires { ⌜ IsState (now trie) × (AllPairs (now code) (typesIn (itemsOf (now words))) (now pairs) × AllTakenPaths (map (takenAt (now code)) (now pairs))) ⌝ }
-    requires { ⌜ anyTakenDeep (now words) (map (takenAt (now code)) (now pairs)) ≡ false ⌝ }
+    requires { ⌜ TypedPairs (now trie) (now code) (now words) (now table) (now pairs) ⌝ }
     ensures { λ r. ⌜ Became (addTaken (itemsOf (now (words .entry))) (rowsIn (now (trie .entry))) (map (takenAt (now (code .entry))) (now (pairs .entry)))) (now (trie .exit)) r ⌝ }
 {
     let mut i = 0;

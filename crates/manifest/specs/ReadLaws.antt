@@ -510,7 +510,6 @@ row-fits (a ∷ b ∷ c ∷ d ∷ []) row e = entry-fits b c d row (cond-some (i
 row-fits (a ∷ b ∷ c ∷ d ∷ f ∷ []) row e = node-fits b c d f row (cond-some (isLetter 78 a) (nodeOf b c d f) row e .1)
 row-fits (a ∷ b ∷ c ∷ d ∷ f ∷ g ∷ more) row e = absurd (Option·none-ne-some row e)
 
-
 -- a row that is not refused is passed with its step in the path and its word behind the others
 pub row-passed :
     (limits : Limits) (kept : Kept) (path rows : List ℕ) (row : Row) {word : ℕ} {next : Kept} →

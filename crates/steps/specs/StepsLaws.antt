@@ -56,7 +56,8 @@ use Rattle.wrapped_paths.specs.AttrLaws.{grown-nodes, grown-few}
 use Rattle.path_tries.specs.Nodes.{nodeWord, belowWord, allNodes, allBelow, IsState, Became, leafOf, anyDeep, AllFit}
 use Rattle.path_tries.specs.NodeLaws.{as-it-was}
 use Rattle.type_table.specs.TypeTableLaws.{good-lawful}
-use Rattle.full_types.specs.Required.{takenAt, AllPairs, Took, Walk, anyTakenDeep, AllTakenPaths}
+use Rattle.full_types.specs.Pairs.{takenAt, AllPairs, anyTakenDeep, AllTakenPaths}
+use Rattle.full_types.specs.Required.{Took}
 use Rattle.step_lines.specs.Lines.{stepRead}
 use Rattle.wrapped_paths.specs.Turns.{Growing}
 use Rattle.result_stack.specs.Stacks.{pathsOf, triesOf, trieWords, stacked, Layout, Held, Reached, Outcomes, Placed, TriesAt, CopiedFrom, merged, Merges, MergedFrom, Wraps, WrapsBy, ReplacedBy, ancestorsRequired, Scratch}
@@ -64,7 +65,7 @@ use Rattle.step_lines.specs.declared.Step.{Step as StepRead}
 use Rattle.result_stack.specs.declared.Stack.{Stack}
 use Rattle.result_stack.specs.declared.Stepped.{Stepped}
 use Rattle.result_stack.specs.declared.Stepped.the-variants.{Next, Refused}
-use Rattle.result_stack.specs.StackLaws.{merged-trie, judged-nodes, judged-deep, judged-rows, judged-good, trie-words, trie-rows, top-code, top-trie, top-good, below, below-held, top-stands, code-end, tries-end, landed}
+use Rattle.result_stack.specs.StackLaws.{merged-trie, judged-nodes, judged-deep, judged-rows, judged-good, trie-words, trie-rows, top-trie, top-good, below, below-held, top-stands, code-end, tries-end, landed}
 
 -- ---- results that are wrapped
 
@@ -858,35 +859,26 @@ module _ (words : List ℕ) (good : goodItems words ≡ true) where
     full-few (top ∷ rest) held few place = absurd (omega (arith, held .layout .as-many))
 
     module _ {codeRun tries : List ℕ} {stack : Stack} {top : Result} {rest : List Result} (held : Held codeRun tries stack (top ∷ rest)) where
-      pub full-walk : Walk codeRun (stack .code) 256
-      full-walk = record { paths = top .paths; rest = codes (pathsOf rest); coded = top-code held; few-nodes = top-good held .few-nodes }
-
       pub full-mismatch :
           fullTypeRequired (itemsOf words) (top .paths) t ≡ none
           → (place : ℕ)
           → fullStep (itemsOf words) t place (top ∷ rest) ≡ refused 8 place
       full-mismatch e place = rw (line .from, e, fullStep)
 
-      module _ {before pairs : List ℕ} {end more : ℕ} (k : Took codeRun (itemsOf words) (top .paths) t (stack .code) before 0 pairs end more) where
+      module _ {pairs : List ℕ} {end more : ℕ} (k : Took codeRun (itemsOf words) (top .paths) t (stack .code) pairs end more) where
         abbrev taken : List Taken
         taken = map (takenAt codeRun) (take more pairs)
-
-        same-taken : taken ≡ k .taken
-        same-taken = rw (k .added) (k .there)
 
         full-answer :
             (place : ℕ)
             → fullStep (itemsOf words) t place (top ∷ rest) ≡ judged place (emptyPaths (addTaken (itemsOf words) (top .trie) taken)) rest
-        full-answer place = rw (line .from, k .required, fullStep, same-taken)
-
-        pub full-pairs : AllPairs codeRun (typesIn (itemsOf words)) (take more pairs)
-        full-pairs = rw (k .added) (k .all-pairs)
+        full-answer place = rw (line .from, k .required, fullStep)
 
         pub full-places : AllPairs codeRun 1024 (take more pairs)
-        full-places = pairs-more codeRun (typesIn (itemsOf words)) 1024 (take more pairs) (types-few (itemsOf words) (good-lawful words good)) full-pairs
+        full-places = pairs-more codeRun (typesIn (itemsOf words)) 1024 (take more pairs) (types-few (itemsOf words) (good-lawful words good)) (k .all-pairs)
 
         pub full-paths : AllTakenPaths taken
-        full-paths = rw same-taken (all-taken (k .taken) (taken-each IsPath (itemsOf words) (top .paths) t (k .taken) (top-good held .good-paths) (k .required)))
+        full-paths = all-taken taken (taken-each IsPath (itemsOf words) (top .paths) t taken (top-good held .good-paths) (k .required))
 
         full-depth : isTooDeep (addTaken (itemsOf words) (top .trie) taken) ≡ anyTakenDeep words taken
         full-depth =

@@ -14,6 +14,7 @@ ghost use Rattle.path_tries.specs.Nodes.{IsState, Became, anyDeep};
 ghost use Rattle.step_lines.specs.Lines.{stepRead, namesOf, GoodRead};
 ghost use Rattle.type_table.specs.Tables.{Tabled};
 ghost use Rattle.result_stack.specs.Stacks.{Holding, Scratch, StepsBy, WrapsBy, ReplacedBy, ancestorsRequired};
+use full_types::NODES;
 use full_types::Required;
 use full_types::add_taken;
 use full_types::full_type_required;
@@ -37,8 +38,6 @@ use wrapped_paths::WrappedAccessPaths;
 use wrapped_paths::get_or_has_attr;
 use wrapped_paths::measure;
 use wrapped_paths::paths_in;
-
-const NODES: usize = 256;
 
 // `to_ancestor_access_trie`: merges the paths at some places, each leaf marked, into a trie, and answers whether it stays within the limit of
 // nodes.
@@ -183,8 +182,6 @@ impl EntityManifestAnalysisResult {
             table,
             t,
             &mut pairs,
-            0,
-            WrappedAccessPaths::NODES,
         ) else {
             return Stepped::Refused(8);
         };

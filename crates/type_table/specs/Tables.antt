@@ -1,7 +1,7 @@
 -- The table of types: where each stands, and the depth and the nodes of its trie, both stopping one past their limit.
 use Prim.Native.Nat.{ℕ, suc, _+_, _*_, _/_, _%_, _<_}
 use mathlib.Core.Path.{_≡_}
-use mathlib.Core.Bool.{Bool, false, cond}
+use mathlib.Core.Bool.{Bool, true, false, cond}
 use mathlib.Core.List.{List}
 use mathlib.Core.Option.{some}
 use lib.Dec.{ltb, eqb}
@@ -9,9 +9,9 @@ use lib.ListN.{length, drop, getD}
 use Rattle.rules.specs.Tries.{Row}
 use Rattle.rules.specs.Schema.{fromType, attributeLine}
 use Rattle.rules.specs.Paths.{typeBelow}
-use Rattle.rules.specs.TypeLaws.{deepest}
+use Rattle.rules.specs.TypeLaws.{typesIn, deepest}
 use Rattle.rules.specs.Facts.{capped}
-use Rattle.schema.specs.Items.{itemsOf}
+use Rattle.schema.specs.Items.{itemsOf, goodItems}
 use Rattle.type_table.specs.declared.TypeSize.{TypeSize}
 
 -- the nodes below a node of a type
@@ -40,6 +40,17 @@ pub record Sized (words : List ℕ) (t w : ℕ) : Type 0 where
 
 abbrev pub Tabled : List ℕ → List ℕ → ℕ → Type 0
 Tabled words table types = (length table ≡ 1024) × ((t : ℕ) → t < types → Sized words t (getD table t 0))
+
+-- the types of a good schema, all in the table
+pub record GoodTypes (words table : List ℕ) (types : ℕ) : Type 0 where
+  pub good-items : goodItems words ≡ true
+  pub tabled : Tabled words table types
+  pub all-types : types ≡ typesIn (itemsOf words)
+
+-- one of them
+pub record KnownType (words table : List ℕ) (t : ℕ) : Type 0 where
+  pub types : GoodTypes words table (typesIn (itemsOf words))
+  pub known : t < typesIn (itemsOf words)
 
 -- a word that is an attribute
 unfoldable pub attributeAt : List ℕ → ℕ → Bool

@@ -82,7 +82,7 @@ impl WrappedAccessPaths {
     }
 
     // How many words it takes by itself: its head, and its steps or names.
-    fn words(self) -> usize
+    pub fn words(self) -> usize
         requires { ⌜ sizeOf self < 2 ^ 61 ⌝ }
         ensures { λ r. ⌜ r ≡ 1 + sizeOf self ⌝ }
     {

@@ -20,15 +20,15 @@ Inv-loop trie₀ code words table pairs i₀ trie i = Adding (itemsOf words) cod
 
 abbrev μ-loop : tie.MeasureT-loop
 μ-loop trie₀ code words table pairs i₀ trie i = length pairs - i
-    -- the next pair is one
 
+-- the next pair is one
 pair :
     (c : tie.In-loop Inv-loop μ-loop) →
     let args = c .before .before .before .before .before .before .before .args in
     let next = getD (args .pairs .now) (c .before .loop .i) 0 in
     (next / 1024 + 1 + getD (args .code .now) (next / 1024) 0 / 8 ≤ length (args .code .now)) × (next % 1024 < typesIn (itemsOf (args .words .now)))
 pair c =
-    pair-at (c .before .before .before .before .before .before .before .args .code .now) (typesIn (itemsOf (c .before .before .before .before .before .before .before .args .words .now))) (c .before .before .before .before .before .before .before .args .pairs .now) (c .before .loop .i) (c .before .before .before .before .before .before .before .pre .1 .0 .1 .0) (c .loop-test .taken)
+    pair-at (c .before .before .before .before .before .before .before .args .code .now) (typesIn (itemsOf (c .before .before .before .before .before .before .before .args .words .now))) (c .before .before .before .before .before .before .before .args .pairs .now) (c .before .loop .i) (c .before .before .before .before .before .before .before .pre .all-pairs) (c .loop-test .taken)
 
 -- it is added to the trie
 added :
@@ -42,7 +42,7 @@ added :
 added c = rw (c .before .before .path-at .ensures) at (c .add-typed .ensures)
 
 loop-holds : tie.Need-loop-holds Inv-loop μ-loop
-loop-holds c = adding-none _ _ _ _ (c .before .before .before .before .before .pre .1 .0 .0)
+loop-holds c = adding-none _ _ _ _ (c .before .before .before .before .before .pre .state)
 
 mul-at : tie.Need-mul-at Inv-loop μ-loop
 mul-at c = search needs
@@ -61,18 +61,19 @@ shared-slice-read-add-typed : tie.Need-shared-slice-read-add-typed Inv-loop μ-l
 shared-slice-read-add-typed c = search needs
 
 add-typed-requires : tie.Need-add-typed-requires Inv-loop μ-loop
-add-typed-requires c κs = let pre = c .before .before .before .before .before .before .before .before .before .before .before .pre in
+add-typed-requires c κs =
+    let pre = c .before .before .before .before .before .before .before .before .before .before .before .pre in
     let args = c .before .before .before .before .before .before .before .before .before .before .before .args in
-    let inside = c .before .before .before .before .loop-test .taken in (
-      (pre .0 .0, (pre .0 .1, pair (c .before .before .before .before) .1)),
-      (
-        (c .before .before .before .before .before .loop .inv .state, rw (c .before .path-at .ensures) (taken-path (args .code .now) (args .pairs .now) (c .before .before .before .before .before .loop .i) (pre .1 .0 .1 .1) inside)),
-        rw (c .before .path-at .ensures) (taken-near (args .words .now) (args .code .now) (args .pairs .now) (c .before .before .before .before .before .loop .i) (pre .1 .1) inside),
-      ),
-    )
+    let inside = c .before .before .before .before .loop-test .taken in
+    record {
+      type = record { types = pre .types; known = pair (c .before .before .before .before) .1 };
+      state = c .before .before .before .before .before .loop .inv .state;
+      is-path = rw (c .before .path-at .ensures) (taken-path (args .code .now) (args .pairs .now) (c .before .before .before .before .before .loop .i) (pre .all-paths) inside);
+      near = rw (c .before .path-at .ensures) (taken-near (args .words .now) (args .code .now) (args .pairs .now) (c .before .before .before .before .before .loop .i) (pre .none-deep) inside);
+    }
 
 same-length : tie.Need-same-length Inv-loop μ-loop
-same-length c = added (c .before .before .before) .still .state-length ∙ sym (c .before .before .before .before .before .before .before .before .before .before .before .before .before .before .before .pre .1 .0 .0 .state-length)
+same-length c = added (c .before .before .before) .still .state-length ∙ sym (c .before .before .before .before .before .before .before .before .before .before .before .before .before .before .before .pre .state .state-length)
 
 returns : tie.Need-returns Inv-loop μ-loop
 returns c = adding-over (c .before .before .before .before .before .before .before .before .before .loop .inv) (c .before .before .before .before .before .before .before .before .loop-test .taken) (added (c .before .before .before)) (not-true _ (c .if1 .taken))
@@ -87,7 +88,7 @@ loop-again : tie.Need-loop-again Inv-loop μ-loop
 loop-again c = adding-next (c .before .before .before .before .before .before .before .before .before .loop .inv) (c .before .before .before .before .before .before .before .before .loop-test .taken) (added (c .before .before .before)) (not-false _ (c .if1 .left))
 
 same-length-2 : tie.Need-same-length-2 Inv-loop μ-loop
-same-length-2 c = c .before .loop .inv .state .state-length ∙ sym (c .before .before .before .before .before .before .before .pre .1 .0 .0 .state-length)
+same-length-2 c = c .before .loop .inv .state .state-length ∙ sym (c .before .before .before .before .before .before .before .pre .state .state-length)
 
 returns-2 : tie.Need-returns-2 Inv-loop μ-loop
 returns-2 c = adding-all (c .before .loop .inv) (c .loop-test .left)

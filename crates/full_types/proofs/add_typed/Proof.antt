@@ -10,13 +10,13 @@ use Rattle.full_types.proofs.add_typed.Tie as tie
 size-at-requires : tie.Need-size-at-requires
 size-at-requires c κs =
     let start = c .before .before .before .before in
-    tabled-inside (start .args .words .now) (start .args .table .now) (start .pre .0 .0) (start .pre .0 .1 .0) (start .pre .0 .1 .1)
+    tabled-inside (start .args .words .now) (start .args .table .now) (start .pre .type .types .good-items) (start .pre .type .types .tabled) (start .pre .type .known)
 
 returns : tie.Need-returns
 returns c =
     let start = c .before .before .before .before .before .before in
-    let sized = start .pre .0 .1 .0 .1 (start .args .t) (start .pre .0 .1 .1) in
-    too-many (start .args .words .now) (start .args .trie .now) (start .args .path .now) (start .args .t) (start .pre .1 .0 .0)
+    let sized = start .pre .type .types .tabled .1 (start .args .t) (start .pre .type .known) in
+    too-many (start .args .words .now) (start .args .trie .now) (start .args .path .now) (start .args .t) (start .pre .state)
     (too-many-sized sized (rw (c .before .size-at .ensures .1 .1) at (c .if1 .taken)))
 
 slice-aggregate-add-typed-by : tie.Need-slice-aggregate-add-typed-by
@@ -25,9 +25,9 @@ slice-aggregate-add-typed-by c = search needs
 add-typed-by-requires : tie.Need-add-typed-by-requires
 add-typed-by-requires c κs =
     let start = c .before .before .before .before .before .before .before .before .before in
-    let sized = start .pre .0 .1 .0 .1 (start .args .t) (start .pre .0 .1 .1) in
+    let sized = start .pre .type .types .tabled .1 (start .args .t) (start .pre .type .known) in
     let nodes = c .before .before .before .before .size-at .ensures .1 .1 in
-    (start .pre .0, (start .pre .1 .0, (start .pre .1 .1, (few-sized sized (omega arith) (rw nodes at (c .before .before .if2 .taken)), omega arith))))
+    record { typed = start .pre; room = few-sized sized (omega arith) (rw nodes at (c .before .before .if2 .taken)); few-words = omega arith }
 
 same-length : tie.Need-same-length
 same-length c = search needs
@@ -41,9 +41,9 @@ slice-aggregate-add-typed-by-2 c = search needs
 add-typed-by-requires-2 : tie.Need-add-typed-by-requires-2
 add-typed-by-requires-2 c κs =
     let start = c .before .before .before .before .before .before .before .before .before in
-    let sized = start .pre .0 .1 .0 .1 (start .args .t) (start .pre .0 .1 .1) in
+    let sized = start .pre .type .types .tabled .1 (start .args .t) (start .pre .type .known) in
     let nodes = c .before .before .before .before .size-at .ensures .1 .1 in
-    (start .pre .0, (start .pre .1 .0, (start .pre .1 .1, (few-sized sized (omega arith) (rw nodes at (c .before .before .before .if1 .left)), omega arith))))
+    record { typed = start .pre; room = few-sized sized (omega arith) (rw nodes at (c .before .before .before .if1 .left)); few-words = omega arith }
 
 same-length-2 : tie.Need-same-length-2
 same-length-2 c = search needs

@@ -22,29 +22,29 @@ begun c = c .before .before .before .before .before .before .before
 inside : (c : tie.After-type-to-access-trie) → c .type-to-access-trie .result ≤ length (c .type-to-access-trie .last .1 .1 .1 .1 .0)
 inside c =
     let start = begun c in
-    leaf-inside (start .args .words .now) (good-all _ (start .pre .0 .0)) (start .args .t) (length (start .args .path .now)) (start .pre .1 .1 .0) (start .pre .1 .1 .1 .0) (c .type-to-access-trie .ensures)
+    leaf-inside (start .args .words .now) (good-all _ (start .pre .typed .type .types .good-items)) (start .args .t) (length (start .args .path .now)) (start .pre .typed .near) (start .pre .room) (c .type-to-access-trie .ensures)
 
 few : (c : tie.After-type-to-access-trie) → c .type-to-access-trie .result ≤ 1024
 few c =
     let start = begun c in
-    omega (arith, leaf-end (start .args .words .now) (good-all _ (start .pre .0 .0)) (start .args .t) (length (start .args .path .now)) (start .pre .1 .1 .0) (start .pre .1 .1 .1 .0) (c .type-to-access-trie .ensures), start .pre .1 .1 .1)
+    omega (arith, leaf-end (start .args .words .now) (good-all _ (start .pre .typed .type .types .good-items)) (start .args .t) (length (start .args .path .now)) (start .pre .typed .near) (start .pre .room) (c .type-to-access-trie .ensures), start .pre .few-words)
 
 below : (c : tie.After-type-to-access-trie) → allBelow (length (begun c .args .path .now)) (take (c .type-to-access-trie .result) (c .type-to-access-trie .last .1 .1 .1 .1 .0)) ≡ true
 below c =
     let start = begun c in
-    leaf-below (start .args .words .now) (good-all _ (start .pre .0 .0)) (start .args .t) (length (start .args .path .now)) (start .pre .1 .1 .0) (start .pre .1 .1 .1 .0) (c .type-to-access-trie .ensures)
+    leaf-below (start .args .words .now) (good-all _ (start .pre .typed .type .types .good-items)) (start .args .t) (length (start .args .path .now)) (start .pre .typed .near) (start .pre .room) (c .type-to-access-trie .ensures)
 
 leaf :
     (c : tie.After-type-to-access-trie)
     → leafOf false (take (c .type-to-access-trie .result) (c .type-to-access-trie .last .1 .1 .1 .1 .0)) ≡ typeToAccessTrie (itemsOf (begun c .args .words .now)) (begun c .args .t)
 leaf c =
     let start = begun c in
-    leaf-is (start .args .words .now) (good-all _ (start .pre .0 .0)) (start .args .t) (length (start .args .path .now)) (start .pre .1 .1 .0) (start .pre .1 .1 .1 .0) (c .type-to-access-trie .ensures)
+    leaf-is (start .args .words .now) (good-all _ (start .pre .typed .type .types .good-items)) (start .args .t) (length (start .args .path .now)) (start .pre .typed .near) (start .pre .room) (c .type-to-access-trie .ensures)
 
 type-to-access-trie-requires : tie.Need-type-to-access-trie-requires
 type-to-access-trie-requires c κs =
     let pre = c .before .before .before .before .before .before .pre in
-    ((pre .0 .0, pre .0 .1 .0), (pre .0 .1 .1, (omega (arith, pre .1 .1 .1 .0), omega (arith, pre .1 .1 .0))))
+    ((pre .typed .type .types .good-items, pre .typed .type .types .tabled), (pre .typed .type .known, (omega (arith, pre .room), omega (arith, pre .typed .near))))
 
 slice-reshare-prefix-add-access-path : tie.Need-slice-reshare-prefix-add-access-path
 slice-reshare-prefix-add-access-path c = inside (c .before .before .before)
@@ -55,7 +55,7 @@ slice-aggregate-add-access-path c = sym (length-take-le _ _ (inside (c .before .
 add-access-path-requires : tie.Need-add-access-path-requires
 add-access-path-requires c κs =
     let written = c .before .before .before .before in
-    (begun written .pre .1 .0, (rw (length-take-le _ _ (inside written)) (few written), below written))
+    ((begun written .pre .typed .state, begun written .pre .typed .is-path), (rw (length-take-le _ _ (inside written)) (few written), below written))
 
 same-length : tie.Need-same-length
 same-length c = search needs

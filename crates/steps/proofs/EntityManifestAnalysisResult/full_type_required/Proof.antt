@@ -1,21 +1,20 @@
 -- `steps::EntityManifestAnalysisResult::full_type_required` meets its contract: every path of the top takes the trie of its type, and all go into the top's trie.
 -- Assumes nothing.
 use Prim.Native.Nat.{_<_}
-use mathlib.Core.Path.{_≡_, sym, _∙_}
+use mathlib.Core.Path.{_≡_, refl, sym, _∙_}
 use mathlib.Core.List.{List, _∷_}
 use native.Mathlib.Omega.{arith}
 use borrow.Author.Tests.{not-true, not-false}
-use lib.ListN.{replicate}
 use lib.Seq.{length-take-le}
 use Rattle.rules.specs.Steps.{Result}
 use Rattle.rules.specs.TypeLaws.{typesIn}
 use Rattle.schema.specs.Items.{itemsOf}
 use Rattle.wrapped_paths.specs.Code.{codes}
-use Rattle.type_table.specs.Tables.{Tabled}
+use Rattle.type_table.specs.Tables.{GoodTypes}
 use Rattle.full_types.specs.Required.{Took}
 use Rattle.result_stack.specs.Stacks.{pathsOf, Held}
-use Rattle.steps.specs.StepsLaws.{held-top, code-end-room, tries-end-room, copied-top, full-missing, full-few, full-walk, full-mismatch, full-pairs, full-places, full-paths, full-too-deep, full-rows, full-done}
-use Rattle.result_stack.specs.StackLaws.{top-code, top-at, tries-end}
+use Rattle.steps.specs.StepsLaws.{held-top, code-end-room, tries-end-room, copied-top, full-missing, full-few, full-mismatch, full-places, full-paths, full-too-deep, full-rows, full-done}
+use Rattle.result_stack.specs.StackLaws.{top-code, top-at, tries-end, top-stands}
 use borrow.Author.Needs.{needs}
 use Rattle.steps.proofs.EntityManifestAnalysisResult.full_type_required.Statement.{statement}
 use Rattle.steps.proofs.EntityManifestAnalysisResult.full_type_required.Tie as tie
@@ -24,8 +23,8 @@ use Rattle.steps.proofs.EntityManifestAnalysisResult.full_type_required
 known : (c : tie.Else1) → c .before .before .before .before .before .before .args .t < typesIn (itemsOf (c .before .before .before .before .before .before .args .words .now))
 known c = omega (arith, c .before .before .before .before .before .before .pre .0 .1 .1, c .if1 .left)
 
-tabled : (c : tie.Start) → Tabled (c .args .words .now) (c .args .table .now) (typesIn (itemsOf (c .args .words .now)))
-tabled c = rw (c .pre .0 .1 .1) at (c .pre .0 .1 .0)
+types : (c : tie.Start) → GoodTypes (c .args .words .now) (c .args .table .now) (typesIn (itemsOf (c .args .words .now)))
+types c = record { good-items = c .pre .0 .0; tabled = rw (c .pre .0 .1 .1) at (c .pre .0 .1 .0); all-types = refl }
 
 -- the result on top
 topped :
@@ -44,8 +43,6 @@ took :
     (top .paths)
     (c .before .before .before .before .before .before .before .before .before .before .before .before .before .before .args .t)
     (c .before .before .before .before .before .before .before .before .before .before .before .before .before .before .args .stack .code)
-    (replicate 256 0)
-    0
     (c .before .before .before .full-type-required .last .1 .1 .1 .1 .1 .0)
     (c .code-end .given .0 .0)
     (c .code-end .given .0 .1 .0)
@@ -70,8 +67,10 @@ full-type-required-requires c κs =
     let some-there = c .before .before in
     let type-test = some-there .before .before in
     let start = type-test .before .before .before .before .before .before in
-    let (top, rest, same, held) = topped some-there (start .pre .1 .0 .results) (start .pre .1 .0 .held) in
-    ((start .pre .0 .0, (tabled start, known type-test)), (full-walk (start .args .words .now) (start .pre .0 .0) (start .args .t) (known type-test) held, (omega arith, start .pre .1 .0 .few-words)))
+    let (top, rest, same, held) = topped some-there (start .pre .1 .0 .results) (start .pre .1 .0 .held) in (
+      record { types = types start; known = known type-test },
+      record { result = top-stands held; short = start .pre .1 .0 .few-words; places = refl },
+    )
 
 enum-known-code-end : tie.Need-enum-known-code-end
 enum-known-code-end c = search needs
@@ -131,7 +130,7 @@ returns-4 c results held place =
     let (top, rest, same, h) = topped some-there results held in
     rw same
     (full-too-deep (start .args .words .now) (start .pre .0 .0) (start .args .t) (known type-test) h (took at-pairs top rest h)
-    ((sym (at-deep .is-any-too-deep .ensures (start .args .words .now) (typesIn (itemsOf (start .args .words .now))) (tabled start) (full-pairs (start .args .words .now) (start .pre .0 .0) (start .args .t) (known type-test) h (took at-pairs top rest h)))) ∙ c .if3 .taken) place)
+    ((sym (at-deep .is-any-too-deep .ensures (start .args .words .now) (typesIn (itemsOf (start .args .words .now))) (types start .tabled) (took at-pairs top rest h .all-pairs))) ∙ c .if3 .taken) place)
 
 copy-trie-requires : tie.Need-copy-trie-requires
 copy-trie-requires c κs =
@@ -166,13 +165,17 @@ add-taken-requires c κs =
     let some-there = at-pairs .before .before .before .before .before .before in
     let type-test = some-there .before .before in
     let start = type-test .before .before .before .before .before .before in
-    let (top, rest, same, held) = topped some-there (start .pre .1 .0 .results) (start .pre .1 .0 .held) in (
-      (start .pre .0 .0, tabled start),
-      (
-        (at-copy .copy-trie .ensures .0, (full-pairs (start .args .words .now) (start .pre .0 .0) (start .args .t) (known type-test) held (took at-pairs top rest held), full-paths (start .args .words .now) (start .pre .0 .0) (start .args .t) (known type-test) held (took at-pairs top rest held))),
-        ((sym (at-deep .is-any-too-deep .ensures (start .args .words .now) (typesIn (itemsOf (start .args .words .now))) (tabled start) (full-pairs (start .args .words .now) (start .pre .0 .0) (start .args .t) (known type-test) held (took at-pairs top rest held)))) ∙ deep-test .if3 .left),
-      ),
-    )
+    let (top, rest, same, held) = topped some-there (start .pre .1 .0 .results) (start .pre .1 .0 .held) in
+    let taken = took at-pairs top rest held in
+    record {
+      types = types start;
+      state = at-copy .copy-trie .ensures .0;
+      all-pairs = taken .all-pairs;
+      all-paths = full-paths (start .args .words .now) (start .pre .0 .0) (start .args .t) (known type-test) held taken;
+      none-deep =
+          sym (at-deep .is-any-too-deep .ensures (start .args .words .now) (typesIn (itemsOf (start .args .words .now))) (types start .tabled) (taken .all-pairs))
+          ∙ deep-test .if3 .left;
+    }
 
 same-length-3 : tie.Need-same-length-3
 same-length-3 c = search needs
@@ -198,7 +201,7 @@ returns-5 c results held place =
     (full-rows (start .args .words .now) (start .pre .0 .0) (start .args .t) (known type-test)
     h
     (took at-pairs top rest h)
-    ((sym (at-deep .is-any-too-deep .ensures (start .args .words .now) (typesIn (itemsOf (start .args .words .now))) (tabled start) (full-pairs (start .args .words .now) (start .pre .0 .0) (start .args .t) (known type-test) h (took at-pairs top rest h)))) ∙ deep-test .if3 .left)
+    ((sym (at-deep .is-any-too-deep .ensures (start .args .words .now) (typesIn (itemsOf (start .args .words .now))) (types start .tabled) (took at-pairs top rest h .all-pairs))) ∙ deep-test .if3 .left)
     (at-copy .copy-trie .last .1 .1 .0)
     (copied-top h (at-copy .copy-trie .ensures))
     (at-add .add-taken .ensures)
@@ -254,7 +257,7 @@ returns-6 c results held =
     (full-done (start .args .words .now) (start .pre .0 .0) (start .args .t) (known type-test)
     h
     (took at-pairs top rest h)
-    ((sym (at-deep .is-any-too-deep .ensures (start .args .words .now) (typesIn (itemsOf (start .args .words .now))) (tabled start) (full-pairs (start .args .words .now) (start .pre .0 .0) (start .args .t) (known type-test) h (took at-pairs top rest h)))) ∙ deep-test .if3 .left)
+    ((sym (at-deep .is-any-too-deep .ensures (start .args .words .now) (typesIn (itemsOf (start .args .words .now))) (types start .tabled) (took at-pairs top rest h .all-pairs))) ∙ deep-test .if3 .left)
     (at-copy .copy-trie .last .1 .1 .0)
     (copied-top h (at-copy .copy-trie .ensures))
     (at-add .add-taken .ensures)
