@@ -10,18 +10,25 @@ use Rattle.rules.specs.Paths.{Taken}
 use Rattle.rules.specs.StepLaws.{IsPath}
 use Rattle.rules.specs.TypeLaws.{typesIn, deepest}
 use Rattle.schema.specs.Items.{itemsOf}
-use Rattle.wrapped_paths.specs.Code.{pathAt}
+use Rattle.wrapped_paths.specs.Code.{stepsAt, pathAt}
 use Rattle.path_tries.specs.Nodes.{IsState}
 use Rattle.type_table.specs.Tables.{typeRows, Tabled, GoodTypes, KnownType}
 
--- a path and its type as one word
+-- a path's place and its type as one word
+abbrev pub placeIn : ℕ → ℕ
+placeIn pair = pair / 1024
+
+abbrev pub typeIn : ℕ → ℕ
+typeIn pair = pair % 1024
+
+-- the path and its type
 abbrev pub takenAt : List ℕ → ℕ → Taken
-takenAt words pair = record { path = pathAt words (pair / 1024); type = pair % 1024 }
+takenAt words pair = record { path = pathAt words (placeIn pair); type = typeIn pair }
 
 unfoldable pub AllPairs : List ℕ → ℕ → List ℕ → Type 0
 AllPairs words types [] = Unit
 AllPairs words types (pair ∷ pairs) =
-    (pair / 1024 + 1 + getD words (pair / 1024) 0 / 8 ≤ length words) × ((pair % 1024 < types) × AllPairs words types pairs)
+    (placeIn pair + 1 + stepsAt words (placeIn pair) ≤ length words) × ((typeIn pair < types) × AllPairs words types pairs)
 
 -- some path with the trie of its type below it exceeds the steps of a position
 unfoldable pub anyTakenDeep : List ℕ → List Taken → Bool

@@ -13,7 +13,7 @@ ghost use Rattle.wrapped_paths.specs.Turns.{Noted};
 ghost use Rattle.wrapped_paths.specs.declared.WrappedAccessPaths.the-variants.{RecordLiteral as RecordHead};
 ghost use Rattle.path_tries.specs.Nodes.{Became};
 ghost use Rattle.type_table.specs.Tables.{KnownType};
-ghost use Rattle.full_types.specs.Pairs.{AllPairs, takenAt, DeepBy, TypedPath, TypedLeaf, TypedPairs};
+ghost use Rattle.full_types.specs.Pairs.{placeIn, typeIn, AllPairs, takenAt, DeepBy, TypedPath, TypedLeaf, TypedPairs};
 ghost use Rattle.full_types.specs.Required.{typeOr, fieldTypes, setAwaits, StackedBy, RecordStacked, PathsStacked, Meeting, pairsFor, PairRoom, Room, RequiredAt};
 use path_tries::FEW;
 use path_tries::add_access_path;
@@ -27,6 +27,13 @@ use words::Search;
 use wrapped_paths::WrappedAccessPaths;
 use wrapped_paths::measure;
 use wrapped_paths::name_place;
+use wrapped_paths::steps_at;
+
+// A path's place and the type that it takes.
+struct Pair {
+    place: usize,
+    t: u64,
+}
 
 // What wrapped paths and a type give: the place after them and so many pairs of a path and a type, or a literal against its type.
 pub enum Required {
@@ -46,12 +53,24 @@ pub const NODES: usize = 256;
 // The number past all types that waits for a field which its record type has not.
 const PASSED_OVER: u64 = 1_024;
 
-// A path's place and its type as one word.
-fn pair_of(place: usize, t: u64) -> u64
-    requires { ⌜ (place < 2 ^ 53) × (t < 1024) ⌝ }
-    ensures { λ r. ⌜ r ≡ place * 1024 + t ⌝ }
-{
-    place as u64 * 1_024 + t
+impl Pair {
+    // What a word says.
+    fn of(word: u64) -> Pair
+        ensures { λ r. ⌜ (r .place ≡ placeIn word) × (r .t ≡ typeIn word) ⌝ }
+    {
+        Pair {
+            place: (word / 1_024) as usize,
+            t: word % 1_024,
+        }
+    }
+
+    // The word that says it.
+    fn word(self) -> u64
+        requires { ⌜ (self .place < 2 ^ 53) × (self .t < 1024) ⌝ }
+        ensures { λ r. ⌜ r ≡ self .place * 1024 + self .t ⌝ }
+    {
+        self.place as u64 * 1_024 + self.t
+    }
 }
 
 // The place after the attributes that begin at a place.
@@ -185,7 +204,7 @@ fn note_pair(head: WrappedAccessPaths, at: usize, t: u64, pairs: &mut [u64], cou
     match head {
         WrappedAccessPaths::Empty => count,
         WrappedAccessPaths::AccessPath(_) => {
-            pairs[count] = pair_of(at, t);
+            pairs[count] = Pair { place: at, t }.word();
             count + 1
         }
         WrappedAccessPaths::Union => count,
@@ -244,8 +263,8 @@ pub fn is_any_too_deep(code: &[u64], table: &[u64], pairs: &[u64]) -> bool
 {
     let mut i = 0;
     while i < pairs.len() {
-        let at = (pairs[i] / 1_024) as usize;
-        if Kind::STEPS < code[at] / 8 + size_at(table, pairs[i] % 1_024).depth {
+        let pair = Pair::of(pairs[i]);
+        if Kind::STEPS < steps_at(code, pair.place) + size_at(table, pair.t).depth {
             return true;
         }
         i += 1;
@@ -299,8 +318,8 @@ pub fn add_taken(
 {
     let mut i = 0;
     while i < pairs.len() {
-        let at = (pairs[i] / 1_024) as usize;
-        if !add_typed(trie, path_at(code, at), words, table, pairs[i] % 1_024) {
+        let pair = Pair::of(pairs[i]);
+        if !add_typed(trie, path_at(code, pair.place), words, table, pair.t) {
             return false;
         }
         i += 1;

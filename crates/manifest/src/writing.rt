@@ -11,7 +11,9 @@ ghost use Rattle.rows.specs.Words.{rowOf, isWord};
 ghost use Rattle.rows.specs.States.{allWords, rowsOf};
 ghost use Rattle.manifest.specs.Lines.{lineFor};
 ghost use Rattle.words.specs.Runs.{Wrote};
+use rows::RequestType;
 use rows::Row;
+use rows::StepParts;
 use text::Decimal;
 
 // The letters of the steps, by kind.
@@ -61,10 +63,11 @@ fn write_entry(out: &mut [u8], at: usize, request: u64) -> usize
     requires { ⌜ at + length (lineFor (read 0 request false)) ≤ length (now out) ⌝ }
     ensures { λ r. ⌜ Wrote (now (out .entry)) at (lineFor (read 0 request false)) (now (out .exit)) r ⌝ }
 {
+    let parts = RequestType::of(request);
     let principal = put_byte(out, at, b'A', text::TAB);
-    let action = put_number(out, principal, request / 0x1_0000 / 0x1_0000, text::TAB);
-    let resource = put_number(out, action, request / 0x1_0000 % 0x1_0000, text::TAB);
-    put_number(out, resource, request % 0x1_0000, text::LF)
+    let action = put_number(out, principal, parts.principal, text::TAB);
+    let resource = put_number(out, action, parts.action, text::TAB);
+    put_number(out, resource, parts.resource, text::LF)
 }
 
 // `N` depth step id mark
@@ -72,10 +75,11 @@ fn write_node(out: &mut [u8], at: usize, depth: u64, step: u64, marked: bool) ->
     requires { ⌜ (0 < depth) × (kindOf step ≤ 5) × (at + length (lineFor (read depth step marked)) ≤ length (now out)) ⌝ }
     ensures { λ r. ⌜ Wrote (now (out .entry)) at (lineFor (read depth step marked)) (now (out .exit)) r ⌝ }
 {
+    let parts = StepParts::of(step);
     let number = put_byte(out, at, b'N', text::TAB);
     let kind = put_number(out, number, depth, text::TAB);
-    let id = put_byte(out, kind, letter(step / 0x1_0000), text::TAB);
-    let mark = put_number(out, id, step % 0x1_0000, text::TAB);
+    let id = put_byte(out, kind, letter(parts.kind), text::TAB);
+    let mark = put_number(out, id, parts.id, text::TAB);
     put_byte(out, mark, digit(marked), text::LF)
 }
 

@@ -19,6 +19,7 @@ use rows::Kind;
 use rows::Row;
 use words::Reply;
 use words::larger;
+use wrapped_paths::steps_at;
 
 // The words of a trie: its count and at most as many nodes as a contribution has. A path with its leaf has at most 24 more.
 pub const TRIE: usize = 1_026;
@@ -169,7 +170,7 @@ pub fn path_at(code: &[u64], at: usize) -> &[u64]
     ensures { λ r. ⌜ now r ≡ pathAt (now (code .entry)) at ⌝ }
 {
     let first = at + 1;
-    let end = first + (code[at] / 8) as usize;
+    let end = first + steps_at(code, at) as usize;
     &code[first..end]
 }
 
@@ -204,7 +205,7 @@ pub fn is_too_deep(code: &[u64], places: &[u64], below: u64) -> bool
     let mut i = 0;
     while i < places.len() {
         let at = places[i] as usize;
-        if Kind::STEPS < code[at] / 8 + below {
+        if Kind::STEPS < steps_at(code, at) + below {
             return true;
         }
         i += 1;
@@ -221,7 +222,7 @@ pub fn longest(code: &[u64], places: &[u64]) -> u64
     let mut i = 0;
     while i < places.len() {
         let at = places[i] as usize;
-        most = larger(most, code[at] / 8);
+        most = larger(most, steps_at(code, at));
         i += 1;
     }
     most

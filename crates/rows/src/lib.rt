@@ -7,7 +7,9 @@ mod row;
 pub use lawful::is_lawful;
 pub use place::Held;
 pub use place::has;
+pub use row::RequestType;
 pub use row::Row;
+pub use row::StepParts;
 ghost use mathlib.Core.Path.{_≡_};
 ghost use Rattle.rows.specs.States.{wordsOf, formOf};
 

@@ -2,7 +2,7 @@
 ghost use mathlib.Core.Path.{_≡_};
 ghost use mathlib.Core.Bool.{false};
 ghost use Prim.Native.Nat.{_<_, _^_};
-ghost use Rattle.rules.specs.Tries.{isStep, isRoot};
+ghost use Rattle.rules.specs.Tries.{kindOf, idOf, isStep, isRoot, principalOf, actionOf, resourceOf};
 ghost use Rattle.rules.specs.Listing.{read};
 ghost use Rattle.rows.specs.Words.{wordOf, depthIn, markIn, stepIn, keyIn, joinedWord, isWord};
 
@@ -31,6 +31,42 @@ fn is_root(step: u64) -> bool
         return false;
     }
     is_step(step)
+}
+
+// The parts of a request type's number.
+pub struct RequestType {
+    pub principal: u64,
+    pub action: u64,
+    pub resource: u64,
+}
+
+impl RequestType {
+    pub fn of(request: u64) -> RequestType
+        ensures { λ r. ⌜ (r .principal ≡ principalOf request) × (r .action ≡ actionOf request) × (r .resource ≡ resourceOf request) ⌝ }
+    {
+        RequestType {
+            principal: request / 0x1_0000 / 0x1_0000,
+            action: request / 0x1_0000 % 0x1_0000,
+            resource: request % 0x1_0000,
+        }
+    }
+}
+
+// The parts of a step's number: its place in f p a r c e, and its id.
+pub struct StepParts {
+    pub kind: u64,
+    pub id: u64,
+}
+
+impl StepParts {
+    pub fn of(step: u64) -> StepParts
+        ensures { λ r. ⌜ (r .kind ≡ kindOf step) × (r .id ≡ idOf step) ⌝ }
+    {
+        StepParts {
+            kind: step / 0x1_0000,
+            id: step % 0x1_0000,
+        }
+    }
 }
 
 pub struct Row {

@@ -120,9 +120,12 @@ pub record Result (words : List ℕ) (at : ℕ) : Type 0 where
   pub few-nodes : nodesOf paths ≤ 256
   pub good-paths : AllPaths (pathsIn paths)
 
--- the path whose head stands at a place, and that all of it stands there
+-- how many steps the path has whose head stands at a place, the path, and that all of it stands there
+abbrev pub stepsAt : List ℕ → ℕ → ℕ
+stepsAt words at = getD words at 0 / 8
+
 unfoldable pub pathAt : List ℕ → ℕ → Path
-pathAt words at = take (getD words at 0 / 8) (drop (at + 1) words)
+pathAt words at = take (stepsAt words at) (drop (at + 1) words)
 
 unfoldable pub pathsAt : List ℕ → List ℕ → List Path
 pathsAt words [] = []
@@ -130,7 +133,7 @@ pathsAt words (at ∷ places) = pathAt words at ∷ pathsAt words places
 
 unfoldable pub AllWithin : List ℕ → List ℕ → Type 0
 AllWithin words [] = Unit
-AllWithin words (at ∷ places) = (at + 1 + getD words at 0 / 8 ≤ length words) × AllWithin words places
+AllWithin words (at ∷ places) = (at + 1 + stepsAt words at ≤ length words) × AllWithin words places
 
 -- the places of the paths among wrapped paths
 pub record Found (words : List ℕ) (paths : Paths) (places : List ℕ) (count : ℕ) : Type 0 where

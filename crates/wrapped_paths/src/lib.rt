@@ -4,7 +4,7 @@ ghost use mathlib.Core.Path.{_≡_};
 ghost use mathlib.Core.List.{[], _∷_};
 ghost use Prim.Native.Nat.{_+_, _^_, _<_, _≤_};
 ghost use lib.ListN.{length, getD};
-ghost use Rattle.wrapped_paths.specs.Code.{headOf, wordFor, sizeOf, wrapsOf, placeOf, Standing, Measures, Result, FoundAt, ExtendedAt};
+ghost use Rattle.wrapped_paths.specs.Code.{headOf, wordFor, sizeOf, wrapsOf, placeOf, stepsAt, Standing, Measures, Result, FoundAt, ExtendedAt};
 ghost use Rattle.wrapped_paths.specs.Turns.{placesFor, Noted, sidesOf, Took, Gained, Literal, FieldTaken, Room, Growing, Turned};
 use words::copy_words;
 
@@ -120,6 +120,14 @@ impl WrappedAccessPaths {
             WrappedAccessPaths::RecordLiteral(_) => 0,
         }
     }
+}
+
+// How many steps the path has whose head stands at a place.
+pub fn steps_at(code: &[u64], at: usize) -> u64
+    requires { ⌜ at < length (now code) ⌝ }
+    ensures { λ r. ⌜ r ≡ stepsAt (now (code .entry)) at ⌝ }
+{
+    code[at] / 8
 }
 
 // How far so many wrapped paths go from a place on.

@@ -1,16 +1,17 @@
 -- `full_types::add_taken` meets its contract: adding the pairs that are left gives the trie of all.
 -- Assumes nothing.
 use borrow.Author.Needs.{needs}
-use Prim.Native.Nat.{_+_, _/_, _%_, _≤_, _<_, _-_}
+use Prim.Native.Nat.{_+_, _≤_, _<_, _-_}
 use lib.ListN.{getD, length}
 use Rattle.rules.specs.Paths.{addAccessPath, typeToAccessTrie}
 use Rattle.rules.specs.TypeLaws.{typesIn}
 use Rattle.rows.specs.States.{rowsIn}
-use Rattle.wrapped_paths.specs.Code.{pathAt, AllWithin}
+use Rattle.wrapped_paths.specs.Code.{stepsAt, pathAt, AllWithin}
 use Rattle.path_tries.specs.Nodes.{Became}
 use mathlib.Core.Path.{_∙_, sym}
 use borrow.Author.Tests.{not-true, not-false}
 use Rattle.schema.specs.Items.{itemsOf}
+use Rattle.full_types.specs.Pairs.{placeIn, typeIn}
 use Rattle.full_types.specs.FullLaws.{Adding, adding-none, adding-all, adding-over, adding-next, pair-at, taken-path, taken-near}
 use Rattle.full_types.proofs.add_taken.Statement.{statement}
 use Rattle.full_types.proofs.add_taken.Tie as tie
@@ -26,7 +27,7 @@ pair :
     (c : tie.In-loop Inv-loop μ-loop) →
     let args = c .before .before .before .before .before .before .before .args in
     let next = getD (args .pairs .now) (c .before .loop .i) 0 in
-    (next / 1024 + 1 + getD (args .code .now) (next / 1024) 0 / 8 ≤ length (args .code .now)) × (next % 1024 < typesIn (itemsOf (args .words .now)))
+    (placeIn next + 1 + stepsAt (args .code .now) (placeIn next) ≤ length (args .code .now)) × (typeIn next < typesIn (itemsOf (args .words .now)))
 pair c =
     pair-at (c .before .before .before .before .before .before .before .args .code .now) (typesIn (itemsOf (c .before .before .before .before .before .before .before .args .words .now))) (c .before .before .before .before .before .before .before .args .pairs .now) (c .before .loop .i) (c .before .before .before .before .before .before .before .pre .all-pairs) (c .loop-test .taken)
 
@@ -36,40 +37,38 @@ added :
     let args = c .before .before .before .before .before .before .before .before .before .before .before .before .args in
     let next = getD (args .pairs .now) (c .before .before .before .before .before .before .loop .i) 0 in
     Became
-    (addAccessPath (rowsIn (c .before .before .before .before .before .before .loop .trie)) (pathAt (args .code .now) (next / 1024)) (typeToAccessTrie (itemsOf (args .words .now)) (next % 1024)))
+    (addAccessPath (rowsIn (c .before .before .before .before .before .before .loop .trie)) (pathAt (args .code .now) (placeIn next)) (typeToAccessTrie (itemsOf (args .words .now)) (typeIn next)))
     (c .add-typed .last .0)
     (c .add-typed .result)
-added c = rw (c .before .before .path-at .ensures) at (c .add-typed .ensures)
+added c = let said = c .before .before .before .of .ensures in rw (c .before .path-at .ensures, said .0, said .1) at (c .add-typed .ensures)
 
 loop-holds : tie.Need-loop-holds Inv-loop μ-loop
 loop-holds c = adding-none _ _ _ _ (c .before .before .before .before .before .pre .state)
 
-mul-at : tie.Need-mul-at Inv-loop μ-loop
-mul-at c = search needs
+mul-of : tie.Need-mul-of Inv-loop μ-loop
+mul-of c = search needs
 
-shared-slice-read-at : tie.Need-shared-slice-read-at Inv-loop μ-loop
-shared-slice-read-at c = search needs
+shared-slice-read-of : tie.Need-shared-slice-read-of Inv-loop μ-loop
+shared-slice-read-of c = search needs
+
+of-requires : tie.Need-of-requires Inv-loop μ-loop
+of-requires c κs = search needs
 
 path-at-requires : tie.Need-path-at-requires Inv-loop μ-loop
 unfolding AllWithin
-path-at-requires c κs = (pair (c .before .before) .0, tt)
-
-mul-add-typed : tie.Need-mul-add-typed Inv-loop μ-loop
-mul-add-typed c = search needs
-
-shared-slice-read-add-typed : tie.Need-shared-slice-read-add-typed Inv-loop μ-loop
-shared-slice-read-add-typed c = search needs
+path-at-requires c κs = rw (c .before .of .ensures .0) (pair (c .before .before .before) .0, tt)
 
 add-typed-requires : tie.Need-add-typed-requires Inv-loop μ-loop
 add-typed-requires c κs =
     let pre = c .before .before .before .before .before .before .before .before .before .before .before .pre in
     let args = c .before .before .before .before .before .before .before .before .before .before .before .args in
     let inside = c .before .before .before .before .loop-test .taken in
+    let said = c .before .before .of .ensures in
     record {
-      type = record { types = pre .types; known = pair (c .before .before .before .before) .1 };
+      type = record { types = pre .types; known = rw (said .1) (pair (c .before .before .before .before) .1) };
       state = c .before .before .before .before .before .loop .inv .state;
-      is-path = rw (c .before .path-at .ensures) (taken-path (args .code .now) (args .pairs .now) (c .before .before .before .before .before .loop .i) (pre .all-paths) inside);
-      near = rw (c .before .path-at .ensures) (taken-near (args .words .now) (args .code .now) (args .pairs .now) (c .before .before .before .before .before .loop .i) (pre .none-deep) inside);
+      is-path = rw (c .path-at .ensures, said .0) (taken-path (args .code .now) (args .pairs .now) (c .before .before .before .before .before .loop .i) (pre .all-paths) inside);
+      near = rw (c .path-at .ensures, said .0, said .1) (taken-near (args .words .now) (args .code .now) (args .pairs .now) (c .before .before .before .before .before .loop .i) (pre .none-deep) inside);
     }
 
 same-length : tie.Need-same-length Inv-loop μ-loop
@@ -100,11 +99,10 @@ add-taken-spec =
     Inv-loop
     μ-loop
     loop-holds
-    mul-at
-    shared-slice-read-at
+    mul-of
+    shared-slice-read-of
+    of-requires
     path-at-requires
-    mul-add-typed
-    shared-slice-read-add-typed
     add-typed-requires
     same-length
     returns

@@ -1,9 +1,13 @@
 -- `full_types::is_any_too_deep` meets its contract: no path that is passed goes too deep.
 -- Assumes nothing.
 use borrow.Author.Needs.{needs}
-use Prim.Native.Nat.{_+_, _-_, _/_, _%_, _≤_, _<_}
+use Prim.Native.Nat.{_+_, _-_, _≤_, _<_}
+use mathlib.Core.Path.{_≡_}
 use native.Mathlib.Omega.{arith}
 use lib.ListN.{length, getD}
+use Rattle.wrapped_paths.specs.Code.{stepsAt}
+use Rattle.type_table.specs.Tables.{depthIn}
+use Rattle.full_types.specs.Pairs.{placeIn, typeIn}
 use Rattle.full_types.specs.FullLaws.{Looking, looking-none, looking-all, looking-deep, looking-next, pair-at}
 use Rattle.full_types.proofs.is_any_too_deep.Statement.{statement}
 use Rattle.full_types.proofs.is_any_too_deep.Tie as tie
@@ -13,44 +17,49 @@ Inv-loop code table pairs i₀ i = Looking code table pairs i
 
 abbrev μ-loop : tie.MeasureT-loop
 μ-loop code table pairs i₀ i = length pairs - i
-    -- the next pair is one
 
+-- the next pair is one
 pair :
     (c : tie.In-loop Inv-loop μ-loop) →
     let args = c .before .before .before .before .before .args in
     let i = c .before .loop .i in
-    (getD (args .pairs .now) i 0 / 1024 + 1 + getD (args .code .now) (getD (args .pairs .now) i 0 / 1024) 0 / 8 ≤ length (args .code .now)) × (getD (args .pairs .now) i 0 % 1024 < 1024)
+    (placeIn (getD (args .pairs .now) i 0) + 1 + stepsAt (args .code .now) (placeIn (getD (args .pairs .now) i 0)) ≤ length (args .code .now)) × (typeIn (getD (args .pairs .now) i 0) < 1024)
 pair c = pair-at (c .before .before .before .before .before .args .code .now) 1024 (c .before .before .before .before .before .args .pairs .now) (c .before .loop .i) (c .before .before .before .before .before .pre .0) (c .loop-test .taken)
 
 loop-holds : tie.Need-loop-holds Inv-loop μ-loop
 loop-holds c = looking-none _ _ _
 
-mul-at : tie.Need-mul-at Inv-loop μ-loop
-mul-at c = search needs
+-- the steps of its path, and the depth of its type's trie
+steps : (c : tie.After-steps-at Inv-loop μ-loop) →
+    let args = c .before .before .before .before .before .before .before .before .args in
+    c .steps-at .result ≡ stepsAt (args .code .now) (placeIn (getD (args .pairs .now) (c .before .before .before .before .loop .i) 0))
+steps c = rw (c .before .of .ensures .0) at (c .steps-at .ensures)
 
-shared-slice-read-at : tie.Need-shared-slice-read-at Inv-loop μ-loop
-shared-slice-read-at c = search needs
+deep : (c : tie.After-size-at Inv-loop μ-loop) →
+    let args = c .before .before .before .before .before .before .before .before .before .args in
+    c .size-at .result .depth ≡ depthIn (getD (args .table .now) (typeIn (getD (args .pairs .now) (c .before .before .before .before .before .loop .i) 0)) 0)
+deep c = rw (c .before .before .of .ensures .1) at (c .size-at .ensures .1 .0)
 
-mul-if1 : tie.Need-mul-if1 Inv-loop μ-loop
-mul-if1 c = omega (arith, pair (c .before))
+mul-of : tie.Need-mul-of Inv-loop μ-loop
+mul-of c = search needs
 
-shared-slice-read-if1 : tie.Need-shared-slice-read-if1 Inv-loop μ-loop
-shared-slice-read-if1 c = omega (arith, pair (c .before .before))
+shared-slice-read-of : tie.Need-shared-slice-read-of Inv-loop μ-loop
+shared-slice-read-of c = search needs
 
-mul-size-at : tie.Need-mul-size-at Inv-loop μ-loop
-mul-size-at c = search needs
+of-requires : tie.Need-of-requires Inv-loop μ-loop
+of-requires c κs = search needs
 
-shared-slice-read-size-at : tie.Need-shared-slice-read-size-at Inv-loop μ-loop
-shared-slice-read-size-at c = search needs
+steps-at-requires : tie.Need-steps-at-requires Inv-loop μ-loop
+steps-at-requires c κs = omega (arith, pair (c .before .before), c .of .ensures)
 
 size-at-requires : tie.Need-size-at-requires Inv-loop μ-loop
-size-at-requires c κs = omega (arith, pair (c .before .before .before))
+size-at-requires c κs = omega (arith, pair (c .before .before .before), c .before .of .ensures)
 
 add-if1 : tie.Need-add-if1 Inv-loop μ-loop
-add-if1 c = omega (arith, c .before .before .before .shared-slice-known5 .given (getD (c .before .before .before .before .before .before .before .before .before .before .args .pairs .now) (c .before .before .before .before .before .before .loop .i) 0 / 1024), c .before .size-at .ensures .1 .0)
+add-if1 c = omega (arith, pair (c .before .before .before .before .before), steps (c .before .before), deep (c .before))
 
 returns : tie.Need-returns Inv-loop μ-loop
-returns c = looking-deep (c .before .before .before .before .before .before .before .loop .inv) (c .before .before .before .before .before .before .loop-test .taken) (rw (c .before .before .size-at .ensures .1 .0) at (c .if1 .taken))
+returns c = looking-deep (c .before .before .before .before .before .before .before .loop .inv) (c .before .before .before .before .before .before .loop-test .taken) (rw (steps (c .before .before .before), deep (c .before .before)) at (c .if1 .taken))
 
 add-i : tie.Need-add-i Inv-loop μ-loop
 add-i c = search needs
@@ -59,7 +68,7 @@ loop-less : tie.Need-loop-less Inv-loop μ-loop
 loop-less c = search needs
 
 loop-again : tie.Need-loop-again Inv-loop μ-loop
-loop-again c = looking-next (c .before .before .before .before .before .before .before .loop .inv) (c .before .before .before .before .before .before .loop-test .taken) (rw (c .before .before .size-at .ensures .1 .0) at (c .if1 .left))
+loop-again c = looking-next (c .before .before .before .before .before .before .before .loop .inv) (c .before .before .before .before .before .before .loop-test .taken) (rw (steps (c .before .before .before), deep (c .before .before)) at (c .if1 .left))
 
 returns-2 : tie.Need-returns-2 Inv-loop μ-loop
 returns-2 c = looking-all (c .before .loop .inv) (c .loop-test .left)
@@ -71,12 +80,10 @@ is-any-too-deep-spec =
     Inv-loop
     μ-loop
     loop-holds
-    mul-at
-    shared-slice-read-at
-    mul-if1
-    shared-slice-read-if1
-    mul-size-at
-    shared-slice-read-size-at
+    mul-of
+    shared-slice-read-of
+    of-requires
+    steps-at-requires
     size-at-requires
     add-if1
     returns

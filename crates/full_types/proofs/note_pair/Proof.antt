@@ -12,8 +12,8 @@ enum-told c = search needs
 enum-told-2 : tie.Need-enum-told-2
 enum-told-2 c = search needs
 
-pair-of-requires : tie.Need-pair-of-requires
-pair-of-requires c κs = search needs
+word-requires : tie.Need-word-requires
+word-requires c κs = search needs
 
 mul-pairs : tie.Need-mul-pairs
 mul-pairs c = search needs
@@ -42,7 +42,7 @@ same-length c = search needs
 returns-2 : tie.Need-returns-2
 returns-2 c =
     let start = c .before .before .before .before in
-    rw (c .before .enum-told2 .given .1, c .pair-of .ensures) (noted-one (start .args .pairs .now) (start .args .count) _ (start .pre .room))
+    rw (c .before .enum-told2 .given .1, c .word .ensures) (noted-one (start .args .pairs .now) (start .args .count) _ (start .pre .room))
 
 returns-3 : tie.Need-returns-3
 returns-3 c = rw (c .enum-told3 .given .1) (noted-none _ _ (omega (arith, c .before .before .before .pre .room)))
@@ -59,7 +59,7 @@ note-pair-spec =
     (tie.spec
     enum-told
     enum-told-2
-    pair-of-requires
+    word-requires
     mul-pairs
     slice-write-pairs
     add-result

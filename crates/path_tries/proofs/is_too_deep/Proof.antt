@@ -23,17 +23,14 @@ mul-at c = search needs
 shared-slice-read-at : tie.Need-shared-slice-read-at Inv-loop μ-loop
 shared-slice-read-at c = search needs
 
-mul-if1 : tie.Need-mul-if1 Inv-loop μ-loop
-mul-if1 c = omega (arith, looking-within (c .before .before .loop .inv .1) (c .before .loop-test .taken))
-
-shared-slice-read-if1 : tie.Need-shared-slice-read-if1 Inv-loop μ-loop
-shared-slice-read-if1 c = omega (arith, looking-within (c .before .before .before .loop .inv .1) (c .before .before .loop-test .taken))
+steps-at-requires : tie.Need-steps-at-requires Inv-loop μ-loop
+steps-at-requires c κs = omega (arith, looking-within (c .before .before .loop .inv .1) (c .before .loop-test .taken))
 
 add-if1 : tie.Need-add-if1 Inv-loop μ-loop
-add-if1 c = omega (arith, looking-within (c .before .before .before .loop .inv .1) (c .before .before .loop-test .taken))
+add-if1 c = omega (arith, looking-within (c .before .before .before .loop .inv .1) (c .before .before .loop-test .taken), c .steps-at .ensures)
 
 returns : tie.Need-returns Inv-loop μ-loop
-returns c = looking-deep (c .before .before .before .before .loop .inv .1) (c .before .before .before .loop-test .taken) (c .if1 .taken)
+returns c = looking-deep (c .before .before .before .before .loop .inv .1) (c .before .before .before .loop-test .taken) (rw (c .before .steps-at .ensures) at (c .if1 .taken))
 
 add-i : tie.Need-add-i Inv-loop μ-loop
 add-i c = search needs
@@ -42,7 +39,7 @@ loop-less : tie.Need-loop-less Inv-loop μ-loop
 loop-less c = search needs
 
 loop-again : tie.Need-loop-again Inv-loop μ-loop
-loop-again c = (omega arith, looking-next (c .before .before .before .before .loop .inv .1) (c .before .before .before .loop-test .taken) (c .if1 .left))
+loop-again c = (omega arith, looking-next (c .before .before .before .before .loop .inv .1) (c .before .before .before .loop-test .taken) (rw (c .before .steps-at .ensures) at (c .if1 .left)))
 
 returns-2 : tie.Need-returns-2 Inv-loop μ-loop
 returns-2 c = looking-all (c .before .loop .inv .1) (omega arith)
@@ -56,8 +53,7 @@ is-too-deep-spec =
     loop-holds
     mul-at
     shared-slice-read-at
-    mul-if1
-    shared-slice-read-if1
+    steps-at-requires
     add-if1
     returns
     add-i

@@ -23,11 +23,8 @@ mul-at c = search needs
 shared-slice-read-at : tie.Need-shared-slice-read-at Inv-loop μ-loop
 shared-slice-read-at c = search needs
 
-mul-larger : tie.Need-mul-larger Inv-loop μ-loop
-mul-larger c = omega (arith, longest-within (c .before .before .loop .inv .1) (c .before .loop-test .taken))
-
-shared-slice-read-larger : tie.Need-shared-slice-read-larger Inv-loop μ-loop
-shared-slice-read-larger c = omega (arith, longest-within (c .before .before .before .loop .inv .1) (c .before .before .loop-test .taken))
+steps-at-requires : tie.Need-steps-at-requires Inv-loop μ-loop
+steps-at-requires c κs = omega (arith, longest-within (c .before .before .loop .inv .1) (c .before .loop-test .taken))
 
 larger-requires : tie.Need-larger-requires Inv-loop μ-loop
 larger-requires c κs = search needs
@@ -39,7 +36,7 @@ loop-less : tie.Need-loop-less Inv-loop μ-loop
 loop-less c = search needs
 
 loop-again : tie.Need-loop-again Inv-loop μ-loop
-loop-again c = (omega arith, rw (c .larger .ensures) (longest-next (c .before .before .before .before .loop .inv .1) (c .before .before .before .loop-test .taken)))
+loop-again c = (omega arith, rw (c .larger .ensures, c .before .steps-at .ensures) (longest-next (c .before .before .before .before .loop .inv .1) (c .before .before .before .loop-test .taken)))
 
 returns : tie.Need-returns Inv-loop μ-loop
 returns c = longest-all (c .before .loop .inv .1) (omega arith)
@@ -53,8 +50,7 @@ longest-spec =
     loop-holds
     mul-at
     shared-slice-read-at
-    mul-larger
-    shared-slice-read-larger
+    steps-at-requires
     larger-requires
     add-i
     loop-less
