@@ -43,13 +43,13 @@ RanBy items text code tries (Refused number place) = run items text ≡ refused 
 RanBy items text code tries Full = NotLarge code tries
 
 -- a reply, and what the buffer then holds
-abbrev pub Stored : List Item → ℕ → List ℕ → List ℕ → List ℕ → Reply → Type 0
-Stored items request text out out′ reply =
+abbrev pub AnswerStored : List Item → ℕ → List ℕ → List ℕ → List ℕ → Reply → Type 0
+AnswerStored items request text out out′ reply =
     (reply ≡ storing out (analyse items request text) .reply) × (out′ ≡ storing out (analyse items request text) .buffer)
 
 -- where the runs are full, the buffer is as it was
 abbrev pub AnsweredBy : List Item → ℕ → List ℕ → List ℕ → List ℕ → Answered → Type 0
-AnsweredBy items request text out out′ (Replied reply) = Stored items request text out out′ reply
+AnsweredBy items request text out out′ (Replied reply) = AnswerStored items request text out out′ reply
 AnsweredBy items request text out out′ Filled = out′ ≡ out
 
 -- and they are not the large ones

@@ -67,7 +67,7 @@ use Rattle.result_stack.specs.Stacks.{trieWords, stacked, Held, Holding, Reache
 use Rattle.type_table.specs.TypeTableLaws.{good-all, good-lawful}
 use Rattle.full_types.specs.FullLaws.{item-keys}
 use Rattle.result_stack.specs.StackLaws.{trie-count, trie-rows, at-within, at-few, code-left, tries-left, top-trie, top-at}
-use Rattle.analysis.specs.Outcomes.{Finished, NotLarge, Stored}
+use Rattle.analysis.specs.Outcomes.{Finished, NotLarge, AnswerStored}
 use Rattle.step_lines.specs.declared.Step.{Step as StepRead}
 use Rattle.step_lines.specs.declared.Step.the-variants.{Root, None, Attr, Union, Drop, Full, In, Set, Rec, Bad}
 use Rattle.result_stack.specs.declared.Stack.{Stack}
@@ -275,12 +275,12 @@ module _ (words : List ℕ) (at : ℕ) where
 pub answered-refused :
     (items : List Item) (request : ℕ) (text out : List ℕ) {number place : ℕ}
     → run items text ≡ refused number place
-    → Stored items request text out out (Refused number place)
+    → AnswerStored items request text out out (Refused number place)
 answered-refused items request text out e = rw e (refl, refl)
 
 module _ {items : List Item} {text code tries : List ℕ} {stack : Stack} {lines : ℕ} (finished : Finished items text code tries stack lines) where
   -- not one result is left
-  pub answered-many : (request : ℕ) (out : List ℕ) → stack .results ≢ 1 → Stored items request text out out (Refused 6 lines)
+  pub answered-many : (request : ℕ) (out : List ℕ) → stack .results ≢ 1 → AnswerStored items request text out out (Refused 6 lines)
   answered-many request out many = rw (finished .ran) (go (finished .results) (finished .held .layout .as-many))
     where
       go :
@@ -316,5 +316,5 @@ module _ {items : List Item} {text code tries : List ℕ} {stack : Stack} {lines
     pub answered-one :
         (request : ℕ) (out : List ℕ) {out′ : List ℕ}
         → ((trie : List Row) (rest : List ℕ) → drop (stack .tries) tries ≡ trieWords trie ++ rest → out′ ≡ holding out (read 0 request false ∷ trie))
-        → Stored items request text out out′ Done
+        → AnswerStored items request text out out′ Done
     answered-one request out written = rw (finished .ran, only .1) (refl, written (only .0 .trie) [] only-there)

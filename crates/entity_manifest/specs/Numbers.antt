@@ -8,13 +8,13 @@ use Rattle.rows.specs.declared.place.Held.the-variants.{Missing, There, Unheld}
 use Rattle.manifest.specs.declared.listing.Written.{Written}
 use Rattle.manifest.specs.declared.listing.Written.the-variants.{Bytes, Refused as Unwritten}
 
-abbrev pub numberOf : Reply → ℕ
-numberOf Done = 0
-numberOf (Refused number place) = number
+abbrev pub replyNumber : Reply → ℕ
+replyNumber Done = 0
+replyNumber (Refused number place) = number
 
-abbrev pub placeOf : Reply → ℕ
-placeOf Done = 0
-placeOf (Refused number place) = place
+abbrev pub replyPlace : Reply → ℕ
+replyPlace Done = 0
+replyPlace (Refused number place) = place
 
 -- of writing the count of bytes
 abbrev pub writtenNumber : Written → ℕ

@@ -5,8 +5,8 @@ mod c;
 ghost use mathlib.Core.Path.{_≡_};
 ghost use Rattle.union.specs.Unions.{unionOf};
 ghost use Rattle.rows.specs.States.{hasOf};
-ghost use Rattle.manifest.specs.Outcomes.{emptyIn, addIn, readIn, writeIn};
-ghost use Rattle.schema.specs.Items.{readIn as readSchemaIn};
+ghost use Rattle.manifest.specs.Outcomes.{emptyIn, addIn, readListingIn, writeIn};
+ghost use Rattle.schema.specs.Items.{readSchemaIn};
 ghost use Rattle.analysis.specs.Outcomes.{analyseIn};
 use manifest::EntityManifest;
 pub use manifest::Written;
@@ -45,7 +45,7 @@ pub fn has(kind: Kind, state: &[u64], place: &[u64]) -> Held
 
 // Reads a text, the listing of a manifest or of a contribution, into a state.
 pub fn read_listing(kind: Kind, text: &[u8], out: &mut [u64]) -> Reply
-    ensures { λ r. ⌜ (r ≡ readIn kind (now (text .entry)) (now (out .entry)) .reply) × (now (out .exit) ≡ readIn kind (now (text .entry)) (now (out .entry)) .buffer) ⌝ }
+    ensures { λ r. ⌜ (r ≡ readListingIn kind (now (text .entry)) (now (out .entry)) .reply) × (now (out .exit) ≡ readListingIn kind (now (text .entry)) (now (out .entry)) .buffer) ⌝ }
 {
     manifest::read_listing(kind, text, out)
 }

@@ -18,16 +18,16 @@ use Rattle.rules.specs.Schema.{Item, fromType, lastType, attributesOf, attribut
 use Rattle.rules.specs.Paths.{deeper, childrenOf, typeBelow, attributesAt, toRootAccessTrieWithLeaf, typeToAccessTrie, addAccessPath, addTaken, Fields, noField, field, fieldOf, isThere, hasAll}
 use Rattle.rules.specs.StepLaws.{Each, IsPath, AllKeys, each-append, or-neither, add-taken-length}
 use Rattle.rules.specs.TypeLaws.{deepest, deeper-none, deeper-length, path-length}
-use Rattle.rows.specs.Words.{wordOf, rowOf, depthIn, stepIn, markIn, typeIn}
+use Rattle.rows.specs.Words.{wordOf, rowIn, depthIn, stepIn, markIn, typeIn}
 use Rattle.rows.specs.States.{rowsOf, rowsIn}
 use Rattle.words.specs.Runs.{wordsIn, Wrote}
 use Rattle.schema.specs.Items.{itemIn, itemsOf, isItem, allItems}
 use Rattle.words.specs.RunLaws.{taken-back, wrote-length}
-use Rattle.wrapped_paths.specs.Code.{pathAt, placeOf, namesIn}
+use Rattle.wrapped_paths.specs.Code.{pathAt, namePlace, namesIn}
 use Rattle.path_tries.specs.NodeLaws.{path-steps}
 use Rattle.type_table.specs.TypeTableLaws.{items-at}
 use Rattle.path_tries.specs.Nodes.{belowWord, allBelow, IsState, Became, leafOf}
-use Rattle.type_table.specs.Tables.{typeRows, depthIn as sizeDepth, nodesIn as sizeNodes, Sized, Tabled}
+use Rattle.type_table.specs.Tables.{typeRows, typeDepth as sizeDepth, typeNodes as sizeNodes, Sized, Tabled}
 use Rattle.full_types.specs.Pairs.{takenAt, AllPairs, anyTakenDeep, AllTakenPaths}
 
 -- Pairs of a path and a type.
@@ -61,7 +61,7 @@ deep-here words table items types pair tabled within less =
     (sym (capped-sum-above 24 (getD words (pair / 1024) 0 / 8) (deepest (typeRows items (pair % 1024)))))
 
 -- i pairs are passed, and the others say what is answered
-pub record Looking (words table pairs : List ℕ) (i : ℕ) : Type 0 where
+pub record LookingTaken (words table pairs : List ℕ) (i : ℕ) : Type 0 where
   pub inside : i ≤ length pairs
   pub left :
       (items : List ℕ) (types : ℕ)
@@ -69,10 +69,10 @@ pub record Looking (words table pairs : List ℕ) (i : ℕ) : Type 0 where
       → AllPairs words types pairs
       → anyTakenDeep items (map (takenAt words) pairs) ≡ anyTakenDeep items (map (takenAt words) (drop i pairs))
 
-pub looking-none : (words table pairs : List ℕ) → Looking words table pairs 0
+pub looking-none : (words table pairs : List ℕ) → LookingTaken words table pairs 0
 looking-none words table pairs = record { inside = omega arith; left = λ items types tabled all. refl }
 
-module _ {words table pairs : List ℕ} {i : ℕ} (looking : Looking words table pairs i) where
+module _ {words table pairs : List ℕ} {i : ℕ} (looking : LookingTaken words table pairs i) where
   -- no pair is left
   pub looking-all :
       length pairs ≤ i
@@ -108,7 +108,7 @@ module _ {words table pairs : List ℕ} {i : ℕ} (looking : Looking words table
 
     pub looking-next :
         getD words (getD pairs i 0 / 1024) 0 / 8 + sizeDepth (getD table (getD pairs i 0 % 1024) 0) ≤ 24
-        → Looking words table pairs (i + 1)
+        → LookingTaken words table pairs (i + 1)
     looking-next h = record {
       inside = omega arith;
       left = λ items types tabled all. next-deep items types tabled all ∙ rw (le-ltb 24 _ h);
@@ -199,7 +199,7 @@ module _ (d s : ℕ) (some-depth : 0 < d) (near : d ≤ 24) (field : s ≤ 65535
   field-step : stepIn (wordOf (read d s false)) ≡ s
   field-step = rw (field-depth, ne-eqb d 0 (λ e. omega arith)) (omega arith)
 
-  field-row : rowOf (wordOf (read d s false)) ≡ read d s false
+  field-row : rowIn (wordOf (read d s false)) ≡ read d s false
   field-row = λ i. record { depth = field-depth i; step = field-step i; mark = mark i; type = type i }
     where
       mark : markIn (wordOf (read d s false)) ≡ false
@@ -231,7 +231,7 @@ words-of-rows steps (row ∷ rows) all near =
     let shallow : row .depth ≤ 24 = omega arith in
     let (rest, rest-below) = words-of-rows steps rows (all .1) (omega arith) in
     let word : wordOf row ≡ wordOf (read (row .depth) (row .step) false) = ap wordOf (f .plain) in
-    let back : rowOf (wordOf row) ≡ row = rw word (field-row (row .depth) (row .step) (f .below) shallow (f .field) ∙ sym (f .plain)) in
+    let back : rowIn (wordOf row) ≡ row = rw word (field-row (row .depth) (row .step) (f .below) shallow (f .field) ∙ sym (f .plain)) in
     let depth : depthIn (wordOf row) ≡ row .depth = rw word (field-depth (row .depth) (row .step) (f .below) shallow (f .field)) in
     let one : belowWord (wordOf row) ≡ true = rw word (field-below (row .depth) (row .step) (f .below) shallow (f .field)) in
     ((λ i. back i ∷ rest i), rw (one, depth, le-leb (steps + row .depth) 24 (omega arith), rest-below))
@@ -326,16 +326,16 @@ taken-near items words (pair ∷ pairs) (suc i) none-deep h =
     taken-near items words pairs i (or-neither (ltb 24 (length (pathAt words (pair / 1024)) + deepest (typeRows items (pair % 1024)))) (anyTakenDeep items (map (takenAt words) pairs)) none-deep .1) (omega arith)
 
 -- i pairs are added, and the others lead to all
-pub record Adding (items : List Item) (words pairs start : List ℕ) (i : ℕ) (trie : List ℕ) : Type 0 where
+pub record AddingTaken (items : List Item) (words pairs start : List ℕ) (i : ℕ) (trie : List ℕ) : Type 0 where
   pub inside : i ≤ length pairs
   pub state : IsState trie
   pub left :
       addTaken items (rowsIn trie) (map (takenAt words) (drop i pairs)) ≡ addTaken items (rowsIn start) (map (takenAt words) pairs)
 
-pub adding-none : (items : List Item) (words pairs start : List ℕ) → IsState start → Adding items words pairs start 0 start
+pub adding-none : (items : List Item) (words pairs start : List ℕ) → IsState start → AddingTaken items words pairs start 0 start
 adding-none items words pairs start state = record { inside = omega arith; state = state; left = refl }
 
-module _ {items : List Item} {words pairs start : List ℕ} {i : ℕ} {trie : List ℕ} (adding : Adding items words pairs start i trie) where
+module _ {items : List Item} {words pairs start : List ℕ} {i : ℕ} {trie : List ℕ} (adding : AddingTaken items words pairs start i trie) where
   -- no pair is left
   pub adding-all : length pairs ≤ i → Became (addTaken items (rowsIn start) (map (takenAt words) pairs)) trie true
   unfolding addTaken
@@ -349,7 +349,7 @@ module _ {items : List Item} {words pairs start : List ℕ} {i : ℕ} {trie : Li
       all = rw (drop-of-length-le pairs h) at (adding .left)
 
       few : length (rowsIn trie) ≤ 1024
-      few = rw (length-map (wordsIn trie) rowOf, length-take) (omega (arith, adding .state .few-rows))
+      few = rw (length-map (wordsIn trie) rowIn, length-take) (omega (arith, adding .state .few-rows))
 
   module _ (more : i < length pairs) where
     next-added :
@@ -384,26 +384,26 @@ module _ {items : List Item} {words pairs start : List ℕ} {i : ℕ} {trie : Li
                 rw (← next-added) (omega (arith, add-taken-length items one (map (takenAt words) (drop (i + 1) pairs))))
 
         -- the next fits
-        pub adding-next : fits ≡ true → Adding items words pairs start (i + 1) trie′
+        pub adding-next : fits ≡ true → AddingTaken items words pairs start (i + 1) trie′
         adding-next e = record { inside = omega arith; state = became .still; left = rw (became .there e) next-added }
 
 -- The names of a record literal.
 
 -- a name has a field exactly where it has a place
 named-not :
-    (f : ℕ) (fields : Fields) → placeOf (namesIn fields) f ≡ length (namesIn fields) → isThere (fieldOf f fields) ≡ false
-unfolding placeOf namesIn fieldOf
+    (f : ℕ) (fields : Fields) → namePlace (namesIn fields) f ≡ length (namesIn fields) → isThere (fieldOf f fields) ≡ false
+unfolding namePlace namesIn fieldOf
 named-not f noField e = refl
 named-not f (field name paths fields) e =
     by-test (eqb name f)
     (λ here. let first : 0 ≡ suc (length (namesIn fields)) = rw here at e in absurd (omega arith))
     (λ other.
-    let later : suc (placeOf (namesIn fields) f) ≡ suc (length (namesIn fields)) = rw other at e in
+    let later : suc (namePlace (namesIn fields) f) ≡ suc (length (namesIn fields)) = rw other at e in
     rw other (named-not f fields (omega arith)))
 
 named-yes :
-    (f : ℕ) (fields : Fields) → (placeOf (namesIn fields) f ≡ length (namesIn fields) → ⊥) → isThere (fieldOf f fields) ≡ true
-unfolding placeOf namesIn fieldOf
+    (f : ℕ) (fields : Fields) → (namePlace (namesIn fields) f ≡ length (namesIn fields) → ⊥) → isThere (fieldOf f fields) ≡ true
+unfolding namePlace namesIn fieldOf
 named-yes f noField n = absurd (n refl)
 named-yes f (field name paths fields) n =
     by-test (eqb name f)
@@ -438,7 +438,7 @@ module _ {attributes names : List ℕ} {i : ℕ} (checking : Checking attributes
 
     -- the next is not named, or is
     pub checking-not :
-        placeOf names (getD attributes i 0 / 2 ^ 40) ≡ length names
+        namePlace names (getD attributes i 0 / 2 ^ 40) ≡ length names
         → (fields : Fields)
         → names ≡ namesIn fields
         → false ≡ hasAll fields (itemsOf attributes)
@@ -446,7 +446,7 @@ module _ {attributes names : List ℕ} {i : ℕ} (checking : Checking attributes
         sym (next-checked fields e ∙ rw (named-not (getD attributes i 0 / 2 ^ 40) fields (rw e at h)))
 
     pub checking-next :
-        (placeOf names (getD attributes i 0 / 2 ^ 40) ≡ length names → ⊥) → Checking attributes names (i + 1)
+        (namePlace names (getD attributes i 0 / 2 ^ 40) ≡ length names → ⊥) → Checking attributes names (i + 1)
     checking-next h = record {
       inside = omega arith;
       left =

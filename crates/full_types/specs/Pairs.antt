@@ -15,20 +15,20 @@ use Rattle.path_tries.specs.Nodes.{IsState}
 use Rattle.type_table.specs.Tables.{typeRows, Tabled, GoodTypes, KnownType}
 
 -- a path's place and its type as one word
-abbrev pub placeIn : ℕ → ℕ
-placeIn pair = pair / 1024
+abbrev pub pairPlace : ℕ → ℕ
+pairPlace pair = pair / 1024
 
-abbrev pub typeIn : ℕ → ℕ
-typeIn pair = pair % 1024
+abbrev pub pairType : ℕ → ℕ
+pairType pair = pair % 1024
 
 -- the path and its type
 abbrev pub takenAt : List ℕ → ℕ → Taken
-takenAt words pair = record { path = pathAt words (placeIn pair); type = typeIn pair }
+takenAt words pair = record { path = pathAt words (pairPlace pair); type = pairType pair }
 
 unfoldable pub AllPairs : List ℕ → ℕ → List ℕ → Type 0
 AllPairs words types [] = Unit
 AllPairs words types (pair ∷ pairs) =
-    (placeIn pair + 1 + stepsAt words (placeIn pair) ≤ length words) × ((typeIn pair < types) × AllPairs words types pairs)
+    (pairPlace pair + 1 + stepsAt words (pairPlace pair) ≤ length words) × ((pairType pair < types) × AllPairs words types pairs)
 
 -- some path with the trie of its type below it exceeds the steps of a position
 unfoldable pub anyTakenDeep : List ℕ → List Taken → Bool

@@ -36,7 +36,7 @@ use Rattle.full_types.specs.declared.Awaited.{Awaited}
 use Rattle.full_types.specs.declared.Awaited.the-variants.{Left, Mismatch as NoneWait}
 use Rattle.full_types.specs.declared.Required.{Required}
 use Rattle.full_types.specs.declared.Required.the-variants.{Next, Mismatch}
-use Rattle.wrapped_paths.specs.Code.{headOf, namesIn, code, Result}
+use Rattle.wrapped_paths.specs.Code.{headOf, namesIn, code, ResultStands}
 use Rattle.wrapped_paths.specs.Turns.{Noted}
 use Rattle.full_types.specs.Pairs.{takenAt, AllPairs}
 use Rattle.type_table.specs.Tables.{KnownType}
@@ -120,20 +120,20 @@ pub record PairRoom (at t : ℕ) (pairs : List ℕ) (count : ℕ) : Type 0 where
   pub room : count < length pairs
 
 -- wrapped paths of a result stand there, and there is a place for each of their paths
-pub record Room (words : List ℕ) (at : ℕ) (pairs : List ℕ) : Type 0 where
-  pub result : Result words at
+pub record PairsRoom (words : List ℕ) (at : ℕ) (pairs : List ℕ) : Type 0 where
+  pub result : ResultStands words at
   pub short : length words < 2 ^ 53
   pub places : length pairs ≡ 256
 
 -- which path takes which type, in pairs
-pub record Took (words : List ℕ) (items : List Item) (paths : Paths) (t at : ℕ) (pairs : List ℕ) (end count : ℕ) : Type 0 where
+pub record TypesTook (words : List ℕ) (items : List Item) (paths : Paths) (t at : ℕ) (pairs : List ℕ) (end count : ℕ) : Type 0 where
   pub ends : end ≡ at + length (code paths)
   pub in-pairs : count ≤ length pairs
   pub all-pairs : AllPairs words (typesIn items) (take count pairs)
   pub required : fullTypeRequired items paths t ≡ some (map (takenAt words) (take count pairs))
 
 abbrev pub RequiredBy : List ℕ → List Item → Paths → ℕ → ℕ → List ℕ → Required → Type 0
-RequiredBy words items paths t at pairs (Next end count) = Took words items paths t at pairs end count
+RequiredBy words items paths t at pairs (Next end count) = TypesTook words items paths t at pairs end count
 RequiredBy words items paths t at pairs Mismatch = fullTypeRequired items paths t ≡ none
 
 abbrev pub RequiredAt : List ℕ → List Item → ℕ → ℕ → List ℕ → Required → Type 0

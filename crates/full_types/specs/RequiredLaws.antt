@@ -27,12 +27,12 @@ use Rattle.full_types.specs.declared.Awaited.the-variants.{Left, Mismatc
 use Rattle.full_types.specs.declared.Required.the-variants.{Next}
 use Rattle.wrapped_paths.specs.Code.{headOf, sizeOf, wrapsOf, countIn, namesIn, code, codes, nodesOfAll, pathAt, Standing, Measures}
 use Rattle.wrapped_paths.specs.Turns.{Noted}
-use Rattle.wrapped_paths.specs.CodeLaws.{pathsOf, headFor, unwrapped, unwrapped-many, names-many, paths-many, nodes-turn, nodes-words, many-nodes, Ahead, next-of, next-within, next-room, next-word, next-head, next-payload, next-ahead, nodes-next, words-next, noted-none, noted-one}
+use Rattle.wrapped_paths.specs.CodeLaws.{fieldPaths, headFor, unwrapped, unwrapped-many, names-many, paths-many, nodes-turn, nodes-words, many-nodes, Ahead, next-of, next-within, next-room, next-word, next-head, next-payload, next-ahead, nodes-next, words-next, noted-none, noted-one}
 use Rattle.wrapped_paths.specs.AttrLaws.{stands-alone, head-here, behind-it, literal-names, empty-of, path-of, union-of, record-of, set-of}
-use Rattle.type_table.specs.TypeTableLaws.{good-lawful, Stands, tabled-stands, tabled-inside, stands-kind, stands-element, stands-attributes}
+use Rattle.type_table.specs.TypeTableLaws.{good-lawful, TypeStands, tabled-stands, tabled-inside, stands-kind, stands-element, stands-attributes}
 use Rattle.full_types.specs.Pairs.{takenAt, AllPairs}
-use Rattle.type_table.specs.Tables.{placeIn, KnownType}
-use Rattle.full_types.specs.Required.{passedOver, typeOr, fieldTypes, setAwaits, awaits, Stacked, StackedBy, RecordStacked, PathsStacked, Meeting, pairsFor, Took, RequiredBy}
+use Rattle.type_table.specs.Tables.{typePlace, KnownType}
+use Rattle.full_types.specs.Required.{passedOver, typeOr, fieldTypes, setAwaits, awaits, Stacked, StackedBy, RecordStacked, PathsStacked, Meeting, pairsFor, TypesTook, RequiredBy}
 
 -- ---- the type of a field, by a search among the attributes
 
@@ -110,7 +110,7 @@ module _ {words table : List ℕ} {t : ℕ} (k : KnownType words table t) where
   pub known-inside : t < length table
   known-inside = tabled-inside words table (k .types .good-items) (k .types .tabled) (k .known)
 
-  pub known-stands : {place : ℕ} → place ≡ placeIn (getD table t 0) → Stands words t place
+  pub known-stands : {place : ℕ} → place ≡ typePlace (getD table t 0) → TypeStands words t place
   known-stands e = tabled-stands words table (k .types .good-items) (k .types .tabled) (k .known) e
 
 map-take : {A B : Type 0} (f : A → B) (n : ℕ) (xs : List A) → map f (take n xs) ≡ take n (map f xs)
@@ -124,7 +124,7 @@ attributes-short [] = omega arith
 attributes-short (it ∷ items) =
     by-test (eqb (it .tag) attributeLine) (λ e. rw e (omega (arith, attributes-short items))) (λ e. rw e (omega arith))
 
-module _ {words : List ℕ} {t place end : ℕ} (here : Stands words t place) (ends : end ≡ place + 1 + length (attributesOf (itemsOf (drop (place + 1) words)))) where
+module _ {words : List ℕ} {t place end : ℕ} (here : TypeStands words t place) (ends : end ≡ place + 1 + length (attributesOf (itemsOf (drop (place + 1) words)))) where
   pub attributes-inside : end ≤ length words
   attributes-inside =
       omega (
@@ -202,7 +202,7 @@ module _ {attributes : List Item} {names before : List ℕ} {left : ℕ} {waitin
 
 -- ---- a literal against a type that stands at a place
 
-module _ {schema : List ℕ} {t place : ℕ} (here : Stands schema t place) where
+module _ {schema : List ℕ} {t place : ℕ} (here : TypeStands schema t place) where
   pub set-none : (getD schema place 0 % 16 ≡ setType → ⊥) → setAwaits (itemsOf schema) t ≡ none
   set-none other = rw (ne-eqb (kindAt (itemsOf schema) t) setType (λ e. other (sym (stands-kind here) ∙ e)))
 
@@ -392,12 +392,12 @@ refers {words} {table} {t} k = record {
   few = types-few (itemsOf words) (good-lawful words (k .types .good-items));
   element = λ e. omega (arith, here .lines .element (sym (stands-kind here) ∙ e), stands-element here, k .known);
   attribute = λ name u e.
-      let at = attribute-stands name u (attributesOf (itemsOf (drop (placeIn (getD table t 0) + 1) words))) (rw (stands-attributes here) at e) in
+      let at = attribute-stands name u (attributesOf (itemsOf (drop (typePlace (getD table t 0) + 1) words))) (rw (stands-attributes here) at e) in
       let (tag, lower, rest) = below-at t (at .front) (at .a) (at .rest) (rw (at .split) at (here .lines .below)) in
       omega (arith, at .type, k .known);
 }
   where
-    here : Stands words t (placeIn (getD table t 0))
+    here : TypeStands words t (typePlace (getD table t 0))
     here = known-stands k refl
 
 -- ---- one head, and what it wraps
@@ -413,8 +413,8 @@ ownTaken (SetLiteral elements) t = []
 fields-turn :
     (items attributes : List Item) (fields : Fields)
     → ((name u : ℕ) → attributeType name attributes ≡ some u → u < 1024)
-    → fieldsRequired items fields attributes ≡ allRequired items (pathsOf fields) (fieldTypes attributes (namesIn fields))
-unfolding fieldsRequired allRequired pathsOf namesIn
+    → fieldsRequired items fields attributes ≡ allRequired items (fieldPaths fields) (fieldTypes attributes (namesIn fields))
+unfolding fieldsRequired allRequired fieldPaths namesIn
 fields-turn items attributes noField lower = refl
 fields-turn items attributes (field name paths fields) lower =
     go (attributeType name attributes) (lower name) (fields-turn items attributes fields lower)
@@ -422,9 +422,9 @@ fields-turn items attributes (field name paths fields) lower =
     go :
         (type : Option ℕ)
         → ((u : ℕ) → type ≡ some u → u < 1024)
-        → fieldsRequired items fields attributes ≡ allRequired items (pathsOf fields) (fieldTypes attributes (namesIn fields))
+        → fieldsRequired items fields attributes ≡ allRequired items (fieldPaths fields) (fieldTypes attributes (namesIn fields))
         → elim type [ none ↦ fieldsRequired items fields attributes | some t ↦ joined (fullTypeRequired items paths t) (fieldsRequired items fields attributes) ]
-        ≡ joined (requiredOr items paths (typeOr type)) (allRequired items (pathsOf fields) (fieldTypes attributes (namesIn fields)))
+        ≡ joined (requiredOr items paths (typeOr type)) (allRequired items (fieldPaths fields) (fieldTypes attributes (namesIn fields)))
     go none below rest = rw (← rest) (sym (joined-first (fieldsRequired items fields attributes)))
     go (some t) below rest = rw (required-or items paths t (below t refl), rest)
 
@@ -444,7 +444,7 @@ module _ {items : List Item} {t : ℕ} (r : Refers items t) where
   required-turn (RecordLiteral fields) =
       by-test (eqb (kindAt items t) recordType && hasAll fields (attributesAt items t))
       (λ e.
-      rw (e, joined-first (allRequired items (pathsOf fields) (fieldTypes (attributesAt items t) (namesIn fields))))
+      rw (e, joined-first (allRequired items (fieldPaths fields) (fieldTypes (attributesAt items t) (namesIn fields))))
       (fields-turn items (attributesAt items t) fields (λ name u given. omega (arith, r .attribute name u given, r .few))))
       (λ e. rw e)
   required-turn (SetLiteral elements) =
@@ -614,7 +614,7 @@ module _
             → length qs ≡ left
             → from + length (codes qs) ≡ at + length (code paths)
             → fullTypeRequired items paths t ≡ joined (some (map (takenAt words) (take count pairs))) (allRequired items qs (w .ts))
-            → Took words items paths t at pairs from count
+            → TypesTook words items paths t at pairs from count
         go [] many ends required = record {
           ends = omega arith;
           in-pairs = w .in-pairs;

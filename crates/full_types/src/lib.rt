@@ -13,8 +13,8 @@ ghost use Rattle.wrapped_paths.specs.Turns.{Noted};
 ghost use Rattle.wrapped_paths.specs.declared.WrappedAccessPaths.the-variants.{RecordLiteral as RecordHead};
 ghost use Rattle.path_tries.specs.Nodes.{Became};
 ghost use Rattle.type_table.specs.Tables.{KnownType};
-ghost use Rattle.full_types.specs.Pairs.{placeIn, typeIn, AllPairs, takenAt, DeepBy, TypedPath, TypedLeaf, TypedPairs};
-ghost use Rattle.full_types.specs.Required.{typeOr, fieldTypes, setAwaits, StackedBy, RecordStacked, PathsStacked, Meeting, pairsFor, PairRoom, Room, RequiredAt};
+ghost use Rattle.full_types.specs.Pairs.{pairPlace, pairType, AllPairs, takenAt, DeepBy, TypedPath, TypedLeaf, TypedPairs};
+ghost use Rattle.full_types.specs.Required.{typeOr, fieldTypes, setAwaits, StackedBy, RecordStacked, PathsStacked, Meeting, pairsFor, PairRoom, PairsRoom, RequiredAt};
 use path_tries::FEW;
 use path_tries::add_access_path;
 use path_tries::path_at;
@@ -56,7 +56,7 @@ const PASSED_OVER: u64 = 1_024;
 impl Pair {
     // What a word says.
     fn of(word: u64) -> Pair
-        ensures { λ r. ⌜ (r .place ≡ placeIn word) × (r .t ≡ typeIn word) ⌝ }
+        ensures { λ r. ⌜ (r .place ≡ pairPlace word) × (r .t ≡ pairType word) ⌝ }
     {
         Pair {
             place: (word / 1_024) as usize,
@@ -222,7 +222,7 @@ pub fn full_type_required(
     t: u64,
     pairs: &mut [u64],
 ) -> Required
-    requires { ⌜ KnownType (now words) (now table) t × Room (now code) at (now pairs) ⌝ }
+    requires { ⌜ KnownType (now words) (now table) t × PairsRoom (now code) at (now pairs) ⌝ }
     ensures { λ r. ⌜ RequiredAt (now (code .entry)) (itemsOf (now (words .entry))) t at (now (pairs .exit)) r ⌝ }
 {
     let mut waiting = [t; NODES];

@@ -17,15 +17,15 @@ rowRead (Of depth step marked end) = some (read depth step marked, end)
 rowRead Bad = none
 
 -- a row that was read, if any, with the place of its line's LF
-abbrev pub ended : ℕ → Option Row → Option (Row × ℕ)
-ended end none = none
-ended end (some row) = some (row, end)
+abbrev pub endedAt : ℕ → Option Row → Option (Row × ℕ)
+endedAt end none = none
+endedAt end (some row) = some (row, end)
 
 -- of the lines of what is left from a place on, the row of the first behind some fields of it, where an LF ends it
 abbrev pub rowFrom : List (List ℕ) → ℕ → List (List ℕ) → Option (Row × ℕ)
 rowFrom fields at [] = none
 rowFrom fields at (line ∷ []) = none
-rowFrom fields at (line ∷ next ∷ more) = ended (at + length line) (rowOf (fields ++ fieldsOf line))
+rowFrom fields at (line ∷ next ∷ more) = endedAt (at + length line) (rowOf (fields ++ fieldsOf line))
 
 -- the row of the line that begins at a place of a text
 abbrev pub rowAt : List ℕ → ℕ → Option (Row × ℕ)

@@ -28,8 +28,8 @@ addIn m c =
     (refusing 31 0 m)
 
 -- reading: 31, then what the text gives by line
-unfoldable pub readIn : Kind → List ℕ → List ℕ → Outcome
-readIn kind text out = cond (leb (wordsOf kind) (length out)) (storing out (readListing (formOf kind) text)) (refusing 31 0 out)
+unfoldable pub readListingIn : Kind → List ℕ → List ℕ → Outcome
+readListingIn kind text out = cond (leb (wordsOf kind) (length out)) (storing out (readListing (formOf kind) text)) (refusing 31 0 out)
 
 -- the one length of a text that is written
 abbrev pub bytesOf : Kind → ℕ

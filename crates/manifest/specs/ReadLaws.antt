@@ -46,9 +46,9 @@ use Rattle.rows.specs.declared.Limits.{Limits}
 use Rattle.words.specs.declared.Reply.the-variants.{Done}
 use Rattle.text.proofs.FoldLaws.{CameTo, came-start, came-end, came-cut, came-refused, came-next}
 use Rattle.manifest.specs.declared.reading.Sofar.{Sofar as Kept}
-use Rattle.manifest.specs.Lines.{ended, rowFrom, rowAt, kindIn}
-use Rattle.manifest.specs.Reads.{nodeRow, formFor, sofarIn, Room, RowFits, Passed, rowsBy, wordsFor}
-use Rattle.manifest.specs.Outcomes.{readIn}
+use Rattle.manifest.specs.Lines.{endedAt, rowFrom, rowAt, kindIn}
+use Rattle.manifest.specs.Reads.{nodeRow, formFor, sofarIn, RowRoom, RowFits, RowPassed, rowsBy, rowWords}
+use Rattle.manifest.specs.Outcomes.{readListingIn}
 use Rattle.words.specs.RunLaws.{stored-next}
 
 -- ---- the fields of a line, one after the other
@@ -210,7 +210,7 @@ module _ (fields : List (List ℕ)) (text : List ℕ) (at end : ℕ) (f : List �
           rw (same-end, parts, append-snoc fields f (fieldsOf line))
 
   -- a field that an LF ends is the last
-  pub row-last : drop at text ≡ f ++ LF ∷ drop (end + 1) text → rowFrom fields at (linesOf (drop at text)) ≡ ended end (rowOf (fields ++ (f ∷ [])))
+  pub row-last : drop at text ≡ f ++ LF ∷ drop (end + 1) text → rowFrom fields at (linesOf (drop at text)) ≡ endedAt end (rowOf (fields ++ (f ∷ [])))
   row-last split =
       let (line, others, q) = parted-some LF (drop (end + 1) text) in
       let lines : linesOf (drop at text) ≡ f ∷ line ∷ others = ap linesOf split ∙ parted-first lineless (drop (end + 1) text) ∙ rw q in
@@ -223,7 +223,7 @@ module _ (fields : List (List ℕ)) (text : List ℕ) (at : ℕ) where
   row-number {n} {end} ends =
       row-field fields text at end (decimal n) (free-decimal TAB n (omega arith)) (free-decimal LF n (omega arith)) (ends .2) (ends .3)
 
-  pub row-ends : {n end : ℕ} → NumberEnds LF text at n end → rowFrom fields at (linesOf (drop at text)) ≡ ended end
+  pub row-ends : {n end : ℕ} → NumberEnds LF text at n end → rowFrom fields at (linesOf (drop at text)) ≡ endedAt end
       (rowOf (fields ++ (decimal n ∷ [])))
   row-ends {n} {end} ends =
       row-last fields text at end (decimal n) (free-decimal TAB n (omega arith)) (free-decimal LF n (omega arith)) (ends .2) (ends .3)
@@ -513,13 +513,13 @@ row-fits (a ∷ b ∷ c ∷ d ∷ f ∷ g ∷ more) row e = absurd (Option·none
 -- a row that is not refused is passed with its step in the path and its word behind the others
 pub row-passed :
     (limits : Limits) (kept : Kept) (path rows : List ℕ) (row : Row) {word : ℕ} {next : Kept} →
-    Room limits kept path rows →
+    RowRoom limits kept path rows →
     refusal (formFor limits) (sofarIn kept path) row ≡ none →
     word ≡ wordOf row →
     next .len ≡ row .depth + 1 →
     next .entries ≡ cond (isEntry row) (kept .entries + 1) (kept .entries) →
     next .nodes ≡ cond (isEntry row) (kept .nodes) (kept .nodes + 1) →
-    Passed limits kept row path rows (set path (row .depth) (row .step)) (set rows (kept .entries + kept .nodes + 1) word) next
+    RowPassed limits kept row path rows (set path (row .depth) (row .step)) (set rows (kept .entries + kept .nodes + 1) word) next
 row-passed limits kept path rows row {word} {next} room unrefused packed len entries nodes =
     let allowed : Allowed (formFor limits) (sofarIn kept path) row = refusal-none (formFor limits) (sofarIn kept path) row unrefused in
     let fits : kept .len ≤ length path = omega (arith, room .path-length, room .in-path) in
@@ -554,7 +554,7 @@ row-passed limits kept path rows row {word} {next} room unrefused packed len ent
 -- ---- the lines of a text
 
 -- what is read of a line that an LF ends
-line-read : {text : List ℕ} {at end : ℕ} {line : List ℕ} → LineTo text at end line → rowAt text at ≡ ended end (rowOf (fieldsOf line))
+line-read : {text : List ℕ} {at end : ℕ} {line : List ℕ} → LineTo text at end line → rowAt text at ≡ endedAt end (rowOf (fieldsOf line))
 line-read {text} {at} {end} {line} to = rw (to .first, parted-some LF (drop (end + 1) text) .2, to .ends)
 
 -- a line that is read as a row has the row's fields, and an LF ends it
@@ -575,7 +575,7 @@ row-line text at row end e =
 
 -- the lines that were passed came to the rows whose words are stored
 pub record Reading (limits : Limits) (text : List ℕ) (kept : Kept) (path rows : List ℕ) (at line : ℕ) : Type 0 where
-  pub room : Room limits kept path rows
+  pub room : RowRoom limits kept path rows
   pub passed : List Row
   pub in-words : stored (kept .entries + kept .nodes) rows ≡ map wordOf passed
   pub came : CameTo (gathering (rowLine (formFor limits))) (start, []) text at line (sofarIn kept path, passed)
@@ -592,22 +592,22 @@ reading-none limits text path rows steps fits = record {
 module _ {limits : Limits} {text : List ℕ} {kept : Kept} {path rows : List ℕ} {at line : ℕ} (reading : Reading limits text kept path rows at line) where
   -- the words of what the text gives, by what its lines come to
   words-given : {answer : Answer (Folded (Sofar × List Row))} → foldText (gathering (rowLine (formFor limits))) text (start, []) ≡ answer →
-      wordsFor (gathered answer) ≡ wordsFor (rowsBy limits text)
+      rowWords (gathered answer) ≡ rowWords (rowsBy limits text)
   words-given e = rw (rows-folded (formFor limits) start 0 (linesOf text), e)
 
   -- no line is left
-  pub reading-all : length text ≤ at → accepted (stored (kept .entries + kept .nodes) rows) ≡ wordsFor (rowsBy limits text)
+  pub reading-all : length text ≤ at → accepted (stored (kept .entries + kept .nodes) rows) ≡ rowWords (rowsBy limits text)
   reading-all h = rw (reading .in-words) (words-given (came-end (reading .came) h))
 
   -- the next line is not read
-  pub reading-unread : rowAt text at ≡ none → at < length text → refused 1 line ≡ wordsFor (rowsBy limits text)
+  pub reading-unread : rowAt text at ≡ none → at < length text → refused 1 line ≡ rowWords (rowsBy limits text)
   reading-unread e more =
       words-given
       (by-line text at
       (λ alone. came-cut (reading .came) more alone)
       (λ end l to. came-refused (reading .came) to (rw (unread end (rowOf (fieldsOf l)) (sym (line-read to) ∙ e)))))
     where
-      unread : (end : ℕ) (o : Option Row) → ended end o ≡ none → o ≡ none
+      unread : (end : ℕ) (o : Option Row) → endedAt end o ≡ none → o ≡ none
       unread end none e = refl
       unread end (some row) e = absurd (Option·some-ne-none _ e)
 
@@ -621,14 +621,14 @@ module _ {limits : Limits} {text : List ℕ} {kept : Kept} {path rows : List ℕ
     reading-fits = let (_, _, read-row) = row-line text at row end e in row-fits _ row read-row
 
     -- its row is refused
-    pub reading-stopped : {number : ℕ} → refusal (formFor limits) (sofarIn kept path) row ≡ some number → refused number line ≡ wordsFor
+    pub reading-stopped : {number : ℕ} → refusal (formFor limits) (sofarIn kept path) row ≡ some number → refused number line ≡ rowWords
         (rowsBy limits text)
     reading-stopped stopped =
         let (_, to, read-row) = row-line text at row end e in
         words-given (came-refused (reading .came) to (rw (read-row, stopped)))
 
     -- its row is taken
-    pub reading-next : {path′ rows′ : List ℕ} {next : Kept} → Passed limits kept row path rows path′ rows′ next →
+    pub reading-next : {path′ rows′ : List ℕ} {next : Kept} → RowPassed limits kept row path rows path′ rows′ next →
         Reading limits text next path′ rows′ (end + 1) (line + 1)
     reading-next passed =
         let (_, to, read-row) = row-line text at row end e in
@@ -642,7 +642,7 @@ module _ {limits : Limits} {text : List ℕ} {kept : Kept} {path rows : List ℕ
 -- ---- what reading answers, by what was tested
 
 -- the words that were read are stored with their count, unless they have to be some and are none
-stored-words : (form : Form) (out : List ℕ) (answer : Answer (List Row)) (words : List ℕ) → accepted words ≡ wordsFor answer →
+stored-words : (form : Form) (out : List ℕ) (answer : Answer (List Row)) (words : List ℕ) → accepted words ≡ rowWords answer →
     (words ≡ [] → form .single ≡ false) → storing out (enteredBy form answer) ≡ record { reply = Done; buffer = sets out 0 (length words ∷ words) }
 stored-words form out (accepted []) words e some-words =
     let none-read : words ≡ [] = cc in
@@ -652,13 +652,13 @@ stored-words form out (accepted (row ∷ rows)) words e some-words =
     rw (all-read, length-map rows wordOf)
 stored-words form out (refused number place) words e some-words = absurd (let z : _≡_ {A = ℕ} 0 1 = cc in omega arith)
 
-no-words : (form : Form) (out : List ℕ) (answer : Answer (List Row)) → accepted [] ≡ wordsFor answer → form .single ≡ true →
+no-words : (form : Form) (out : List ℕ) (answer : Answer (List Row)) → accepted [] ≡ rowWords answer → form .single ≡ true →
     storing out (enteredBy form answer) ≡ refusing 1 0 out
 no-words form out (accepted []) e single = rw single
 no-words form out (accepted (row ∷ rows)) e single = absurd (let z : [] ≡ wordOf row ∷ map wordOf rows = cc in nil≢cons z)
 no-words form out (refused number place) e single = absurd (let z : _≡_ {A = ℕ} 0 1 = cc in omega arith)
 
-no-rows : (form : Form) (out : List ℕ) (answer : Answer (List Row)) (number place : ℕ) → refused number place ≡ wordsFor answer →
+no-rows : (form : Form) (out : List ℕ) (answer : Answer (List Row)) (number place : ℕ) → refused number place ≡ rowWords answer →
     storing out (enteredBy form answer) ≡ refusing number place out
 no-rows form out (accepted rows) number place e = absurd (let z : _≡_ {A = ℕ} 0 1 = cc in omega arith)
 no-rows form out (refused n p) number place e =
@@ -667,23 +667,23 @@ no-rows form out (refused n p) number place e =
     rw (same-number, same-place)
 
 module _ (kind : Kind) (text out : List ℕ) where
-  pub read-short : length out < wordsOf kind → readIn kind text out ≡ refusing 31 0 out
-  unfolding readIn
+  pub read-short : length out < wordsOf kind → readListingIn kind text out ≡ refusing 31 0 out
+  unfolding readListingIn
   read-short h = rw (lt-leb (wordsOf kind) (length out) h)
 
   module _ (long : wordsOf kind ≤ length out) {limits : Limits} (given : formFor limits ≡ formOf kind) where
-    read-long : readIn kind text out ≡ storing out (enteredBy (formOf kind) (rowsBy limits text))
-    unfolding readIn
+    read-long : readListingIn kind text out ≡ storing out (enteredBy (formOf kind) (rowsBy limits text))
+    unfolding readListingIn
     read-long = rw (le-leb (wordsOf kind) (length out) long, given)
 
-    pub read-refused : {number place : ℕ} → refused number place ≡ wordsFor (rowsBy limits text) →
-        readIn kind text out ≡ refusing number place out
+    pub read-refused : {number place : ℕ} → refused number place ≡ rowWords (rowsBy limits text) →
+        readListingIn kind text out ≡ refusing number place out
     read-refused {number} {place} e = read-long ∙ no-rows (formOf kind) out (rowsBy limits text) number place e
 
-    pub read-empty : accepted [] ≡ wordsFor (rowsBy limits text) → formOf kind .single ≡ true →
-        readIn kind text out ≡ refusing 1 0 out
+    pub read-empty : accepted [] ≡ rowWords (rowsBy limits text) → formOf kind .single ≡ true →
+        readListingIn kind text out ≡ refusing 1 0 out
     read-empty e single = read-long ∙ no-words (formOf kind) out (rowsBy limits text) e single
 
-    pub read-stored : {words : List ℕ} → accepted words ≡ wordsFor (rowsBy limits text) →
-        (words ≡ [] → formOf kind .single ≡ false) → readIn kind text out ≡ record { reply = Done; buffer = sets out 0 (length words ∷ words) }
+    pub read-stored : {words : List ℕ} → accepted words ≡ rowWords (rowsBy limits text) →
+        (words ≡ [] → formOf kind .single ≡ false) → readListingIn kind text out ≡ record { reply = Done; buffer = sets out 0 (length words ∷ words) }
     read-stored {words} e some-words = read-long ∙ stored-words (formOf kind) out (rowsBy limits text) words e some-words

@@ -38,7 +38,7 @@ abbrev pub numbered : ℕ → Option ℕ
 numbered number = cond (eqb number 0) none (some number)
 
 -- what is kept has room in the path and among the rows
-pub record Room (limits : Limits) (kept : Kept) (path rows : List ℕ) : Type 0 where
+pub record RowRoom (limits : Limits) (kept : Kept) (path rows : List ℕ) : Type 0 where
   pub path-length : length path ≡ 25
   pub in-path : kept .len ≤ 25
   pub few-entries : kept .entries ≤ limits .entries
@@ -50,31 +50,31 @@ abbrev pub RowFits : Row → Type 0
 RowFits row = (row .step < cond (isEntry row) (2 ^ 48) (2 ^ 19)) × (row .depth ≡ 0 → row .mark ≡ false)
 
 -- a row was taken: its word is stored behind the others, and reading has come past it
-pub record Passed (limits : Limits) (kept : Kept) (row : Row) (path rows path′ rows′ : List ℕ) (next : Kept) : Type 0 where
+pub record RowPassed (limits : Limits) (kept : Kept) (row : Row) (path rows path′ rows′ : List ℕ) (next : Kept) : Type 0 where
   pub unrefused : refusal (formFor limits) (sofarIn kept path) row ≡ none
   pub comes-past : sofarIn next path′ ≡ past (sofarIn kept path) row
   pub stored-row : stored (next .entries + next .nodes) rows′ ≡ stored (kept .entries + kept .nodes) rows ++ (wordOf row ∷ [])
-  pub room : Room limits next path′ rows′
+  pub room : RowRoom limits next path′ rows′
 
 -- what taking a row answers
-abbrev pub Taken : Limits → Kept → Row → List ℕ → List ℕ → List ℕ → List ℕ → Took → Type 0
-Taken limits kept row path rows path′ rows′ (Next next) = Passed limits kept row path rows path′ rows′ next
-Taken limits kept row path rows path′ rows′ (Stopped number) = refusal (formFor limits) (sofarIn kept path) row ≡ some number
+abbrev pub RowTaken : Limits → Kept → Row → List ℕ → List ℕ → List ℕ → List ℕ → Took → Type 0
+RowTaken limits kept row path rows path′ rows′ (Next next) = RowPassed limits kept row path rows path′ rows′ next
+RowTaken limits kept row path rows path′ rows′ (Stopped number) = refusal (formFor limits) (sofarIn kept path) row ≡ some number
 
 -- what a text gives, line after line
 abbrev pub rowsBy : Limits → List ℕ → Answer (List Row)
 rowsBy limits text = rowsFrom (formFor limits) start 0 (linesOf text)
 
 -- the words of the rows that a text gives
-abbrev pub wordsFor : Answer (List Row) → Answer (List ℕ)
-wordsFor (accepted rows) = accepted (map wordOf rows)
-wordsFor (refused number place) = refused number place
+abbrev pub rowWords : Answer (List Row) → Answer (List ℕ)
+rowWords (accepted rows) = accepted (map wordOf rows)
+rowWords (refused number place) = refused number place
 
 -- what was read into rows: the words that are stored, or a refusal
-abbrev pub gotIn : Got → List ℕ → Answer (List ℕ)
-gotIn (Rows count) rows = accepted (stored count rows)
-gotIn (Refused number place) rows = refused number place
+abbrev pub rowsGot : Got → List ℕ → Answer (List ℕ)
+rowsGot (Rows count) rows = accepted (stored count rows)
+rowsGot (Refused number place) rows = refused number place
 
-abbrev pub countOf : Got → ℕ
-countOf (Rows count) = count
-countOf (Refused number place) = 0
+abbrev pub rowCount : Got → ℕ
+rowCount (Rows count) = count
+rowCount (Refused number place) = 0

@@ -29,7 +29,7 @@ use Rattle.rules.specs.Tries.{
 }
 use Rattle.rules.specs.TrieLaws.{Ordered, ordered-true, node-step}
 use Rattle.rules.specs.Listing.{lineOf, letters, fieldsFor, listing, read}
-use Rattle.rows.specs.Words.{depthIn, stepIn, markIn, rowOf, isWord}
+use Rattle.rows.specs.Words.{depthIn, stepIn, markIn, rowIn, isWord}
 use Rattle.rows.specs.WordLaws.{is-row}
 use Rattle.rows.specs.States.{formOf, wordsOf, rowsOf, rowsIn, lawfulState}
 use Rattle.rows.specs.StateLaws.{rows-ordered, Within, limits-kept}
@@ -88,11 +88,11 @@ pub node-fields : (depth step : ℕ) (mark : Bool) → 0 < depth → fieldsFor (
 node-fields depth step mark h = rw (ne-eqb depth 0 (omega arith))
 
 -- the fields of a line fit from a place on
-pub record Room (out : List ℕ) (at : ℕ) (fields : List (List ℕ)) : Type 0 where
+pub record LineRoom (out : List ℕ) (at : ℕ) (fields : List (List ℕ)) : Type 0 where
   pub fits : at + length (lineOf fields) ≤ length out
 
 -- so do the first and the byte that ends it
-pub field-room : {out field : List ℕ} {fields : List (List ℕ)} {at : ℕ} → Room out at (field ∷ fields) → at + length field < length out
+pub field-room : {out field : List ℕ} {fields : List (List ℕ)} {at : ℕ} → LineRoom out at (field ∷ fields) → at + length field < length out
 field-room {out} {field} {fields} {at} room = go fields (room .fits)
   where
     go : (fields : List (List ℕ)) → at + length (lineOf (field ∷ fields)) ≤ length out → at + length field < length out
@@ -102,9 +102,9 @@ field-room {out} {field} {fields} {at} room = go fields (room .fits)
 -- and the others after that
 pub room-left :
     {out field more out′ : List ℕ} {fields : List (List ℕ)} {at at′ : ℕ}
-    → Room out at (field ∷ more ∷ fields)
+    → LineRoom out at (field ∷ more ∷ fields)
     → Wrote out at (field ++ (TAB ∷ [])) out′ at′
-    → Room out′ at′ (more ∷ fields)
+    → LineRoom out′ at′ (more ∷ fields)
 room-left {field} {more} {fields} room w =
     record { fits = omega (arith, room .fits, length-field field more fields, length-append field (TAB ∷ []), wrote-length w) }
 
@@ -131,15 +131,15 @@ module _ {start words out : List ℕ} {at i : ℕ} (leads : Leads start words ou
   module _ (h : i < length words) where
     -- the next line, and those after it
     next-line :
-        Wrote out at (lineFor (rowOf (getD words i 0)) ++ listing (rowsOf (drop (i + 1) words))) (sets start 0 (listing (rowsOf words))) (length (listing (rowsOf words)))
+        Wrote out at (lineFor (rowIn (getD words i 0)) ++ listing (rowsOf (drop (i + 1) words))) (sets start 0 (listing (rowsOf words))) (length (listing (rowsOf words)))
     unfolding listing
     next-line = rw add-one (rw (drop-cons words i 0 h) at (leads .left))
 
-    pub leads-room : length (listing (rowsOf words)) ≤ length start → at + length (lineFor (rowOf (getD words i 0))) ≤ length out
+    pub leads-room : length (listing (rowsOf words)) ≤ length start → at + length (lineFor (rowIn (getD words i 0))) ≤ length out
     leads-room room =
-        omega (arith, leads-length, next-line .after, length-append (lineFor (rowOf (getD words i 0))) (listing (rowsOf (drop (i + 1) words))))
+        omega (arith, leads-length, next-line .after, length-append (lineFor (rowIn (getD words i 0))) (listing (rowsOf (drop (i + 1) words))))
 
-    pub leads-next : {out′ : List ℕ} {at′ : ℕ} → Wrote out at (lineFor (rowOf (getD words i 0))) out′ at′ → Leads start words out′ at′ (i + 1)
+    pub leads-next : {out′ : List ℕ} {at′ : ℕ} → Wrote out at (lineFor (rowIn (getD words i 0))) out′ at′ → Leads start words out′ at′ (i + 1)
     leads-next w = record { left = wrote-left w next-line }
 
 -- ---- rows by themselves
@@ -150,14 +150,14 @@ node-kind row whole e = leb-true _ _ (both-true (leb (kindOf (row .step)) 5) _ (
 
 -- The line of a word, by the parts that were read from it.
 module _ (w : ℕ) {depth step : ℕ} (depths : depth ≡ depthIn w) (steps : step ≡ stepIn w) where
-  pub entry-line : depth ≡ 0 → lineFor (rowOf w) ≡ lineFor (read 0 step false)
+  pub entry-line : depth ≡ 0 → lineFor (rowIn w) ≡ lineFor (read 0 step false)
   entry-line e = rw (steps, sym depths ∙ e)
 
-  pub node-line : {mark : Bool} → mark ≡ markIn w → lineFor (rowOf w) ≡ lineFor (read depth step mark)
+  pub node-line : {mark : Bool} → mark ≡ markIn w → lineFor (rowIn w) ≡ lineFor (read depth step mark)
   node-line marks = rw (depths, steps, marks)
 
   pub node-word-kind : isWord w ≡ true → depth ≢ 0 → kindOf step ≤ 5
-  node-word-kind h n = rw steps (node-kind (rowOf w) (is-row w h) (ne-eqb (depthIn w) 0 (λ e. n (depths ∙ e))))
+  node-word-kind h n = rw steps (node-kind (rowIn w) (is-row w h) (ne-eqb (depthIn w) 0 (λ e. n (depths ∙ e))))
 
 -- an entry's line has at most 20 bytes, and a node's at most 15
 entry-short : (row : Row) → isRow row ≡ true → isEntry row ≡ true → length (lineFor row) ≤ 20

@@ -4,7 +4,7 @@ ghost use mathlib.Core.List.{[], _∷_};
 ghost use Prim.Native.Nat.{_≤_, _<_};
 ghost use lib.ListN.{length, drop};
 ghost use Rattle.rules.specs.Text.{bytes, linesOf, fieldsOf};
-ghost use Rattle.manifest.specs.Lines.{rowRead, rowFrom, rowAt, ended, kindRead, kindIn};
+ghost use Rattle.manifest.specs.Lines.{rowRead, rowFrom, rowAt, endedAt, kindRead, kindIn};
 ghost use Rattle.manifest.specs.Reads.{nodeRow};
 use text::LF;
 use text::Number;
@@ -67,7 +67,7 @@ fn entry(text: &[u8], at: usize) -> Parsed
 // A node's row, where it is of its form: a root at depth 1, an id for fields and literal entities only, a mark of 0 or 1.
 fn node_row(depth: u64, kind: u64, id: u64, mark: u64, end: usize) -> Parsed
     requires { ⌜ (kind ≤ 5) × (id ≤ 65535) ⌝ }
-    ensures { λ r. ⌜ rowRead r ≡ ended end (nodeRow depth kind id mark) ⌝ }
+    ensures { λ r. ⌜ rowRead r ≡ endedAt end (nodeRow depth kind id mark) ⌝ }
 {
     if depth == 0 {
         return Parsed::Bad;

@@ -1,6 +1,6 @@
 // The listing of a manifest or a contribution, written and read.
 ghost use mathlib.Core.Path.{_≡_};
-ghost use Rattle.manifest.specs.Outcomes.{bytesOf, readIn, writeIn};
+ghost use Rattle.manifest.specs.Outcomes.{bytesOf, readListingIn, writeIn};
 use crate::reading::Got;
 use crate::reading::read_rows;
 use crate::writing::write_rows;
@@ -42,7 +42,7 @@ pub fn write_listing(kind: Kind, state: &[u64], out: &mut [u8]) -> Written
 
 // Reads a listing into a state; a refusal leaves the state as it was.
 pub fn read_listing(kind: Kind, text: &[u8], out: &mut [u64]) -> Reply
-    ensures { λ r. ⌜ (r ≡ readIn kind (now (text .entry)) (now (out .entry)) .reply) × (now (out .exit) ≡ readIn kind (now (text .entry)) (now (out .entry)) .buffer) ⌝ }
+    ensures { λ r. ⌜ (r ≡ readListingIn kind (now (text .entry)) (now (out .entry)) .reply) × (now (out .exit) ≡ readListingIn kind (now (text .entry)) (now (out .entry)) .buffer) ⌝ }
 {
     let words = kind.words();
     if out.len() < words {

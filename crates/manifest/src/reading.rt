@@ -4,7 +4,7 @@ ghost use mathlib.Core.Bool.{false};
 ghost use Prim.Native.Nat.{_+_, _<_, _≤_};
 ghost use lib.ListN.{length};
 ghost use Rattle.rules.specs.Listing.{read, refusal as refusalOf};
-ghost use Rattle.manifest.specs.Reads.{formFor, sofarIn, numbered, Room, RowFits, Taken, rowsBy, wordsFor, gotIn, countOf};
+ghost use Rattle.manifest.specs.Reads.{formFor, sofarIn, numbered, RowRoom, RowFits, RowTaken, rowsBy, rowWords, rowsGot, rowCount};
 use crate::line::Parsed;
 use crate::line::parse;
 use rows::Kind;
@@ -77,9 +77,9 @@ fn take_row(
     rows: &mut [u64],
     sofar: Sofar,
 ) -> Took
-    requires { ⌜ Room limits sofar (now path) (now rows) ⌝ }
+    requires { ⌜ RowRoom limits sofar (now path) (now rows) ⌝ }
     requires { ⌜ RowFits (read depth step marked) ⌝ }
-    ensures { λ r. ⌜ Taken limits sofar (read depth step marked) (now (path .entry)) (now (rows .entry)) (now (path .exit)) (now (rows .exit)) r ⌝ }
+    ensures { λ r. ⌜ RowTaken limits sofar (read depth step marked) (now (path .entry)) (now (rows .entry)) (now (path .exit)) (now (rows .exit)) r ⌝ }
 {
     let number = refusal(limits, path, sofar, depth, step);
     if number != 0 {
@@ -107,8 +107,8 @@ fn take_row(
 // Reads all lines of a text into rows, from place 1 on.
 pub fn read_rows(limits: Limits, text: &[u8], rows: &mut [u64]) -> Got
     requires { ⌜ limits .entries + limits .nodes < length (now rows) ⌝ }
-    ensures { λ r. ⌜ gotIn r (now (rows .exit)) ≡ wordsFor (rowsBy limits (now (text .entry))) ⌝ }
-    ensures { λ r. ⌜ countOf r ≤ limits .entries + limits .nodes ⌝ }
+    ensures { λ r. ⌜ rowsGot r (now (rows .exit)) ≡ rowWords (rowsBy limits (now (text .entry))) ⌝ }
+    ensures { λ r. ⌜ rowCount r ≤ limits .entries + limits .nodes ⌝ }
 {
     let mut path = [0u64; 25];
     let mut sofar = Sofar {

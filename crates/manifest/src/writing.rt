@@ -7,7 +7,7 @@ ghost use lib.ListN.{length, getD};
 ghost use Rattle.rules.specs.Text.{decimal};
 ghost use Rattle.rules.specs.Tries.{kindOf};
 ghost use Rattle.rules.specs.Listing.{letters, listing, read};
-ghost use Rattle.rows.specs.Words.{rowOf, isWord};
+ghost use Rattle.rows.specs.Words.{rowIn, isWord};
 ghost use Rattle.rows.specs.States.{allWords, rowsOf};
 ghost use Rattle.manifest.specs.Lines.{lineFor};
 ghost use Rattle.words.specs.Runs.{Wrote};
@@ -85,8 +85,8 @@ fn write_node(out: &mut [u8], at: usize, depth: u64, step: u64, marked: bool) ->
 
 // Writes the line of a row, and answers the place after it.
 fn write_row(out: &mut [u8], at: usize, row: Row) -> usize
-    requires { ⌜ (isWord (row .word) ≡ true) × (at + length (lineFor (rowOf (row .word))) ≤ length (now out)) ⌝ }
-    ensures { λ r. ⌜ Wrote (now (out .entry)) at (lineFor (rowOf (row .word))) (now (out .exit)) r ⌝ }
+    requires { ⌜ (isWord (row .word) ≡ true) × (at + length (lineFor (rowIn (row .word))) ≤ length (now out)) ⌝ }
+    ensures { λ r. ⌜ Wrote (now (out .entry)) at (lineFor (rowIn (row .word))) (now (out .exit)) r ⌝ }
 {
     let depth = row.depth();
     let step = row.step();

@@ -21,7 +21,7 @@ use Rattle.rules.specs.Listing.{read}
 use Rattle.rules.specs.Paths.{Path, deeper, chain, toRootAccessTrieWithLeaf, addAccessPath, addPaths}
 use Rattle.rules.specs.TypeLaws.{chain-length, deeper-length, isNoTrie, longest}
 use Rattle.rules.specs.StepLaws.{Each, Stepped, IsPath, AllPaths, Plain, each-append, turns-plain, field-step, stepped-some, add-paths-length}
-use Rattle.rows.specs.Words.{depthIn, markIn, stepIn, typeFrom, typeIn, rowOf, wordOf, isWord}
+use Rattle.rows.specs.Words.{depthIn, markIn, stepIn, typeFrom, typeIn, rowIn, wordOf, isWord}
 use Rattle.union.specs.Unions.{unionWords, unionInto, Roomy}
 use Rattle.rows.specs.WordLaws.{node-low, all-words-cons, words-rows, row-word}
 use Rattle.union.specs.UnionLaws.{union-words}
@@ -37,7 +37,7 @@ use Rattle.path_tries.specs.Nodes.{nodeWord, belowWord, allNodes, allBel
 -- ---- words of nodes
 
 -- a word that packs a node without a type packs a row that is one
-node-plain : (w : ℕ) → nodeWord w ≡ true → (isWord w ≡ true) × Plain (rowOf w)
+node-plain : (w : ℕ) → nodeWord w ≡ true → (isWord w ≡ true) × Plain (rowIn w)
 unfolding nodeWord
 node-plain w h =
     let (word, rest) = and-eq-true-iff (isWord w) _ .0 h in
@@ -50,7 +50,7 @@ no-number : (n : ℕ) → typeFrom n ≡ none → n ≡ 0
 no-number zero e = refl
 no-number (suc t) e = absurd (Option·some-ne-none t e)
 
-pub plain-node : (w : ℕ) → isWord w ≡ true → Plain (rowOf w) → nodeWord w ≡ true
+pub plain-node : (w : ℕ) → isWord w ≡ true → Plain (rowIn w) → nodeWord w ≡ true
 unfolding nodeWord
 plain-node w word plain =
     let no-type = no-number (w / 2 ^ 25 % 2 ^ 11) (rw (plain .node) at (plain .untyped)) in
@@ -132,7 +132,7 @@ module _ (trie run : List ℕ) (state : IsState trie) (nodes : allNodes run ≡ 
   pub roomy-rows : (out : List ℕ) → length united ≤ 1024 → Roomy Contribution (wordsIn trie) run out → length united < length out
   roomy-rows out few roomy =
       let sum = union-sum-length (rowsIn trie) (rowsOf run) in
-      ⊎-elim (λ long. omega arith) (λ long. omega (arith, sum, length-map (wordsIn trie) rowOf, length-map run rowOf)) roomy
+      ⊎-elim (λ long. omega arith) (λ long. omega (arith, sum, length-map (wordsIn trie) rowIn, length-map run rowIn)) roomy
 
   -- a state that holds the union
   pub merged : length united ≤ 1024 → Became united (holding trie united) true
@@ -172,7 +172,7 @@ module _ (trie run : List ℕ) (state : IsState trie) (nodes : allNodes run ≡ 
 
   pub filled-over : 1024 < length run → Became (union (rowsIn trie) (rowsOf run)) trie false
   filled-over h = record {
-    judged = sym (rw (alone, length-map run rowOf) (lt-leb (length run) 1024 h));
+    judged = sym (rw (alone, length-map run rowIn) (lt-leb (length run) 1024 h));
     still = state;
     there = λ no. absurd (false≢true no);
   }
@@ -180,8 +180,8 @@ module _ (trie run : List ℕ) (state : IsState trie) (nodes : allNodes run ≡ 
   pub filled : length run ≤ 1024 → Became (union (rowsIn trie) (rowsOf run)) (sets (set trie 0 (length run)) 1 run) true
   filled h =
       let words = words-rows run (all-nodes-plain run nodes .0) in
-      let few : length (union (rowsIn trie) (rowsOf run)) ≤ 1024 = rw (alone, length-map run rowOf) h in
-      let held : holding trie (union (rowsIn trie) (rowsOf run)) ≡ sets (set trie 0 (length run)) 1 run = rw (alone, length-map run rowOf, words) in
+      let few : length (union (rowsIn trie) (rowsOf run)) ≤ 1024 = rw (alone, length-map run rowIn) h in
+      let held : holding trie (union (rowsIn trie) (rowsOf run)) ≡ sets (set trie 0 (length run)) 1 run = rw (alone, length-map run rowIn, words) in
       rw held at (merged trie run state nodes few)
 
 -- a state has as many rows as its first word says
@@ -385,7 +385,7 @@ module _ {start rows out : List ℕ} {by to i : ℕ} (lowered : Lowered start ro
   lowered-all h =
       let end : length rows ≤ i = omega arith in
       record {
-        after = omega (arith, length-map (deeper by (rowsOf rows)) wordOf, deeper-length by (rowsOf rows), length-map rows rowOf);
+        after = omega (arith, length-map (deeper by (rowsOf rows)) wordOf, deeper-length by (rowsOf rows), length-map rows rowIn);
         text = rw (drop-of-length-le rows end) at (lowered .left);
       }
 
@@ -406,7 +406,7 @@ nothing-merged (w ∷ run) state h = absurd (omega arith)
 
 -- whether a path and its leaf give no node, by counts
 pub no-trie-test : (path below : List ℕ) (mark : Bool) → isNoTrie path (leafOf mark below) ≡ (eqb (length path) 1 && (not mark && eqb (length below) 0))
-no-trie-test path below mark = rw (length-map below rowOf)
+no-trie-test path below mark = rw (length-map below rowIn)
 
 -- they give none
 pub no-run : (path below out : List ℕ) (mark : Bool) → isNoTrie path (leafOf mark below) ≡ true →
@@ -422,7 +422,7 @@ module _ (path below : List ℕ) (mark : Bool) where
   lengths : (length (chainWords path mark) ≡ length path) × (length (deeperWords (length path) below) ≡ length below)
   lengths = (
     length-map (chain 1 mark path) wordOf ∙ chain-length 1 mark path,
-    length-map (deeper (length path) (rowsOf below)) wordOf ∙ deeper-length (length path) (rowsOf below) ∙ length-map below rowOf,
+    length-map (deeper (length path) (rowsOf below)) wordOf ∙ deeper-length (length path) (rowsOf below) ∙ length-map below rowIn,
   )
 
   module _ {out out₁ : List ℕ} {leaf : ℕ} (room : length path + length below ≤ length out) (first : Wrote out 0 (chainWords path mark) out₁ leaf) where

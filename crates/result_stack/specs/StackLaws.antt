@@ -16,17 +16,17 @@ use Rattle.rules.specs.TrieLaws.{Ordered, ordered-true, union-left-length, unio
 use Rattle.rules.specs.Paths.{Paths, nodesOf}
 use Rattle.rules.specs.Steps.{Result, result, judged, isTooDeep}
 use Rattle.rules.specs.StepLaws.{Each, Plain, IsTrie, GoodResult, AllGood, union-trie}
-use Rattle.rows.specs.Words.{rowOf, wordOf}
+use Rattle.rows.specs.Words.{rowIn, wordOf}
 use Rattle.rows.specs.WordLaws.{words-rows, row-word}
 use Rattle.rows.specs.States.{rowsOf, rowsIn, holding}
 use Rattle.words.specs.Runs.{wordsIn, Wrote}
 use Rattle.words.specs.RunLaws.{held-count}
-use Rattle.wrapped_paths.specs.Code.{code, codes, Standing, Measures, Result as Stands}
+use Rattle.wrapped_paths.specs.Code.{code, codes, Standing, Measures, ResultStands as Stands}
 use Rattle.wrapped_paths.specs.CodeLaws.{first-word, behind-word}
 use Rattle.wrapped_paths.specs.AttrLaws.{words-most}
 use Rattle.path_tries.specs.Nodes.{nodeWord, allNodes, IsState, Became}
 use Rattle.path_tries.specs.NodeLaws.{plain-node, all-nodes-plain, held-words}
-use Rattle.result_stack.specs.Stacks.{pathsOf, triesOf, trieWords, stacked, Layout, Held, Reached, Placed, TrieAt, TriesAt, CopiedFrom, merged, Merges, MergedFrom}
+use Rattle.result_stack.specs.Stacks.{stackPaths, stackTries, trieWords, stacked, Layout, Held, Reached, Placed, TrieAt, TriesAt, CopiedFrom, merged, Merges, MergedFrom}
 use Rattle.result_stack.specs.declared.Stack.{Stack}
 
 -- ---- what is judged of a result
@@ -114,7 +114,7 @@ module _ (words rest : List ℕ) (place : ℕ) (trie : List Row) (there : drop p
 module _ {state : List ℕ} (is : IsState state) where
   pub state-count : length (rowsIn state) ≡ getD state 0 0
   state-count =
-      length-map (wordsIn state) rowOf
+      length-map (wordsIn state) rowIn
       ∙ length-take-le (getD state 0 0) (drop 1 state) (omega (arith, length-drop 1 state, is .state-length, is .few-rows))
 
   pub state-words : take (getD state 0 0 + 1) state ≡ trieWords (rowsIn state)
@@ -216,7 +216,7 @@ placed-one w out end some-place inside =
 
 -- ---- the room of results
 
-codes-room : (results : List Result) → AllGood results → length (codes (pathsOf results)) ≤ 6631 * length results
+codes-room : (results : List Result) → AllGood results → length (codes (stackPaths results)) ≤ 6631 * length results
 unfolding codes Each
 codes-room [] good = omega arith
 codes-room (r ∷ results) good =
@@ -224,10 +224,10 @@ codes-room (r ∷ results) good =
       arith,
       words-most (r .paths) (good .0 .good-paths) (good .0 .few-nodes),
       codes-room results (good .1),
-      length-append (code (r .paths)) (codes (pathsOf results)),
+      length-append (code (r .paths)) (codes (stackPaths results)),
     )
 
-tries-room : (results : List Result) → AllGood results → length (stacked (triesOf results)) ≤ 1025 * length results
+tries-room : (results : List Result) → AllGood results → length (stacked (stackTries results)) ≤ 1025 * length results
 unfolding stacked Each
 tries-room [] good = omega arith
 tries-room (r ∷ results) good =
@@ -235,17 +235,17 @@ tries-room (r ∷ results) good =
       arith,
       good .0 .few-rows,
       tries-room results (good .1),
-      length-append (trieWords (r .trie)) (stacked (triesOf results)),
+      length-append (trieWords (r .trie)) (stacked (stackTries results)),
       length-map (r .trie) wordOf,
     )
 
 -- ---- the results that a stack holds
 
 module _ {codeRun tries : List ℕ} {stack : Stack} {results : List Result} (held : Held codeRun tries stack results) where
-  code-place : stack .code + length (codes (pathsOf results)) ≡ length codeRun
+  code-place : stack .code + length (codes (stackPaths results)) ≡ length codeRun
   code-place = omega (arith, ap length (held .layout .code-there), length-drop (stack .code) codeRun, held .layout .in-code)
 
-  tries-place : stack .tries + length (stacked (triesOf results)) ≡ length tries
+  tries-place : stack .tries + length (stacked (stackTries results)) ≡ length tries
   tries-place = omega (arith, ap length (held .layout .tries-there), length-drop (stack .tries) tries, held .layout .in-tries)
 
   pub code-left : length codeRun ≤ stack .code + 6631 * length results
@@ -256,11 +256,11 @@ module _ {codeRun tries : List ℕ} {stack : Stack} {results : List Result} (hel
 
 -- the top, and what is below it
 module _ {codeRun tries : List ℕ} {stack : Stack} {top : Result} {rest : List Result} (held : Held codeRun tries stack (top ∷ rest)) where
-  pub top-code : drop (stack .code) codeRun ≡ code (top .paths) ++ codes (pathsOf rest)
+  pub top-code : drop (stack .code) codeRun ≡ code (top .paths) ++ codes (stackPaths rest)
   unfolding codes
   top-code = held .layout .code-there
 
-  pub top-trie : drop (stack .tries) tries ≡ trieWords (top .trie) ++ stacked (triesOf rest)
+  pub top-trie : drop (stack .tries) tries ≡ trieWords (top .trie) ++ stacked (stackTries rest)
   unfolding stacked
   top-trie = held .layout .tries-there
 
@@ -284,18 +284,18 @@ module _ {codeRun tries : List ℕ} {stack : Stack} {top : Result} {rest : List 
   unfolding codes stacked
   below-held = record {
     layout = record {
-      in-code = omega (arith, code-place held, length-append (code (top .paths)) (codes (pathsOf rest)));
+      in-code = omega (arith, code-place held, length-append (code (top .paths)) (codes (stackPaths rest)));
       in-tries =
           omega (
             arith,
             tries-place held,
-            length-append (trieWords (top .trie)) (stacked (triesOf rest)),
+            length-append (trieWords (top .trie)) (stacked (stackTries rest)),
             length-map (top .trie) wordOf,
           );
       code-there =
           sym (drop-drop (length (code (top .paths))) (stack .code) codeRun)
-          ∙ rw top-code (drop-append-seam (code (top .paths)) (codes (pathsOf rest)));
-      tries-there = trie-rest tries (stacked (triesOf rest)) (stack .tries) (top .trie) top-trie;
+          ∙ rw top-code (drop-append-seam (code (top .paths)) (codes (stackPaths rest)));
+      tries-there = trie-rest tries (stacked (stackTries rest)) (stack .tries) (top .trie) top-trie;
       as-many = refl;
     };
     few = omega (arith, held .few);
@@ -305,12 +305,12 @@ module _ {codeRun tries : List ℕ} {stack : Stack} {top : Result} {rest : List 
   -- it stands in the runs
   pub top-standing : Standing codeRun (stack .code) 1
   unfolding codes
-  top-standing = record { paths = top .paths ∷ []; rest = codes (pathsOf rest); as-many = refl; coded = top-code ∙ rw append-nil }
+  top-standing = record { paths = top .paths ∷ []; rest = codes (stackPaths rest); as-many = refl; coded = top-code ∙ rw append-nil }
 
   unfoldable pub top-stands : Stands codeRun (stack .code)
   top-stands = record {
     paths = top .paths;
-    rest = codes (pathsOf rest);
+    rest = codes (stackPaths rest);
     coded = top-code;
     few-nodes = top-good .few-nodes;
     good-paths = top-good .good-paths;
@@ -319,7 +319,7 @@ module _ {codeRun tries : List ℕ} {stack : Stack} {top : Result} {rest : List 
   pub top-at : TrieAt tries (stack .tries)
   top-at = record {
     trie = top .trie;
-    rest = stacked (triesOf rest);
+    rest = stacked (stackTries rest);
     there = top-trie;
     few-rows = top-good .few-rows;
     good-trie = top-good .good-trie;
@@ -329,10 +329,10 @@ module _ {codeRun tries : List ℕ} {stack : Stack} {top : Result} {rest : List 
   pub code-end : {end nodes : ℕ} → Measures codeRun (stack .code) 1 end nodes → end ≡ below .code
   unfolding codes
   code-end m =
-      m (top .paths ∷ []) (codes (pathsOf rest)) refl (top-code ∙ rw append-nil) .0 ∙ rw append-nil
+      m (top .paths ∷ []) (codes (stackPaths rest)) refl (top-code ∙ rw append-nil) .0 ∙ rw append-nil
 
   pub tries-end : {end : ℕ} → end ≡ stack .tries + 1 + getD tries (stack .tries) 0 → end ≡ below .tries
-  tries-end e = e ∙ rw (trie-count tries (stacked (triesOf rest)) (stack .tries) (top .trie) top-trie)
+  tries-end e = e ∙ rw (trie-count tries (stacked (stackTries rest)) (stack .tries) (top .trie) top-trie)
 
 -- a result was put before those that lie behind two places
 pub landed :
@@ -593,7 +593,7 @@ module _ {words state : List ℕ} {place count end i : ℕ} (going : Going words
               state-count (b .still),
               ap length (b .there refl),
               union-sum-length (rowsIn state) (rowsOf run),
-              length-map run rowOf,
+              length-map run rowIn,
               next-length going-at,
             );
         merging = λ tries rest many good there.

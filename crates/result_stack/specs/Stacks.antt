@@ -19,11 +19,11 @@ use Rattle.result_stack.specs.declared.Stack.{Stack}
 use Rattle.result_stack.specs.declared.Stepped.{Stepped}
 use Rattle.result_stack.specs.declared.Stepped.the-variants.{Next, Refused}
 
-abbrev pub pathsOf : List Result → List Paths
-pathsOf results = map (λ r. r .paths) results
+abbrev pub stackPaths : List Result → List Paths
+stackPaths results = map (λ r. r .paths) results
 
-abbrev pub triesOf : List Result → List (List Row)
-triesOf results = map (λ r. r .trie) results
+abbrev pub stackTries : List Result → List (List Row)
+stackTries results = map (λ r. r .trie) results
 
 -- a trie's words: its count and its rows; and those of several, one after the other
 abbrev pub trieWords : List Row → List ℕ
@@ -37,8 +37,8 @@ stacked (trie ∷ tries) = trieWords trie ++ stacked tries
 pub record Layout (code tries : List ℕ) (stack : Stack) (results : List Result) : Type 0 where
   pub in-code : stack .code ≤ length code
   pub in-tries : stack .tries ≤ length tries
-  pub code-there : drop (stack .code) code ≡ codes (pathsOf results)
-  pub tries-there : drop (stack .tries) tries ≡ stacked (triesOf results)
+  pub code-there : drop (stack .code) code ≡ codes (stackPaths results)
+  pub tries-there : drop (stack .tries) tries ≡ stacked (stackTries results)
   pub as-many : stack .results ≡ length results
 
 -- and they are results that steps leave
@@ -129,9 +129,9 @@ MergedFrom words at count words′ start =
 
 -- the top results were wrapped under a head
 pub record Wraps (head : List ℕ) (taken : List Result) (wrapping : Result) : Type 0 where
-  pub coded : codeOf (wrapping .paths) ≡ head ++ codes (pathsOf taken)
-  pub nodes : nodesOf (wrapping .paths) ≡ suc (nodesOfAll (pathsOf taken))
-  pub tries : wrapping .trie ≡ merged [] (triesOf taken)
+  pub coded : codeOf (wrapping .paths) ≡ head ++ codes (stackPaths taken)
+  pub nodes : nodesOf (wrapping .paths) ≡ suc (nodesOfAll (stackPaths taken))
+  pub tries : wrapping .trie ≡ merged [] (stackTries taken)
 
 abbrev pub WrapsBy : List ℕ → ℕ → List ℕ → List ℕ → Stack → List ℕ → List ℕ → Stepped → Type 0
 WrapsBy head count code tries stack code′ tries′ r =

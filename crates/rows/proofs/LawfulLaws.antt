@@ -16,7 +16,7 @@ use Rattle.rules.specs.Facts.{by-test}
 use Rattle.rules.specs.Walks.{walked}
 use Rattle.rules.specs.WalkLaws.{kept-stored, went-start, orderly, OrderlyTo, orderly-end, orderly-next, orderly-refused}
 use Rattle.rules.specs.TrieLaws.{follows-true}
-use Rattle.rows.specs.Words.{depthIn, stepIn, isWord, rowOf}
+use Rattle.rows.specs.Words.{depthIn, stepIn, isWord, rowIn}
 use Rattle.rows.specs.States.{allWords, rowsOf, goodRows, mayFollow, lawfulState, Counted}
 use Rattle.words.specs.Runs.{wordsIn}
 use Rattle.rows.specs.CountLaws.{counted-none, counted-entry, counted-node, counted-all}
@@ -33,13 +33,13 @@ pub follow-depth : (s : List ℕ) (word : ℕ) → mayFollow s word ≡ true →
 unfolding mayFollow
 follow-depth s word h =
     let (whole, place) = and-eq-true-iff (isWord word) _ .0 h in
-    let (after, shallow) = and-eq-true-iff (follows s (rowOf word)) _ .0 place in
-    (follows-true s (rowOf word) after .near, leb-true _ _ shallow)
+    let (after, shallow) = and-eq-true-iff (follows s (rowIn word)) _ .0 place in
+    (follows-true s (rowIn word) after .near, leb-true _ _ shallow)
 
 module _ (path : List ℕ) (len word : ℕ) (fits : len ≤ length path) where
   -- after a place that is the front of a path, a row of at most 24 steps is judged by `follows`
   module _ (whole : isWord word ≡ true) (shallow : depthIn word ≤ mostSteps) where
-    follow-shallow : mayFollow (take len path) word ≡ follows (take len path) (rowOf word)
+    follow-shallow : mayFollow (take len path) word ≡ follows (take len path) (rowIn word)
     unfolding mayFollow
     follow-shallow = rw (whole, le-leb (depthIn word) mostSteps shallow, and-true)
 
@@ -51,10 +51,10 @@ module _ (path : List ℕ) (len word : ℕ) (fits : len ≤ length path) where
 
   -- the step of a row that may come, stored at its depth, makes the row's place the front
   pub place-stored : mostSteps < length path → mayFollow (take len path) word ≡ true →
-      at (take len path) (rowOf word) ≡ take (depthIn word + 1) (set path (depthIn word) (stepIn word))
+      at (take len path) (rowIn word) ≡ take (depthIn word + 1) (set path (depthIn word) (stepIn word))
   place-stored room next =
       let (near, shallow) = follow-depth (take len path) word next in
-      sym (kept-stored path len (rowOf word) (stepIn word) (rw (length-take-le len path fits) at near) (omega arith))
+      sym (kept-stored path len (rowIn word) (stepIn word) (rw (length-take-le len path fits) at near) (omega arith))
 
 -- ---- a pass over words
 
@@ -64,14 +64,14 @@ drop-map f (suc i) [] = refl
 drop-map f (suc i) (x ∷ l) = drop-map f i l
 
 -- i words are passed, each of them counted: the walk that judges the listing's order has come to the place s
-pub record Passed (words s : List ℕ) (i entries nodes : ℕ) : Type 0 where
+pub record RowsPassed (words s : List ℕ) (i entries nodes : ℕ) : Type 0 where
   pub inside : i ≤ length words
   pub whole : allWords words ≡ allWords (drop i words)
   pub went : OrderlyTo (rowsOf words) i s
   pub counted : Counted words (drop i words) entries nodes
   pub each : entries + nodes ≡ i
 
-pub passed-none : (words : List ℕ) → Passed words [] 0 0 0
+pub passed-none : (words : List ℕ) → RowsPassed words [] 0 0 0
 passed-none words = record {
   inside = omega arith;
   whole = refl;
@@ -80,13 +80,13 @@ passed-none words = record {
   each = refl;
 }
 
-module _ {words s : List ℕ} {i entries nodes : ℕ} (passed : Passed words s i entries nodes) where
+module _ {words s : List ℕ} {i entries nodes : ℕ} (passed : RowsPassed words s i entries nodes) where
   -- where no word is left, all is found
   pub passed-all : length words ≤ i → (goodRows words ≡ true) × ((entries ≡ entriesIn (rowsOf words)) × (nodes ≡ nodesIn (rowsOf words)))
   unfolding allWords
   passed-all h =
       let none-left : drop i words ≡ [] = drop-of-length-le words h in (
-        rw (passed .whole, none-left, orderly-end s (passed .went) (rw (length-map words rowOf) h)),
+        rw (passed .whole, none-left, orderly-end s (passed .went) (rw (length-map words rowIn) h)),
         counted-all (rw none-left at (passed .counted)),
       )
 
@@ -94,8 +94,8 @@ module _ {words s : List ℕ} {i entries nodes : ℕ} (passed : Passed words s i
     words-left : drop i words ≡ word ∷ drop (i + 1) words
     words-left = rw (add-one, drop-cons words i 0, here)
 
-    rows-left : drop i (rowsOf words) ≡ rowOf word ∷ drop (i + 1) (rowsOf words)
-    rows-left = rw (drop-map rowOf i words, drop-map rowOf (i + 1) words, words-left)
+    rows-left : drop i (rowsOf words) ≡ rowIn word ∷ drop (i + 1) (rowsOf words)
+    rows-left = rw (drop-map rowIn i words, drop-map rowIn (i + 1) words, words-left)
 
     counted-left : Counted words (word ∷ drop (i + 1) words) entries nodes
     counted-left = rw words-left at (passed .counted)
@@ -113,11 +113,11 @@ module _ {words s : List ℕ} {i entries nodes : ℕ} (passed : Passed words s i
     -- where it may come, it is passed, and counted as what it is
     module _ (next : mayFollow s word ≡ true) where
       passed-row : {entries′ nodes′ : ℕ} → Counted words (drop (i + 1) words) entries′ nodes′ → entries′ + nodes′ ≡ i + 1 →
-          Passed words (at s (rowOf word)) (i + 1) entries′ nodes′
+          RowsPassed words (at s (rowIn word)) (i + 1) entries′ nodes′
       unfolding mayFollow isWord allWords
       passed-row counted each =
           let (good, place) = and-eq-true-iff (isWord word) _ .0 next in
-          let (row, _) = and-eq-true-iff (isRow (rowOf word)) _ .0 good in
+          let (row, _) = and-eq-true-iff (isRow (rowIn word)) _ .0 good in
           record {
             inside = omega arith;
             whole = passed .whole ∙ rw (words-left, good);
@@ -126,10 +126,10 @@ module _ {words s : List ℕ} {i entries nodes : ℕ} (passed : Passed words s i
             each = each;
           }
 
-      pub passed-entry : depthIn word ≡ 0 → Passed words (at s (rowOf word)) (i + 1) (entries + 1) nodes
+      pub passed-entry : depthIn word ≡ 0 → RowsPassed words (at s (rowIn word)) (i + 1) (entries + 1) nodes
       passed-entry e = passed-row (counted-entry counted-left e) (omega arith)
 
-      pub passed-node : depthIn word ≢ 0 → Passed words (at s (rowOf word)) (i + 1) entries (nodes + 1)
+      pub passed-node : depthIn word ≢ 0 → RowsPassed words (at s (rowIn word)) (i + 1) entries (nodes + 1)
       passed-node e = passed-row (counted-node counted-left e) (omega arith)
 
 -- ---- a state

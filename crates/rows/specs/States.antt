@@ -8,7 +8,7 @@ use lib.ListN.{length, getD}
 use lib.Seq.{sets}
 use Rattle.rules.specs.Numbers.{Answer, accepted, refused, mostSteps}
 use Rattle.rules.specs.Tries.{Row, Form, manifest, contribution, follows, ordered, lawful, found, entriesIn, nodesIn}
-use Rattle.rows.specs.Words.{depthIn, isWord, rowOf, wordOf}
+use Rattle.rows.specs.Words.{depthIn, isWord, rowIn, wordOf}
 use Rattle.rows.specs.declared.Kind.{Kind}
 use Rattle.rows.specs.declared.Kind.the-variants.{Contribution, Manifest}
 use Rattle.words.specs.declared.Reply.the-variants.{Done}
@@ -33,7 +33,7 @@ allWords (w ∷ ws) = let rest : Bool = allWords ws in cond (isWord w) rest fals
 
 -- the rows that words pack
 abbrev pub rowsOf : List ℕ → List Row
-rowsOf words = map rowOf words
+rowsOf words = map rowIn words
 
 -- words that pack rows in the listing's order
 abbrev pub goodRows : List ℕ → Bool
@@ -41,7 +41,7 @@ goodRows words = allWords words && ordered [] (rowsOf words)
 
 -- a word that packs a row which may come after the place s
 unfoldable pub mayFollow : List ℕ → ℕ → Bool
-mayFollow s word = isWord word && (follows s (rowOf word) && leb (depthIn word) mostSteps)
+mayFollow s word = isWord word && (follows s (rowIn word) && leb (depthIn word) mostSteps)
 
 -- a state's rows
 abbrev pub rowsIn : List ℕ → List Row
@@ -72,5 +72,5 @@ hasOf kind state place =
 
 -- of words, all but those that are left are counted: so many entries and so many nodes
 pub record Counted (words rest : List ℕ) (entries nodes : ℕ) : Type 0 where
-  pub all-entries : entries + entriesIn (map rowOf rest) ≡ entriesIn (map rowOf words)
-  pub all-nodes : nodes + nodesIn (map rowOf rest) ≡ nodesIn (map rowOf words)
+  pub all-entries : entries + entriesIn (map rowIn rest) ≡ entriesIn (map rowIn words)
+  pub all-nodes : nodes + nodesIn (map rowIn rest) ≡ nodesIn (map rowIn words)

@@ -12,7 +12,7 @@ use borrow.Author.Tests.{ltb-true, leb-true, eqb-true, eqb-false, lt-ltb, le-ltb
 use Rattle.rules.specs.Facts.{by-test, cond-true}
 use Rattle.rules.specs.Tries.{Row, Next, first, second, same, next, isStep, isRoot, isRow, isType, untyped, isEntry, joined}
 use Rattle.rules.specs.TrieLaws.{node-step, Before, deeper, smaller, SamePlace, Says, next-says, isRow-joined}
-use Rattle.rows.specs.Words.{depthIn, markIn, stepIn, typeFrom, numberFor, typeIn, rowOf, wordOf, isWord, keyIn, nextWord, joinedWord}
+use Rattle.rows.specs.Words.{depthIn, markIn, stepIn, typeFrom, numberFor, typeIn, rowIn, wordOf, isWord, rankIn, nextWord, joinedWord}
 use Rattle.rows.specs.States.{allWords}
 use lib.ListN.{length, getD}
 
@@ -39,17 +39,17 @@ unfolding isWord
 node-word w n = simp (ne-eqb (depthIn w) 0 n, type-small)
 
 -- a word packs a row
-pub is-row : (w : ℕ) → isWord w ≡ true → isRow (rowOf w) ≡ true
+pub is-row : (w : ℕ) → isWord w ≡ true → isRow (rowIn w) ≡ true
 unfolding isWord
-is-row w h = and-eq-true-iff (isRow (rowOf w)) _ .0 h .0
+is-row w h = and-eq-true-iff (isRow (rowIn w)) _ .0 h .0
 
 -- a node's word has nothing above its type
 pub node-low : (w : ℕ) → isWord w ≡ true → eqb (depthIn w) 0 ≡ false → w < 2 ^ 36
 unfolding isWord
-node-low w h e = ltb-true _ _ (rw e at (and-eq-true-iff (isRow (rowOf w)) _ .0 h .1))
+node-low w h e = ltb-true _ _ (rw e at (and-eq-true-iff (isRow (rowIn w)) _ .0 h .1))
 
 -- a word is what packs a row, with nothing above a node's type
-pub true-word : (w : ℕ) → isRow (rowOf w) ≡ true → (eqb (depthIn w) 0 ≡ false → w < 2 ^ 36) → isWord w ≡ true
+pub true-word : (w : ℕ) → isRow (rowIn w) ≡ true → (eqb (depthIn w) 0 ≡ false → w < 2 ^ 36) → isWord w ≡ true
 unfolding isWord
 true-word w whole low =
     and-eq-true-iff _ _ .1 (
@@ -60,7 +60,7 @@ true-word w whole low =
 -- Keys.
 
 -- a key fits 64 bits where the word does
-pub key-fits : (w : ℕ) → w < 2 ^ 64 → keyIn w < 2 ^ 64
+pub key-fits : (w : ℕ) → w < 2 ^ 64 → rankIn w < 2 ^ 64
 key-fits w h =
     sum (depthIn w) (stepIn w) (by-test (eqb (depthIn w) 0) (λ e. rw e (omega arith)) (λ e. rw e (omega arith)))
   where
@@ -75,35 +75,35 @@ step-below w h =
     (λ e. rw e (omega arith))
 
 -- the key of a word is below END
-pub key-below : (w : ℕ) → isWord w ≡ true → keyIn w < 2 ^ 53
+pub key-below : (w : ℕ) → isWord w ≡ true → rankIn w < 2 ^ 53
 key-below w h = omega (arith, step-below w h)
 
 -- which of two words comes first, by their keys
 module _ (x y : ℕ) where
-  pub next-first : keyIn x < keyIn y → nextWord x y ≡ first
+  pub next-first : rankIn x < rankIn y → nextWord x y ≡ first
   next-first h = simp lt-ltb
 
-  pub next-second : keyIn y < keyIn x → nextWord x y ≡ second
+  pub next-second : rankIn y < rankIn x → nextWord x y ≡ second
   next-second h = simp (lt-ltb, le-ltb, le-of-lt h)
 
-  pub next-same : keyIn x ≡ keyIn y → nextWord x y ≡ same
+  pub next-same : rankIn x ≡ rankIn y → nextWord x y ≡ same
   next-same h = simp (h, le-ltb, le-refl)
 
 module _ (x y : ℕ) (hx : isWord x ≡ true) (hy : isWord y ≡ true) where
   -- the word of the row that comes first has the smaller key
-  before-key : Before (rowOf x) (rowOf y) → keyIn x < keyIn y
+  before-key : Before (rowIn x) (rowIn y) → rankIn x < rankIn y
   before-key (deeper h) = omega (arith, step-below x hx, step-below y hy)
   before-key (smaller e h) = omega arith
 
   -- words with one key pack one node
-  pub key-place : keyIn x ≡ keyIn y → SamePlace (rowOf x) (rowOf y)
+  pub key-place : rankIn x ≡ rankIn y → SamePlace (rowIn x) (rowIn y)
   key-place e = omega (arith, step-below x hx, step-below y hy)
 
 -- the keys of two words say which of their rows comes first
-pub next-word : (x y : ℕ) → isWord x ≡ true → isWord y ≡ true → nextWord x y ≡ next (rowOf x) (rowOf y)
-next-word x y hx hy = go (next (rowOf x) (rowOf y)) (next-says (rowOf x) (rowOf y))
+pub next-word : (x y : ℕ) → isWord x ≡ true → isWord y ≡ true → nextWord x y ≡ next (rowIn x) (rowIn y)
+next-word x y hx hy = go (next (rowIn x) (rowIn y)) (next-says (rowIn x) (rowIn y))
   where
-    go : (n : Next) → Says (rowOf x) (rowOf y) n → nextWord x y ≡ n
+    go : (n : Next) → Says (rowIn x) (rowIn y) n → nextWord x y ≡ n
     go first h = next-first x y (before-key x y hx hy h)
     go second h = next-second x y (before-key y x hy hx h)
     go same h = next-same x y (omega arith)
@@ -114,7 +114,7 @@ next-word x y hx hy = go (next (rowOf x) (rowOf y)) (next-says (rowOf x) (rowOf 
 marked-row :
     (w : ℕ)
     → markIn w ≡ false
-    → rowOf (w + 32) ≡ record { depth = depthIn w; step = stepIn w; mark = true; type = typeIn w }
+    → rowIn (w + 32) ≡ record { depth = depthIn w; step = stepIn w; mark = true; type = typeIn w }
 marked-row w e = rw (depths, marks, steps, types)
   where
     depths : (w + 32) % 32 ≡ w % 32
@@ -130,7 +130,7 @@ marked-row w e = rw (depths, marks, steps, types)
     types = omega (arith, eqb-false)
 
 -- the joined word packs the joined row
-pub joined-row : (x y : ℕ) → rowOf (joinedWord x y) ≡ joined (rowOf x) (rowOf y)
+pub joined-row : (x y : ℕ) → rowIn (joinedWord x y) ≡ joined (rowIn x) (rowIn y)
 unfolding joinedWord
 joined-row x y =
     by-test (markIn x)
@@ -139,16 +139,16 @@ joined-row x y =
 
 -- the joined word of two words with one key is a word
 pub joined-word :
-    (x y : ℕ) → isWord x ≡ true → isWord y ≡ true → keyIn x ≡ keyIn y → isWord (joinedWord x y) ≡ true
+    (x y : ℕ) → isWord x ≡ true → isWord y ≡ true → rankIn x ≡ rankIn y → isWord (joinedWord x y) ≡ true
 unfolding joinedWord
 joined-word x y hx hy e =
     by-test (markIn x)
     (λ m. rw m hx)
     (λ m. by-test (markIn y) (λ k. rw (m, k) (true-word (x + 32) (whole m k) (low m))) (λ k. rw (m, k) hx))
   where
-    whole : markIn x ≡ false → markIn y ≡ true → isRow (rowOf (x + 32)) ≡ true
+    whole : markIn x ≡ false → markIn y ≡ true → isRow (rowIn (x + 32)) ≡ true
     whole m k =
-        let both = isRow-joined (rowOf x) (rowOf y) (key-place x y hx hy e) (is-row x hx) (is-row y hy) in
+        let both = isRow-joined (rowIn x) (rowIn y) (key-place x y hx hy e) (is-row x hx) (is-row y hy) in
         ap isRow (marked-row x m) ∙ (simp (m, k) at both)
 
     low : markIn x ≡ false → eqb (depthIn (x + 32)) 0 ≡ false → x + 32 < 2 ^ 36
@@ -182,7 +182,7 @@ type-number none = refl
 type-number (some t) = refl
 
 -- a word is what packs its row
-pub word-row : (w : ℕ) → isWord w ≡ true → wordOf (rowOf w) ≡ w
+pub word-row : (w : ℕ) → isWord w ≡ true → wordOf (rowIn w) ≡ w
 word-row w h =
     by-test (eqb (depthIn w) 0)
     (λ e. rw (e, bit) (omega (arith, low)))
@@ -201,7 +201,7 @@ word-row w h =
     top e = omega (arith, node-low w h e)
 
 -- words are what packs their rows
-pub words-rows : (ws : List ℕ) → allWords ws ≡ true → map wordOf (map rowOf ws) ≡ ws
+pub words-rows : (ws : List ℕ) → allWords ws ≡ true → map wordOf (map rowIn ws) ≡ ws
 words-rows [] h = refl
 words-rows (w ∷ ws) h =
     let (hw, hws) = all-words-cons w ws .0 h in
@@ -260,7 +260,7 @@ module _ (row : Row) (whole : isRow row ≡ true) (near : row .depth ≤ 24) whe
       number : isEntry row ≡ false → wordOf row / 2 ^ 25 % 2 ^ 11 ≡ numberFor (row .type)
       number e = omega (arith, mark-bit (row .mark), node-small row whole e)
 
-  row-packed : rowOf (wordOf row) ≡ row
+  row-packed : rowIn (wordOf row) ≡ row
   row-packed = λ i. record { depth = depth-packed i; step = step-packed i; mark = mark-packed i; type = type-packed i }
 
   low-packed : isEntry row ≡ false → wordOf row < 2 ^ 36
@@ -271,7 +271,7 @@ pub row-word :
     (row : Row)
     → isRow row ≡ true
     → row .depth ≤ 24
-    → (rowOf (wordOf row) ≡ row) × (isWord (wordOf row) ≡ true)
+    → (rowIn (wordOf row) ≡ row) × (isWord (wordOf row) ≡ true)
 row-word row whole near = (
   row-packed row whole near,
   true-word (wordOf row)

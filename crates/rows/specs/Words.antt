@@ -28,8 +28,8 @@ abbrev pub typeIn : ℕ → Option ℕ
 typeIn w = cond (eqb (depthIn w) 0) none (typeFrom (w / 2 ^ 25 % 2 ^ 11))
 
 -- the row that a word packs
-abbrev pub rowOf : ℕ → Row
-rowOf w = record { depth = depthIn w; step = stepIn w; mark = markIn w; type = typeIn w }
+abbrev pub rowIn : ℕ → Row
+rowIn w = record { depth = depthIn w; step = stepIn w; mark = markIn w; type = typeIn w }
 
 -- the word that packs a row
 abbrev pub wordOf : Row → ℕ
@@ -37,14 +37,14 @@ wordOf row = row .depth + (cond (row .mark) 32 0 + (64 * row .step + 2 ^ 25 * nu
 
 -- a word packs a row of its form and nothing else
 unfoldable pub isWord : ℕ → Bool
-isWord w = isRow (rowOf w) && (eqb (depthIn w) 0 || ltb w (2 ^ 36))
+isWord w = isRow (rowIn w) && (eqb (depthIn w) 0 || ltb w (2 ^ 36))
 
 -- The order in which rows come: the deeper first, then the smaller step. The smaller key comes first.
-abbrev pub keyIn : ℕ → ℕ
-keyIn w = (31 - depthIn w) * 2 ^ 48 + stepIn w
+abbrev pub rankIn : ℕ → ℕ
+rankIn w = (31 - depthIn w) * 2 ^ 48 + stepIn w
 
 abbrev pub nextWord : ℕ → ℕ → Next
-nextWord x y = cond (ltb (keyIn x) (keyIn y)) first (cond (ltb (keyIn y) (keyIn x)) second same)
+nextWord x y = cond (ltb (rankIn x) (rankIn y)) first (cond (ltb (rankIn y) (rankIn x)) second same)
 
 -- the word of two that pack one node: the left one, marked if either is
 unfoldable pub joinedWord : ℕ → ℕ → ℕ

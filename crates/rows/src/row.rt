@@ -4,7 +4,7 @@ ghost use mathlib.Core.Bool.{false};
 ghost use Prim.Native.Nat.{_<_, _^_};
 ghost use Rattle.rules.specs.Tries.{kindOf, idOf, isStep, isRoot, principalOf, actionOf, resourceOf};
 ghost use Rattle.rules.specs.Listing.{read};
-ghost use Rattle.rows.specs.Words.{wordOf, depthIn, markIn, stepIn, keyIn, joinedWord, isWord};
+ghost use Rattle.rows.specs.Words.{wordOf, depthIn, markIn, stepIn, rankIn, joinedWord, isWord};
 
 // Whether a number is a step: a field or a literal with its id, or another root with id 0.
 fn is_step(step: u64) -> bool
@@ -127,7 +127,7 @@ impl Row {
 
     // The smaller key comes first in the listing's order.
     pub fn key(self) -> u64
-        ensures { λ r. ⌜ r ≡ keyIn (self .word) ⌝ }
+        ensures { λ r. ⌜ r ≡ rankIn (self .word) ⌝ }
     {
         (31 - self.word % 32) * 0x1_0000_0000_0000 + self.step()
     }

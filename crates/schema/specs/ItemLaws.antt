@@ -40,7 +40,7 @@ good-next known word words = go (isItem (itemIn word)) (fits known (itemIn word)
     go true true rest-items rest-lawful = refl
 
 -- i words are passed, and the others are judged after them
-pub record Judged (words : List ℕ) (known : Known) (i : ℕ) : Type 0 where
+pub record ItemsJudged (words : List ℕ) (known : Known) (i : ℕ) : Type 0 where
   pub inside : i ≤ length words
   pub bounded : Bounded known
   pub good : goodItems words ≡ goodAfter known (drop i words)
@@ -55,10 +55,10 @@ bounded-none = record {
   in-types = λ e. refl;
 }
 
-pub judged-none : (words : List ℕ) → Judged words unknown 0
+pub judged-none : (words : List ℕ) → ItemsJudged words unknown 0
 judged-none words = record { inside = omega arith; bounded = bounded-none; good = refl }
 
-module _ {words : List ℕ} {known : Known} {i : ℕ} (judged : Judged words known i) where
+module _ {words : List ℕ} {known : Known} {i : ℕ} (judged : ItemsJudged words known i) where
   -- no word is left
   pub judged-all : length words ≤ i → goodItems words ≡ true
   unfolding allItems lawfulItems
@@ -81,7 +81,7 @@ module _ {words : List ℕ} {known : Known} {i : ℕ} (judged : Judged words kno
       judged-stray e = good-left ∙ rw (item, e)
 
       -- the next line is passed
-      pub judged-next : fits known it ≡ true → Judged words (beyond known it) (i + 1)
+      pub judged-next : fits known it ≡ true → ItemsJudged words (beyond known it) (i + 1)
       judged-next e = record {
         inside = omega arith;
         bounded = bounded-beyond known it (judged .bounded) e;

@@ -22,8 +22,8 @@ abbrev pub itemIn : ℕ → Item
 itemIn w = item (w % 16) (w / 16 % 2 ^ 36) (w / 2 ^ 40)
 
 -- the word that says an item
-abbrev pub wordFor : Item → ℕ
-wordFor it = it .tag + (it .value * 16 + it .key * 2 ^ 40)
+abbrev pub itemWord : Item → ℕ
+itemWord it = it .tag + (it .value * 16 + it .key * 2 ^ 40)
 
 abbrev pub itemFor : ItemRead → Item
 itemFor it = item (it .tag) (it .value) (it .key)
@@ -77,8 +77,8 @@ namedBy fields = ascending 0 fields >>= namesOf
 
 -- reading: 31, then what the text gives by line
 abbrev pub storingItems : List ℕ → Answer (List Item) → Outcome
-storingItems out (accepted items) = record { reply = Done; buffer = sets out 0 (length items ∷ map wordFor items) }
+storingItems out (accepted items) = record { reply = Done; buffer = sets out 0 (length items ∷ map itemWord items) }
 storingItems out (refused number place) = refusing number place out
 
-unfoldable pub readIn : List ℕ → List ℕ → Outcome
-readIn text out = cond (leb schemaWords (length out)) (storingItems out (readSchema text)) (refusing 31 0 out)
+unfoldable pub readSchemaIn : List ℕ → List ℕ → Outcome
+readSchemaIn text out = cond (leb schemaWords (length out)) (storingItems out (readSchema text)) (refusing 31 0 out)

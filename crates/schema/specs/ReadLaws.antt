@@ -28,8 +28,8 @@ use Rattle.words.specs.declared.Reply.the-variants.{Done}
 use Rattle.text.proofs.FieldLaws.{place-within}
 use Rattle.words.specs.RunLaws.{stored-next}
 use Rattle.schema.specs.declared.known.Known.{Known as Kept}
-use Rattle.schema.specs.Items.{given, namedBy, wordFor, storingItems, readIn}
-use Rattle.schema.specs.Reads.{knownFor, Bounded, Room, Passed, refusedLine, wordsFor}
+use Rattle.schema.specs.Items.{given, namedBy, itemWord, storingItems, readSchemaIn}
+use Rattle.schema.specs.Reads.{knownFor, Bounded, ItemRoom, LinePassed, refusedLine, itemWords}
 use Rattle.schema.specs.KnownLaws.{most-lines, bounded-beyond, counted-beyond}
 use Rattle.schema.specs.LineLaws.{named-bad, named-more}
 
@@ -105,7 +105,7 @@ item-fits (word ∷ a ∷ b ∷ c ∷ more) it e = type-fits a b (c ∷ more) it
 -- ---- a line that is taken
 
 -- there is room for the word of a line that may come
-pub room-next : (count : ℕ) (kept : Kept) (words : List ℕ) (it : Item) → Room count kept words → fits (knownFor kept) it ≡ true → count + 1 < length words
+pub room-next : (count : ℕ) (kept : Kept) (words : List ℕ) (it : Item) → ItemRoom count kept words → fits (knownFor kept) it ≡ true → count + 1 < length words
 room-next count kept words it room may =
     omega (
       arith,
@@ -116,13 +116,13 @@ room-next count kept words it room may =
 
 pub item-passed :
     (count : ℕ) (kept : Kept) (line words : List ℕ) (it : Item) {word : ℕ} {next : Kept} →
-    Room count kept words →
+    ItemRoom count kept words →
     itemOf (fieldsOf line) ≡ some it →
     fits (knownFor kept) it ≡ true →
-    word ≡ wordFor it →
+    word ≡ itemWord it →
     knownFor next ≡ beyond (knownFor kept) it →
     Bounded (knownFor next) →
-    Passed count kept line words (set words (count + 1) word) next
+    LinePassed count kept line words (set words (count + 1) word) next
 item-passed count kept line words it {word} {next} room e may packed past bounded =
     let left : next .room ≡ beyond (knownFor kept) it .room = ap (λ (k : Known). k .room) past in
     let section : next .section ≡ beyond (knownFor kept) it .section = ap (λ (k : Known). k .section) past in
@@ -132,7 +132,7 @@ item-passed count kept line words it {word} {next} room e may packed past bounde
       read-item = e;
       may-follow = may;
       comes-past = past;
-      stored-word = rw packed (stored-next words count (wordFor it) (room-next count kept words it room may));
+      stored-word = rw packed (stored-next words count (itemWord it) (room-next count kept words it room may));
       room = record {
         bounded = bounded;
         words-length = simp length-set (room .words-length);
@@ -144,9 +144,9 @@ item-passed count kept line words it {word} {next} room e may packed past bounde
 
 -- the lines that were passed came to the items whose words are stored
 pub record Reading (text : List ℕ) (kept : Kept) (words : List ℕ) (at count : ℕ) : Type 0 where
-  pub room : Room count kept words
+  pub room : ItemRoom count kept words
   pub passed : List Item
-  pub in-words : stored count words ≡ map wordFor passed
+  pub in-words : stored count words ≡ map itemWord passed
   pub came : CameTo (gathering itemLine) (unknown, []) text at count (knownFor kept, passed)
 
 pub reading-none : (text words : List ℕ) (kept : Kept) → knownFor kept ≡ unknown → Bounded unknown → length words ≡ 142337 → Reading text kept words 0 0
@@ -171,31 +171,31 @@ module _ {text : List ℕ} {kept : Kept} {words : List ℕ} {at count : ℕ} (re
 
   -- the words of what the text gives, by what its lines come to
   words-given : {answer : Answer (Folded (Known × List Item))} → foldText (gathering itemLine) text (unknown, []) ≡ answer →
-      wordsFor (gathered answer) ≡ wordsFor (readSchema text)
+      itemWords (gathered answer) ≡ itemWords (readSchema text)
   words-given e = rw (items-folded unknown 0 (linesOf text), e)
 
   -- no line is left
-  pub reading-all : length text ≤ at → accepted (stored count words) ≡ wordsFor (readSchema text)
+  pub reading-all : length text ≤ at → accepted (stored count words) ≡ itemWords (readSchema text)
   reading-all h = rw (reading .in-words) (words-given (came-end (reading .came) h))
 
   -- the next line has no LF
   pub reading-cut : {r : Line} → r ≡ lineAt text at → ((end : ℕ) → r ≡ Whole end → ⊥) → at < length text →
-      refused 1 count ≡ wordsFor (readSchema text)
+      refused 1 count ≡ itemWords (readSchema text)
   reading-cut {r} ensured unended more = words-given (came-cut (reading .came) more (cut-line text at r ensured unended))
 
   module _ {end : ℕ} {r : Line} (ensured : r ≡ lineAt text at) (e : r ≡ Whole end) where
     -- the next line is refused
-    pub reading-stopped : refusedLine (knownFor kept) (itemOf (fieldsOf (take (end - at) (drop at text)))) → refused 1 count ≡ wordsFor (readSchema text)
+    pub reading-stopped : refusedLine (knownFor kept) (itemOf (fieldsOf (take (end - at) (drop at text)))) → refused 1 count ≡ itemWords (readSchema text)
     reading-stopped stopped =
         words-given (came-refused (reading .came) (whole-line text at end r ensured e) (rw (line-refused count (knownFor kept) _ stopped)))
 
     -- the next line is taken
-    pub reading-next : {words′ : List ℕ} {next : Kept} → Passed count kept (take (end - at) (drop at text)) words words′ next →
+    pub reading-next : {words′ : List ℕ} {next : Kept} → LinePassed count kept (take (end - at) (drop at text)) words words′ next →
         Reading text next words′ (end + 1) (count + 1)
     reading-next passed = record {
       room = passed .room;
       passed = reading .passed ++ (passed .it ∷ []);
-      in-words = passed .stored-word ∙ rw (reading .in-words, map-append wordFor (reading .passed) (passed .it ∷ []));
+      in-words = passed .stored-word ∙ rw (reading .in-words, map-append itemWord (reading .passed) (passed .it ∷ []));
       came =
           rw (passed .comes-past)
           (came-next (reading .came) (whole-line text at end r ensured e) (rw (passed .read-item, passed .may-follow)));
@@ -204,14 +204,14 @@ module _ {text : List ℕ} {kept : Kept} {words : List ℕ} {at count : ℕ} (re
 -- ---- what reading answers, by what was tested
 
 -- the words that were read are stored with their count
-stored-words : (out : List ℕ) (answer : Answer (List Item)) (words : List ℕ) → accepted words ≡ wordsFor answer →
+stored-words : (out : List ℕ) (answer : Answer (List Item)) (words : List ℕ) → accepted words ≡ itemWords answer →
     storingItems out answer ≡ record { reply = Done; buffer = sets out 0 (length words ∷ words) }
 stored-words out (accepted items) words e =
-    let all-read : words ≡ map wordFor items = cc in
-    rw (all-read, length-map items wordFor)
+    let all-read : words ≡ map itemWord items = cc in
+    rw (all-read, length-map items itemWord)
 stored-words out (refused number place) words e = absurd (let z : _≡_ {A = ℕ} 0 1 = cc in omega arith)
 
-no-items : (out : List ℕ) (answer : Answer (List Item)) (number place : ℕ) → refused number place ≡ wordsFor answer →
+no-items : (out : List ℕ) (answer : Answer (List Item)) (number place : ℕ) → refused number place ≡ itemWords answer →
     storingItems out answer ≡ refusing number place out
 no-items out (accepted items) number place e = absurd (let z : _≡_ {A = ℕ} 0 1 = cc in omega arith)
 no-items out (refused n p) number place e =
@@ -220,16 +220,16 @@ no-items out (refused n p) number place e =
     rw (same-number, same-place)
 
 module _ (text out : List ℕ) where
-  pub read-short : length out < 142337 → readIn text out ≡ refusing 31 0 out
-  unfolding readIn
+  pub read-short : length out < 142337 → readSchemaIn text out ≡ refusing 31 0 out
+  unfolding readSchemaIn
   read-short h = rw (lt-leb 142337 (length out) h)
 
   module _ (long : 142337 ≤ length out) where
-    pub read-refused : {number place : ℕ} → refused number place ≡ wordsFor (readSchema text) → readIn text out ≡ refusing number place out
-    unfolding readIn
+    pub read-refused : {number place : ℕ} → refused number place ≡ itemWords (readSchema text) → readSchemaIn text out ≡ refusing number place out
+    unfolding readSchemaIn
     read-refused {number} {place} e = rw (le-leb 142337 (length out) long) (no-items out (readSchema text) number place e)
 
-    pub read-stored : {words : List ℕ} → accepted words ≡ wordsFor (readSchema text) →
-        readIn text out ≡ record { reply = Done; buffer = sets out 0 (length words ∷ words) }
-    unfolding readIn
+    pub read-stored : {words : List ℕ} → accepted words ≡ itemWords (readSchema text) →
+        readSchemaIn text out ≡ record { reply = Done; buffer = sets out 0 (length words ∷ words) }
+    unfolding readSchemaIn
     read-stored {words} e = rw (le-leb 142337 (length out) long) (stored-words out (readSchema text) words e)

@@ -9,7 +9,7 @@ use lib.ListN.{length}
 use Rattle.rules.specs.Numbers.{Answer, accepted, refused}
 use Rattle.rules.specs.Text.{fieldsOf}
 use Rattle.rules.specs.Schema.{Item, Known, itemOf, fits, beyond}
-use Rattle.schema.specs.Items.{wordFor}
+use Rattle.schema.specs.Items.{itemWord}
 use Rattle.schema.specs.declared.known.Known.{Known as Kept}
 use Rattle.schema.specs.declared.reading.Took.{Took}
 use Rattle.schema.specs.declared.reading.Took.the-variants.{Next, Refused as Stopped}
@@ -43,38 +43,38 @@ pub record Bounded (known : Known) : Type 0 where
   pub in-types : known .section ≡ 0 → known .types ≡ known .lines
 
 -- so many items stand in the words, and there is room for those that may follow
-pub record Room (count : ℕ) (kept : Kept) (words : List ℕ) : Type 0 where
+pub record ItemRoom (count : ℕ) (kept : Kept) (words : List ℕ) : Type 0 where
   pub bounded : Bounded (knownFor kept)
   pub words-length : length words ≡ 142337
   pub counted : count + kept .room ≤ mostLines (kept .section) (kept .lines)
 
 -- a line was taken: its word is stored behind the others
-pub record Passed (count : ℕ) (kept : Kept) (line words words′ : List ℕ) (next : Kept) : Type 0 where
+pub record LinePassed (count : ℕ) (kept : Kept) (line words words′ : List ℕ) (next : Kept) : Type 0 where
   pub it : Item
   pub read-item : itemOf (fieldsOf line) ≡ some it
   pub may-follow : fits (knownFor kept) it ≡ true
   pub comes-past : knownFor next ≡ beyond (knownFor kept) it
-  pub stored-word : stored (count + 1) words′ ≡ stored count words ++ (wordFor it ∷ [])
-  pub room : Room (count + 1) next words′
+  pub stored-word : stored (count + 1) words′ ≡ stored count words ++ (itemWord it ∷ [])
+  pub room : ItemRoom (count + 1) next words′
 
 -- whether a line is refused
 abbrev pub refusedLine : Known → Option Item → Type 0
 refusedLine known none = Unit
 refusedLine known (some it) = fits known it ≡ false
 
-abbrev pub Taken : ℕ → Kept → List ℕ → List ℕ → List ℕ → Took → Type 0
-Taken count kept line words words′ (Next next) = Passed count kept line words words′ next
-Taken count kept line words words′ Stopped = refusedLine (knownFor kept) (itemOf (fieldsOf line))
+abbrev pub LineTaken : ℕ → Kept → List ℕ → List ℕ → List ℕ → Took → Type 0
+LineTaken count kept line words words′ (Next next) = LinePassed count kept line words words′ next
+LineTaken count kept line words words′ Stopped = refusedLine (knownFor kept) (itemOf (fieldsOf line))
 
-abbrev pub wordsFor : Answer (List Item) → Answer (List ℕ)
-wordsFor (accepted items) = accepted (map wordFor items)
-wordsFor (refused number place) = refused number place
+abbrev pub itemWords : Answer (List Item) → Answer (List ℕ)
+itemWords (accepted items) = accepted (map itemWord items)
+itemWords (refused number place) = refused number place
 
 -- what was read into words: the words that are stored, or a refusal
-abbrev pub gotIn : Got → List ℕ → Answer (List ℕ)
-gotIn (Items count) words = accepted (stored count words)
-gotIn (Refused place) words = refused 1 place
+abbrev pub itemsGot : Got → List ℕ → Answer (List ℕ)
+itemsGot (Items count) words = accepted (stored count words)
+itemsGot (Refused place) words = refused 1 place
 
-abbrev pub countOf : Got → ℕ
-countOf (Items count) = count
-countOf (Refused place) = 0
+abbrev pub itemCount : Got → ℕ
+itemCount (Items count) = count
+itemCount (Refused place) = 0

@@ -1,7 +1,7 @@
 // What a line of a schema says, as one word (docs/FORMS.md, 'Words').
 ghost use mathlib.Core.Path.{_≡_};
 ghost use Prim.Native.Nat.{_^_, _<_};
-ghost use Rattle.schema.specs.Items.{itemIn, itemFor, wordFor, isItem};
+ghost use Rattle.schema.specs.Items.{itemIn, itemFor, itemWord, isItem};
 
 pub struct Item {
     pub tag: u64,
@@ -40,7 +40,7 @@ impl Item {
     // The word that says it.
     pub fn word(self) -> u64
         requires { ⌜ (self .tag < 16) × (self .value < 2 ^ 36) × (self .key < 2 ^ 24) ⌝ }
-        ensures { λ r. ⌜ r ≡ wordFor (itemFor self) ⌝ }
+        ensures { λ r. ⌜ r ≡ itemWord (itemFor self) ⌝ }
     {
         self.tag + self.value * 16 + self.key * 0x100_0000_0000
     }

@@ -2,8 +2,8 @@
 ghost use mathlib.Core.Path.{_≡_};
 ghost use Prim.Native.Nat.{_<_};
 ghost use lib.ListN.{length};
-ghost use Rattle.schema.specs.Items.{readIn};
-ghost use Rattle.schema.specs.Reads.{Room, Taken, gotIn, wordsFor, countOf};
+ghost use Rattle.schema.specs.Items.{readSchemaIn};
+ghost use Rattle.schema.specs.Reads.{ItemRoom, LineTaken, itemsGot, itemWords, itemCount};
 ghost use Rattle.rules.specs.Schema.{readSchema};
 use crate::known::Known;
 use crate::line::Parsed;
@@ -25,8 +25,8 @@ enum Got {
 
 // Takes one line: its word goes behind the others.
 fn take_line(line: &[u8], words: &mut [u64], count: u64, known: Known) -> Took
-    requires { ⌜ Room count known (now words) ⌝ }
-    ensures { λ r. ⌜ Taken count known (now (line .entry)) (now (words .entry)) (now (words .exit)) r ⌝ }
+    requires { ⌜ ItemRoom count known (now words) ⌝ }
+    ensures { λ r. ⌜ LineTaken count known (now (line .entry)) (now (words .entry)) (now (words .exit)) r ⌝ }
 {
     let Parsed::Of(item) = parse(line) else {
         return Took::Refused;
@@ -42,8 +42,8 @@ fn take_line(line: &[u8], words: &mut [u64], count: u64, known: Known) -> Took
 // Reads all lines of a text into words, from place 1 on.
 fn read_items(text: &[u8], words: &mut [u64]) -> Got
     requires { ⌜ length (now words) ≡ 142337 ⌝ }
-    ensures { λ r. ⌜ gotIn r (now (words .exit)) ≡ wordsFor (readSchema (now (text .entry))) ⌝ }
-    ensures { λ r. ⌜ countOf r < 142337 ⌝ }
+    ensures { λ r. ⌜ itemsGot r (now (words .exit)) ≡ itemWords (readSchema (now (text .entry))) ⌝ }
+    ensures { λ r. ⌜ itemCount r < 142337 ⌝ }
 {
     let mut known = Known::new();
     let mut count: u64 = 0;
@@ -75,7 +75,7 @@ impl Schema {
 
     // Reads a schema's text into a state; a refusal leaves the state as it was.
     pub fn read(text: &[u8], out: &mut [u64]) -> Reply
-        ensures { λ r. ⌜ (r ≡ readIn (now (text .entry)) (now (out .entry)) .reply) × (now (out .exit) ≡ readIn (now (text .entry)) (now (out .entry)) .buffer) ⌝ }
+        ensures { λ r. ⌜ (r ≡ readSchemaIn (now (text .entry)) (now (out .entry)) .reply) × (now (out .exit) ≡ readSchemaIn (now (text .entry)) (now (out .entry)) .buffer) ⌝ }
     {
         if out.len() < Schema::WORDS {
             return Reply::Refused(31, 0);

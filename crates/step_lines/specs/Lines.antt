@@ -26,21 +26,21 @@ stepRead (Rec count) names = some (rec (drop (32 - count) names))
 stepRead Bad names = none
 
 -- how many names a step has
-abbrev pub namesOf : StepRead → ℕ
-namesOf (Root r) = 0
-namesOf None = 0
-namesOf (Attr f) = 0
-namesOf Union = 0
-namesOf Drop = 0
-namesOf (Full t) = 0
-namesOf In = 0
-namesOf Set = 0
-namesOf (Rec count) = count
-namesOf Bad = 0
+abbrev pub nameCount : StepRead → ℕ
+nameCount (Root r) = 0
+nameCount None = 0
+nameCount (Attr f) = 0
+nameCount Union = 0
+nameCount Drop = 0
+nameCount (Full t) = 0
+nameCount In = 0
+nameCount Set = 0
+nameCount (Rec count) = count
+nameCount Bad = 0
 
 -- a step without names, whatever is kept beside it
 pub record Bare (r : StepRead) (step : Option Step) : Type 0 where
-  pub alone : namesOf r ≡ 0
+  pub alone : nameCount r ≡ 0
   pub read : (names : List ℕ) → length names ≡ 32 → stepRead r names ≡ step
 
 -- the root of a variable's letter

@@ -5,7 +5,7 @@ ghost use mathlib.Core.Bool.{false};
 ghost use lib.ListN.{length, drop};
 ghost use Rattle.rules.specs.Text.{bytes, fieldsOf};
 ghost use Rattle.rules.specs.Steps.{isText, recOf, bareStep, stepWith, stepFrom};
-ghost use Rattle.step_lines.specs.Lines.{stepRead, namesOf, Bare, varStep};
+ghost use Rattle.step_lines.specs.Lines.{stepRead, nameCount, Bare, varStep};
 use text::Decimal;
 use text::Field;
 
@@ -33,7 +33,7 @@ impl Step {
 fn read_names(line: &[u8], at: usize, names: &mut [u64]) -> Step
     requires { ⌜ (at ≤ length (now line)) × (length (now names) ≡ 32) ⌝ }
     ensures { λ r. ⌜ stepRead r (now (names .exit)) ≡ recOf (fieldsOf (drop at (now (line .entry)))) ⌝ }
-    ensures { λ r. ⌜ namesOf r ≤ 32 ⌝ }
+    ensures { λ r. ⌜ nameCount r ≤ 32 ⌝ }
 {
     let mut from = at;
     let mut least: u64 = 0;
@@ -133,7 +133,7 @@ fn step_with(word: &[u8], field: &[u8]) -> Step
 pub fn parse(line: &[u8], names: &mut [u64]) -> Step
     requires { ⌜ length (now names) ≡ 32 ⌝ }
     ensures { λ r. ⌜ stepRead r (now (names .exit)) ≡ stepFrom (fieldsOf (now (line .entry))) ⌝ }
-    ensures { λ r. ⌜ namesOf r ≤ 32 ⌝ }
+    ensures { λ r. ⌜ nameCount r ≤ 32 ⌝ }
 {
     let Field::More(word_end) = Field::at(line, 0) else {
         return bare_step(line);

@@ -45,7 +45,7 @@ use Rattle.rules.specs.Steps.{Result, result, judged, isTooDeep, restored, attr
 use Rattle.rules.specs.StepLaws.{triesOf as pathTries, triesOfTaken, anyTooDeep, grownIn, stepped-some, each-then, attr-grown, attr-deep, grown-paths, add-paths-length, add-paths-deep, add-taken-deep, or-neither, taken-each, Each, IsPath, AllPaths, IsTrie, GoodResult, AllGood, each-append, each-split, each-map, empty-trie, union-trie, trie-commutative, trie-associative, trie-shallow}
 use Rattle.rules.specs.ListingLaws.{bind-some}
 use Rattle.rules.specs.TypeLaws.{deepest, path-deep, union-too-deep, path-length, longest, markedLeaf, ancestor-deep, isNoTrie, typesIn, types-few, TypeAt, type-there, type-missing}
-use Rattle.rows.specs.Words.{depthIn, stepIn, rowOf, wordOf, isWord}
+use Rattle.rows.specs.Words.{depthIn, stepIn, rowIn, wordOf, isWord}
 use Rattle.rows.specs.WordLaws.{is-row}
 use Rattle.rows.specs.States.{rowsOf, rowsIn}
 use Rattle.words.specs.Runs.{wordsIn, Wrote}
@@ -57,10 +57,10 @@ use Rattle.path_tries.specs.Nodes.{nodeWord, belowWord, allNodes, allBelow, IsS
 use Rattle.path_tries.specs.NodeLaws.{as-it-was}
 use Rattle.type_table.specs.TypeTableLaws.{good-lawful}
 use Rattle.full_types.specs.Pairs.{takenAt, AllPairs, anyTakenDeep, AllTakenPaths}
-use Rattle.full_types.specs.Required.{Took}
+use Rattle.full_types.specs.Required.{TypesTook}
 use Rattle.step_lines.specs.Lines.{stepRead}
 use Rattle.wrapped_paths.specs.Turns.{Growing}
-use Rattle.result_stack.specs.Stacks.{pathsOf, triesOf, trieWords, stacked, Layout, Held, Reached, Outcomes, Placed, TriesAt, CopiedFrom, merged, Merges, MergedFrom, Wraps, WrapsBy, ReplacedBy, ancestorsRequired, Scratch}
+use Rattle.result_stack.specs.Stacks.{stackPaths, stackTries, trieWords, stacked, Layout, Held, Reached, Outcomes, Placed, TriesAt, CopiedFrom, merged, Merges, MergedFrom, Wraps, WrapsBy, ReplacedBy, ancestorsRequired, Scratch}
 use Rattle.step_lines.specs.declared.Step.{Step as StepRead}
 use Rattle.result_stack.specs.declared.Stack.{Stack}
 use Rattle.result_stack.specs.declared.Stepped.{Stepped}
@@ -69,14 +69,14 @@ use Rattle.result_stack.specs.StackLaws.{merged-trie, judged-nodes, judged-deep
 
 -- ---- results that are wrapped
 
-codes-split : (taken left : List Result) → codes (pathsOf (taken ++ left)) ≡ codes (pathsOf taken) ++ codes (pathsOf left)
-codes-split taken left = ap codes (map-append (λ r. r .paths) taken left) ∙ codes-append (pathsOf taken) (pathsOf left)
+codes-split : (taken left : List Result) → codes (stackPaths (taken ++ left)) ≡ codes (stackPaths taken) ++ codes (stackPaths left)
+codes-split taken left = ap codes (map-append (λ r. r .paths) taken left) ∙ codes-append (stackPaths taken) (stackPaths left)
 
-tries-split : (taken left : List Result) → stacked (triesOf (taken ++ left)) ≡ stacked (triesOf taken) ++ stacked (triesOf left)
+tries-split : (taken left : List Result) → stacked (stackTries (taken ++ left)) ≡ stacked (stackTries taken) ++ stacked (stackTries left)
 unfolding stacked
 tries-split [] left = refl
 tries-split (r ∷ taken) left =
-    rw (tries-split taken left) (sym (append-assoc (trieWords (r .trie)) (stacked (triesOf taken)) (stacked (triesOf left))))
+    rw (tries-split taken left) (sym (append-assoc (trieWords (r .trie)) (stacked (stackTries taken)) (stacked (stackTries left))))
 
 -- so many results stand on top
 pub top-of :
@@ -92,31 +92,31 @@ module _ {codeRun tries : List ℕ} {stack : Stack} (taken left : List Result) {
   left-good : AllGood left
   left-good = each-split GoodResult taken left (held .good) .1
 
-  codes-there : drop (stack .code) codeRun ≡ codes (pathsOf taken) ++ codes (pathsOf left)
+  codes-there : drop (stack .code) codeRun ≡ codes (stackPaths taken) ++ codes (stackPaths left)
   codes-there = held .layout .code-there ∙ codes-split taken left
 
-  tries-there : drop (stack .tries) tries ≡ stacked (triesOf taken) ++ stacked (triesOf left)
+  tries-there : drop (stack .tries) tries ≡ stacked (stackTries taken) ++ stacked (stackTries left)
   tries-there = held .layout .tries-there ∙ tries-split taken left
 
-  tries-good : Each IsTrie (triesOf taken)
+  tries-good : Each IsTrie (stackTries taken)
   tries-good = each-map GoodResult IsTrie (λ r. r .trie) (λ r good. good .good-trie) taken taken-good
 
   pub wrap-standing : Standing codeRun (stack .code) count
   wrap-standing = record {
-    paths = pathsOf taken;
-    rest = codes (pathsOf left);
+    paths = stackPaths taken;
+    rest = codes (stackPaths left);
     as-many = length-map taken (λ r. r .paths) ∙ many;
     coded = codes-there;
   }
 
-  pub wrap-nodes : {end nodes : ℕ} → Measures codeRun (stack .code) count end nodes → nodes ≡ nodesOfAll (pathsOf taken)
-  wrap-nodes m = m (pathsOf taken) (codes (pathsOf left)) (length-map taken (λ r. r .paths) ∙ many) codes-there .1
+  pub wrap-nodes : {end nodes : ℕ} → Measures codeRun (stack .code) count end nodes → nodes ≡ nodesOfAll (stackPaths taken)
+  wrap-nodes m = m (stackPaths taken) (codes (stackPaths left)) (length-map taken (λ r. r .paths) ∙ many) codes-there .1
 
   module _ (some-taken : 0 < count) where
     pub wrap-tries : TriesAt tries (stack .tries) count
     wrap-tries = record {
-      tries = triesOf taken;
-      rest = stacked (triesOf left);
+      tries = stackTries taken;
+      rest = stacked (stackTries left);
       some-trie = some-taken;
       as-many = length-map taken (λ r. r .trie) ∙ many;
       there = tries-there;
@@ -134,25 +134,25 @@ module _ {codeRun tries : List ℕ} {stack : Stack} (taken left : List Result) {
     module _ {head : List ℕ} {wrapping : Result} (w : Wraps head taken wrapping) where
       pub wrap-over :
           {nodes : ℕ}
-          → nodes ≡ nodesOfAll (pathsOf taken)
+          → nodes ≡ nodesOfAll (stackPaths taken)
           → 256 ≤ nodes
           → (place : ℕ)
           → judged place wrapping left ≡ refused 15 place
       wrap-over e many-nodes place = judged-nodes place wrapping left wrap-few (omega (arith, w .nodes))
 
-      module _ {tries′ : List ℕ} {start : ℕ} (few-nodes : nodesOfAll (pathsOf taken) < 256) (m : MergedFrom tries (stack .tries) count tries′ start) where
+      module _ {tries′ : List ℕ} {start : ℕ} (few-nodes : nodesOfAll (stackPaths taken) < 256) (m : MergedFrom tries (stack .tries) count tries′ start) where
         wrapped-nodes : nodesOf (wrapping .paths) ≤ 256
         wrapped-nodes = omega (arith, w .nodes)
 
         wrapped-shallow : isTooDeep (wrapping .trie) ≡ false
-        wrapped-shallow = rw (w .tries) (trie-shallow _ (merged-trie [] (triesOf taken) empty-trie tries-good))
+        wrapped-shallow = rw (w .tries) (trie-shallow _ (merged-trie [] (stackTries taken) empty-trie tries-good))
 
         pub wrap-rows : start ≡ length tries → (place : ℕ) → judged place wrapping left ≡ refused 4 place
         wrap-rows none-there place =
-            go (m (triesOf taken) (stacked (triesOf left)) (length-map taken (λ r. r .trie) ∙ many) tries-good tries-there)
+            go (m (stackTries taken) (stacked (stackTries left)) (length-map taken (λ r. r .trie) ∙ many) tries-good tries-there)
           where
             go :
-                ((start ≡ length tries) × (1024 < length (merged [] (triesOf taken)))) ⊎ Merges (triesOf taken) (stacked (triesOf left)) tries tries′ start
+                ((start ≡ length tries) × (1024 < length (merged [] (stackTries taken)))) ⊎ Merges (stackTries taken) (stacked (stackTries left)) tries tries′ start
                 → judged place wrapping left ≡ refused 4 place
             go (inl h) = judged-rows place wrapping left wrap-few wrapped-nodes wrapped-shallow (omega (arith, h .1, ap length (w .tries)))
             go (inr h) = absurd (omega (arith, h .inside))
@@ -165,10 +165,10 @@ module _ {codeRun tries : List ℕ} {stack : Stack} (taken left : List Result) {
             (record { code = first; tries = start; results = stack .results - count + 1 })
         unfolding codes stacked
         wrap-done {codeRun′} {first} there p =
-            go (m (triesOf taken) (stacked (triesOf left)) (length-map taken (λ r. r .trie) ∙ many) tries-good tries-there)
+            go (m (stackTries taken) (stacked (stackTries left)) (length-map taken (λ r. r .trie) ∙ many) tries-good tries-there)
           where
             go :
-                ((start ≡ length tries) × (1024 < length (merged [] (triesOf taken)))) ⊎ Merges (triesOf taken) (stacked (triesOf left)) tries tries′ start
+                ((start ≡ length tries) × (1024 < length (merged [] (stackTries taken)))) ⊎ Merges (stackTries taken) (stacked (stackTries left)) tries tries′ start
                 → Reached (λ place. judged place wrapping left) codeRun′ tries′
                 (record { code = first; tries = start; results = stack .results - count + 1 })
             go (inl h) = absurd (there (h .0))
@@ -181,7 +181,7 @@ module _ {codeRun tries : List ℕ} {stack : Stack} (taken left : List Result) {
                 in-tries = omega (arith, h .inside, h .same-length);
                 code-there =
                     p .there
-                    ∙ rw (codes-there, w .coded) (sym (append-assoc head (codes (pathsOf taken)) (codes (pathsOf left))));
+                    ∙ rw (codes-there, w .coded) (sym (append-assoc head (codes (stackPaths taken)) (codes (stackPaths left))));
                 tries-there = h .there ∙ rw (w .tries);
                 as-many = omega (arith, held .layout .as-many, length-append taken left);
               };
@@ -257,10 +257,10 @@ record Wrapping (names : List ℕ) (taken left : List Result) (w : Wrapped) : Ty
   leaves : w .left ≡ left
   named : namesIn (w .fields) ≡ names
   counted : countIn (w .fields) ≡ length names
-  coded : codeFields (w .fields) ≡ codes (pathsOf taken)
-  nodes : nodesOfFields (w .fields) ≡ nodesOfAll (pathsOf taken)
+  coded : codeFields (w .fields) ≡ codes (stackPaths taken)
+  nodes : nodesOfFields (w .fields) ≡ nodesOfAll (stackPaths taken)
   good : IsTrie (w .trie)
-  tries : (trie : List Row) → IsTrie trie → merged trie (triesOf taken) ≡ union trie (w .trie)
+  tries : (trie : List Row) → IsTrie trie → merged trie (stackTries taken) ≡ union trie (w .trie)
 
 names-wrapped :
     (names : List ℕ) (taken left : List Result)
@@ -503,7 +503,7 @@ pub copied-top :
     → Held codeRun tries stack (top ∷ rest)
     → CopiedFrom tries (stack .tries) state
     → rowsIn state ≡ top .trie
-copied-top {top} {rest} held c = c .1 (top .trie) (stacked (triesOf rest)) (top-good held .good-trie) (top-trie held)
+copied-top {top} {rest} held c = c .1 (top .trie) (stacked (stackTries rest)) (top-good held .good-trie) (top-trie held)
 
 module _ {codeRun tries : List ℕ} {stack : Stack} {top : Result} {rest : List Result} (held : Held codeRun tries stack (top ∷ rest)) (f : ℕ) where
   -- its scratch has room for the words after the step
@@ -614,7 +614,7 @@ below-word w h =
     let (word, rest) = and-eq-true-iff (isWord w) _ .0 h in
     let (deep, low) = and-eq-true-iff (ltb 0 (depthIn w)) _ .0 rest in
     let no-entry : eqb (depthIn w) 0 ≡ false = ne-eqb (depthIn w) 0 (omega (arith, ltb-true 0 (depthIn w) deep)) in
-    and-eq-true-iff (isStep (stepIn w)) _ .1 (node-step (rowOf w) (is-row w word) no-entry, rest)
+    and-eq-true-iff (isStep (stepIn w)) _ .1 (node-step (rowIn w) (is-row w word) no-entry, rest)
 
 nodes-below : (n : ℕ) (ws : List ℕ) → allNodes ws ≡ true → n + deepest (rowsOf ws) ≤ 24 → allBelow n ws ≡ true
 unfolding allNodes allBelow deepest
@@ -729,7 +729,7 @@ module _ {codeRun tries : List ℕ} {stack : Stack} {top : Result} {rest : List 
   run-words : take (end - (stack .tries + 1)) (drop (stack .tries + 1) tries) ≡ map wordOf (top .trie)
   run-words =
       let many : end - (stack .tries + 1) ≡ getD tries (stack .tries) 0 = omega arith in
-      rw many (trie-rows tries (stacked (triesOf rest)) (stack .tries) (top .trie) (top-trie held))
+      rw many (trie-rows tries (stacked (stackTries rest)) (stack .tries) (top .trie) (top-trie held))
 
   pub run-nodes : allNodes (take (end - (stack .tries + 1)) (drop (stack .tries + 1) tries)) ≡ true
   run-nodes = rw run-words (trie-words (top .trie) (top-good held .good-trie) .1)
@@ -865,7 +865,7 @@ module _ (words : List ℕ) (good : goodItems words ≡ true) where
           → fullStep (itemsOf words) t place (top ∷ rest) ≡ refused 8 place
       full-mismatch e place = rw (line .from, e, fullStep)
 
-      module _ {pairs : List ℕ} {end more : ℕ} (k : Took codeRun (itemsOf words) (top .paths) t (stack .code) pairs end more) where
+      module _ {pairs : List ℕ} {end more : ℕ} (k : TypesTook codeRun (itemsOf words) (top .paths) t (stack .code) pairs end more) where
         abbrev taken : List Taken
         taken = map (takenAt codeRun) (take more pairs)
 

@@ -11,7 +11,7 @@ ghost use Rattle.rows.specs.States.{rowsIn};
 ghost use Rattle.schema.specs.Items.{itemsOf, goodItems};
 ghost use Rattle.wrapped_paths.specs.Code.{AllWithin, pathsAt};
 ghost use Rattle.path_tries.specs.Nodes.{IsState, Became, anyDeep};
-ghost use Rattle.step_lines.specs.Lines.{stepRead, namesOf, GoodRead};
+ghost use Rattle.step_lines.specs.Lines.{stepRead, nameCount, GoodRead};
 ghost use Rattle.type_table.specs.Tables.{Tabled};
 ghost use Rattle.result_stack.specs.Stacks.{Holding, Scratch, StepsBy, WrapsBy, ReplacedBy, ancestorsRequired};
 use full_types::NODES;
@@ -362,7 +362,7 @@ pub fn apply(
     stack: Stack,
 ) -> Stepped
     requires { ⌜ (goodItems (now words) ≡ true) × (Tabled (now words) (now table) types × (types ≡ typesIn (itemsOf (now words)))) ⌝ }
-    requires { ⌜ (namesOf step ≤ 32) × ((length (now names) ≡ 32) × GoodRead step) ⌝ }
+    requires { ⌜ (nameCount step ≤ 32) × ((length (now names) ≡ 32) × GoodRead step) ⌝ }
     requires { ⌜ Holding (now code) (now tries) stack × (Scratch (now code) (now paths) × (length (now trie) ≡ 1026)) ⌝ }
     ensures { λ r. ⌜ StepsBy (λ place results. steppedBy (itemsOf (now (words .entry))) place (stepRead step (now (names .entry))) results) (now (code .entry)) (now (tries .entry)) stack (now (code .exit)) (now (tries .exit)) r ⌝ }
 {

@@ -19,24 +19,24 @@ abbrev pub typeRows : List ℕ → ℕ → List Row
 typeRows words t = typeBelow (suc t) (itemsOf words) t
 
 -- what a word of the table says
-abbrev pub placeIn : ℕ → ℕ
-placeIn w = w / 1048576
+abbrev pub typePlace : ℕ → ℕ
+typePlace w = w / 1048576
 
-abbrev pub depthIn : ℕ → ℕ
-depthIn w = w / 4096 % 256
+abbrev pub typeDepth : ℕ → ℕ
+typeDepth w = w / 4096 % 256
 
-abbrev pub nodesIn : ℕ → ℕ
-nodesIn w = w % 4096
+abbrev pub typeNodes : ℕ → ℕ
+typeNodes w = w % 4096
 
 abbrev pub sizeWord : TypeSize → ℕ
 sizeWord size = size .nodes + (size .depth * 4096 + size .place * 1048576)
 
 -- a word of the table says it of a type
 pub record Sized (words : List ℕ) (t w : ℕ) : Type 0 where
-  pub inside : placeIn w < length words
-  pub there : fromType t (itemsOf words) ≡ some (itemsOf (drop (placeIn w) words))
-  pub depth : depthIn w ≡ capped 25 (deepest (typeRows words t))
-  pub nodes : nodesIn w ≡ capped 1025 (length (typeRows words t))
+  pub inside : typePlace w < length words
+  pub there : fromType t (itemsOf words) ≡ some (itemsOf (drop (typePlace w) words))
+  pub depth : typeDepth w ≡ capped 25 (deepest (typeRows words t))
+  pub nodes : typeNodes w ≡ capped 1025 (length (typeRows words t))
 
 abbrev pub Tabled : List ℕ → List ℕ → ℕ → Type 0
 Tabled words table types = (length table ≡ 1024) × ((t : ℕ) → t < types → Sized words t (getD table t 0))

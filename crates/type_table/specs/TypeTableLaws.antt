@@ -21,7 +21,7 @@ use Rattle.rows.specs.Words.{wordOf}
 use Rattle.schema.specs.Items.{itemIn, itemsOf, isItem, allItems, goodItems}
 use Rattle.words.specs.Runs.{Wrote}
 use Rattle.words.specs.RunLaws.{wrote-length, wrote-more}
-use Rattle.type_table.specs.Tables.{typeRows, placeIn, depthIn, nodesIn, Sized, Tabled, attributeAt}
+use Rattle.type_table.specs.Tables.{typeRows, typePlace, typeDepth, typeNodes, Sized, Tabled, attributeAt}
 
 -- Items.
 
@@ -115,7 +115,7 @@ module _ {words : List ℕ} {first at : ℕ} (passing : Passing words first at) 
 -- A type's line and its attributes.
 
 -- type t stands at a place
-pub record Stands (words : List ℕ) (t place : ℕ) : Type 0 where
+pub record TypeStands (words : List ℕ) (t place : ℕ) : Type 0 where
   pub inside : place < length words
   pub from : fromType t (itemsOf words) ≡ some (itemsOf (drop place words))
   pub lines : TypeLines t (itemIn (getD words place 0)) (itemsOf (drop (place + 1) words))
@@ -126,7 +126,7 @@ pub stands :
     → goodItems words ≡ true
     → place < length words
     → fromType t (itemsOf words) ≡ some (itemsOf (drop place words))
-    → Stands words t place
+    → TypeStands words t place
 stands words t place good inside from =
     let found : fromType t (itemsOf words) ≡ some (itemIn (getD words place 0) ∷ itemsOf (drop (place + 1) words)) =
     rw (← items-at words place inside) from in
@@ -139,8 +139,8 @@ stands words t place good inside from =
 
 -- by its size
 stands-sized :
-    {words : List ℕ} {t w : ℕ} → goodItems words ≡ true → Sized words t w → Stands words t (placeIn w)
-stands-sized {words} {t} {w} good sized = stands words t (placeIn w) good (sized .inside) (sized .there)
+    {words : List ℕ} {t w : ℕ} → goodItems words ≡ true → Sized words t w → TypeStands words t (typePlace w)
+stands-sized {words} {t} {w} good sized = stands words t (typePlace w) good (sized .inside) (sized .there)
 
 -- by the types before it
 module _ (words : List ℕ) (place : ℕ) (inside : place < length words) where
@@ -148,7 +148,7 @@ module _ (words : List ℕ) (place : ℕ) (inside : place < length words) where
   items-around = rw (← items-at words place inside, ← map-append itemIn (take place words) (drop place words), take-append-drop place words)
 
   pub stands-here :
-      goodItems words ≡ true → getD words place 0 % 16 ≤ lastType → Stands words (typesIn (itemsOf (take place words))) place
+      goodItems words ≡ true → getD words place 0 % 16 ≤ lastType → TypeStands words (typesIn (itemsOf (take place words))) place
   stands-here good kind =
       stands words _ place good inside
       (rw (items-at words place inside)
@@ -191,7 +191,7 @@ module _ {words : List ℕ} {first at depth nodes : ℕ} (sizing : Sizing words 
       → {v w : ℕ}
       → v ≡ getD words at 0 / 16 % 2 ^ 36
       → Sized words v w
-      → Sizing words first (at + 1) (larger depth (capped 25 (1 + depthIn w))) (capped 1025 (nodes + 1 + nodesIn w))
+      → Sizing words first (at + 1) (larger depth (capped 25 (1 + typeDepth w))) (capped 1025 (nodes + 1 + typeNodes w))
   unfolding passing-next
   sizing-next here e sized = record {
     passing = passing-next (sizing .passing) here;
@@ -206,16 +206,16 @@ module _ {words : List ℕ} {first at depth nodes : ℕ} (sizing : Sizing words 
 -- the size of the type at a place, once no attribute is left
 pub sizing-all :
     (words : List ℕ) (t place at depth nodes : ℕ)
-    → Stands words t place
+    → TypeStands words t place
     → Sizing words (place + 1) at depth nodes
     → attributeAt words at ≡ false
     → length words < 262144
     → Sized words t (nodes + (depth * 4096 + place * 1048576))
 sizing-all words t place at depth nodes stands sizing none-left short =
     let small = sizing-small sizing in
-    let place-is : placeIn (nodes + (depth * 4096 + place * 1048576)) ≡ place = omega arith in
-    let depth-is : depthIn (nodes + (depth * 4096 + place * 1048576)) ≡ depth = omega arith in
-    let nodes-is : nodesIn (nodes + (depth * 4096 + place * 1048576)) ≡ nodes = omega arith in
+    let place-is : typePlace (nodes + (depth * 4096 + place * 1048576)) ≡ place = omega arith in
+    let depth-is : typeDepth (nodes + (depth * 4096 + place * 1048576)) ≡ depth = omega arith in
+    let nodes-is : typeNodes (nodes + (depth * 4096 + place * 1048576)) ≡ nodes = omega arith in
     let all = passing-all (sizing .passing) none-left in
     record {
       inside = rw place-is (stands .inside);
@@ -382,14 +382,14 @@ module _
     (tabled : Tabled words table types)
     (less : t < types)
   where
-    pub tabled-stands : {place : ℕ} → place ≡ placeIn (getD table t 0) → Stands words t place
+    pub tabled-stands : {place : ℕ} → place ≡ typePlace (getD table t 0) → TypeStands words t place
     tabled-stands e = rw e (stands-sized good (tabled .1 t less))
 
     pub tabled-inside : t < length table
     tabled-inside = omega (arith, tabled .0, stands-sized good (tabled .1 t less) .lines .small)
 
 -- what the definitions find of a type that stands at a place
-module _ {words : List ℕ} {t place : ℕ} (here : Stands words t place) where
+module _ {words : List ℕ} {t place : ℕ} (here : TypeStands words t place) where
   found-lines : fromType t (itemsOf words) ≡ some (itemIn (getD words place 0) ∷ itemsOf (drop (place + 1) words))
   found-lines = rw (← items-at words place (here .inside)) (here .from)
 

@@ -10,7 +10,7 @@ ghost use Rattle.rules.specs.TypeLaws.{typesIn, deepest};
 ghost use Rattle.rows.specs.Words.{wordOf};
 ghost use Rattle.schema.specs.Items.{itemsOf, goodItems};
 ghost use Rattle.words.specs.Runs.{Wrote};
-ghost use Rattle.type_table.specs.Tables.{sizeWord, placeIn, depthIn, nodesIn, Sized, Tabled, attributeAt, typeRows};
+ghost use Rattle.type_table.specs.Tables.{sizeWord, typePlace, typeDepth, typeNodes, Sized, Tabled, attributeAt, typeRows};
 use rows::Kind;
 use rows::Row;
 use schema::Item;
@@ -29,7 +29,7 @@ impl TypeSize {
     pub const TYPES: usize = 1_024;
 
     fn of(word: u64) -> TypeSize
-        ensures { λ r. ⌜ (r .place ≡ placeIn word) × ((r .depth ≡ depthIn word) × (r .nodes ≡ nodesIn word)) ⌝ }
+        ensures { λ r. ⌜ (r .place ≡ typePlace word) × ((r .depth ≡ typeDepth word) × (r .nodes ≡ typeNodes word)) ⌝ }
     {
         TypeSize {
             place: (word / 0x10_0000) as usize,
@@ -49,7 +49,7 @@ impl TypeSize {
 // The size of a type in a table.
 pub fn size_at(table: &[u64], t: u64) -> TypeSize
     requires { ⌜ t < length (now table) ⌝ }
-    ensures { λ r. ⌜ (r .place ≡ placeIn (getD (now (table .entry)) t 0)) × ((r .depth ≡ depthIn (getD (now (table .entry)) t 0)) × (r .nodes ≡ nodesIn (getD (now (table .entry)) t 0))) ⌝ }
+    ensures { λ r. ⌜ (r .place ≡ typePlace (getD (now (table .entry)) t 0)) × ((r .depth ≡ typeDepth (getD (now (table .entry)) t 0)) × (r .nodes ≡ typeNodes (getD (now (table .entry)) t 0))) ⌝ }
 {
     let at = t as usize;
     TypeSize::of(table[at])

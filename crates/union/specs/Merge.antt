@@ -7,13 +7,13 @@ use lib.Dec.{ltb}
 use lib.ListN.{length, take, drop, getD}
 use lib.Seq.{sets}
 use Rattle.rules.specs.Tries.{entriesIn, nodesIn}
-use Rattle.rows.specs.Words.{depthIn, rowOf, keyIn}
+use Rattle.rows.specs.Words.{depthIn, rowIn, rankIn}
 use Rattle.union.specs.Unions.{unionWords}
 use Rattle.rows.specs.declared.Limits.{Limits}
 
 -- the key of the row at a place of a run, past every row's key behind the last
 unfoldable pub keyAt : List ℕ → ℕ → ℕ
-keyAt rows at = cond (ltb at (length rows)) (keyIn (getD rows at 0)) (2 ^ 53)
+keyAt rows at = cond (ltb at (length rows)) (rankIn (getD rows at 0)) (2 ^ 53)
 
 -- the key of the next row of either run
 unfoldable pub nextKey : List ℕ → List ℕ → ℕ → ℕ → ℕ
@@ -31,14 +31,14 @@ pub record Turn (a b : List ℕ) (i j w i′ j′ : ℕ) : Type 0 where
   pub more : i + j < i′ + j′
 
 -- i and j rows of the runs are passed, and what is left of their union fits from the place k of the output on
-pub record Room (a b out : List ℕ) (i j k : ℕ) : Type 0 where
+pub record MergeRoom (a b out : List ℕ) (i j k : ℕ) : Type 0 where
   pub in-a : i ≤ length a
   pub in-b : j ≤ length b
   pub fits : k + length (left a b i j) ≤ length out
 
 -- rows were stored: what is left still fits, and storing it gives what storing all of it would have given
-pub record Stored (a b out : List ℕ) (i j k : ℕ) (out′ : List ℕ) (i′ j′ k′ : ℕ) : Type 0 where
-  pub room : Room a b out′ i′ j′ k′
+pub record Merged (a b out : List ℕ) (i j k : ℕ) (out′ : List ℕ) (i′ j′ k′ : ℕ) : Type 0 where
+  pub room : MergeRoom a b out′ i′ j′ k′
   pub same : sets out′ k′ (left a b i′ j′) ≡ sets out k (left a b i j)
   pub placed : k′ + length (left a b i′ j′) ≡ k + length (left a b i j)
   pub passed : i + j ≤ i′ + j′
@@ -63,5 +63,5 @@ pub record Copied (rows : List ℕ) (at : ℕ) (out : List ℕ) (to : ℕ) (out�
 
 -- so many entries and nodes exceed the limits exactly where those of words do
 pub record Decides (limits : Limits) (words : List ℕ) (entries nodes : ℕ) : Type 0 where
-  pub by-entries : ltb (limits .entries) entries ≡ ltb (limits .entries) (entriesIn (map rowOf words))
-  pub by-nodes : ltb (limits .nodes) nodes ≡ ltb (limits .nodes) (nodesIn (map rowOf words))
+  pub by-entries : ltb (limits .entries) entries ≡ ltb (limits .entries) (entriesIn (map rowIn words))
+  pub by-nodes : ltb (limits .nodes) nodes ≡ ltb (limits .nodes) (nodesIn (map rowIn words))

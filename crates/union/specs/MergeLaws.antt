@@ -12,7 +12,7 @@ use lib.ListN.{length, take, drop, getD, set, length-set, length-drop, drop-of-l
 use lib.Seq.{drop-cons, sets, length-sets, getD-drop}
 use Rattle.rules.specs.Facts.{compared}
 use Rattle.words.specs.SeqLaws.{copied-next}
-use Rattle.rows.specs.Words.{depthIn, keyIn, joinedWord}
+use Rattle.rows.specs.Words.{depthIn, rankIn, joinedWord}
 use Rattle.union.specs.Unions.{unionWords}
 use Rattle.rows.specs.WordLaws.{key-below, word-at}
 use Rattle.union.specs.UnionLaws.{union-words-nil, union-words-first, union-words-second, union-words-same}
@@ -22,11 +22,11 @@ use Rattle.rows.specs.CountLaws.{
   counted-node as node-counted,
 }
 use Rattle.rows.specs.States.{allWords, Counted}
-use Rattle.union.specs.Merge.{keyAt, nextKey, left, Turn, Room, Stored, belowAt, CopiedBelow, Copied}
+use Rattle.union.specs.Merge.{keyAt, nextKey, left, Turn, MergeRoom, Merged, belowAt, CopiedBelow, Copied}
 
 -- ---- the key at a place of a run
 
-pub key-in : (a : List ℕ) (i : ℕ) → i < length a → keyAt a i ≡ keyIn (getD a i 0)
+pub key-in : (a : List ℕ) (i : ℕ) → i < length a → keyAt a i ≡ rankIn (getD a i 0)
 unfolding keyAt
 key-in a i h = rw (lt-ltb i (length a) h)
 
@@ -79,7 +79,7 @@ module _ (a b : List ℕ) (i j : ℕ) (in-a : i ≤ length a) (in-b : j ≤ leng
 
       inside : j < length b → left a b i j ≡ getD a i 0 ∷ left a b (i + 1) j
       inside q =
-          let smaller : keyIn (getD a i 0) < keyIn (getD b j 0) = omega (arith, key-in a i ia, key-in b j q) in
+          let smaller : rankIn (getD a i 0) < rankIn (getD b j 0) = omega (arith, key-in a i ia, key-in b j q) in
           rw (rest-of a i ia, rest-of b j q, union-words-first (getD a i 0) (getD b j 0) (drop (i + 1) a) (drop (j + 1) b) smaller)
 
   pub turn-second : j < length b → keyAt b j < keyAt a i → Turn a b i j (getD b j 0) i (j + 1)
@@ -91,14 +91,14 @@ module _ (a b : List ℕ) (i j : ℕ) (in-a : i ≤ length a) (in-b : j ≤ leng
 
       inside : i < length a → left a b i j ≡ getD b j 0 ∷ left a b i (j + 1)
       inside q =
-          let smaller : keyIn (getD b j 0) < keyIn (getD a i 0) = omega (arith, key-in b j jb, key-in a i q) in
+          let smaller : rankIn (getD b j 0) < rankIn (getD a i 0) = omega (arith, key-in b j jb, key-in a i q) in
           rw (rest-of a i q, rest-of b j jb, union-words-second (getD a i 0) (getD b j 0) (drop (i + 1) a) (drop (j + 1) b) smaller)
 
   pub turn-same : i < length a → j < length b → keyAt a i ≡ keyAt b j →
       Turn a b i j (joinedWord (getD a i 0) (getD b j 0)) (i + 1) (j + 1)
   unfolding left
   turn-same ia jb h =
-      let equal : keyIn (getD a i 0) ≡ keyIn (getD b j 0) = sym (key-in a i ia) ∙ h ∙ key-in b j jb in
+      let equal : rankIn (getD a i 0) ≡ rankIn (getD b j 0) = sym (key-in a i ia) ∙ h ∙ key-in b j jb in
       record {
         taken = rw (rest-of a i ia, rest-of b j jb, union-words-same (getD a i 0) (getD b j 0) (drop (i + 1) a) (drop (j + 1) b) equal);
         in-a = omega arith;
@@ -109,12 +109,12 @@ module _ (a b : List ℕ) (i j : ℕ) (in-a : i ≤ length a) (in-b : j ≤ leng
 -- ---- storing what is left
 
 -- there is room for the next row
-pub turn-fits : {a b out : List ℕ} {i j k w i′ j′ : ℕ} → Room a b out i j k → Turn a b i j w i′ j′ → k < length out
+pub turn-fits : {a b out : List ℕ} {i j k w i′ j′ : ℕ} → MergeRoom a b out i j k → Turn a b i j w i′ j′ → k < length out
 turn-fits room turn = omega (arith, room .fits, ap length (turn .taken))
 
 -- one row is stored
-pub stored-row : {a b out : List ℕ} {i j k w i′ j′ : ℕ} → Room a b out i j k → Turn a b i j w i′ j′ →
-    Stored a b out i j k (set out k w) i′ j′ (k + 1)
+pub stored-row : {a b out : List ℕ} {i j k w i′ j′ : ℕ} → MergeRoom a b out i j k → Turn a b i j w i′ j′ →
+    Merged a b out i j k (set out k w) i′ j′ (k + 1)
 stored-row {out = out} {k = k} {w = w} room turn =
     record {
       room = record { in-a = turn .in-a; in-b = turn .in-b; fits = omega (arith, room .fits, ap length (turn .taken), length-set out k w) };
@@ -124,12 +124,12 @@ stored-row {out = out} {k = k} {w = w} room turn =
     }
 
 -- nothing is stored
-pub stored-none : (a b out : List ℕ) (i j k : ℕ) → Room a b out i j k → Stored a b out i j k out i j k
+pub stored-none : (a b out : List ℕ) (i j k : ℕ) → MergeRoom a b out i j k → Merged a b out i j k out i j k
 stored-none a b out i j k room = record { room = room; same = refl; placed = refl; passed = le-refl (i + j) }
 
 -- some rows are stored, and then some more
 pub stored-more : {a b out out₁ out₂ : List ℕ} {i j k i₁ j₁ k₁ i₂ j₂ k₂ : ℕ} →
-    Stored a b out i j k out₁ i₁ j₁ k₁ → Stored a b out₁ i₁ j₁ k₁ out₂ i₂ j₂ k₂ → Stored a b out i j k out₂ i₂ j₂ k₂
+    Merged a b out i j k out₁ i₁ j₁ k₁ → Merged a b out₁ i₁ j₁ k₁ out₂ i₂ j₂ k₂ → Merged a b out i j k out₂ i₂ j₂ k₂
 stored-more once again = record {
   room = again .room;
   same = again .same ∙ once .same;
@@ -142,8 +142,8 @@ pub stored-run :
     (rows : List ℕ) (at : ℕ) {a b out : List ℕ} {k : ℕ} (f g : ℕ → ℕ) (n : ℕ)
     → at + n ≤ length rows
     → ((m : ℕ) → m < n → Turn a b (f m) (g m) (getD rows (at + m) 0) (f (m + 1)) (g (m + 1)))
-    → Room a b out (f 0) (g 0) k
-    → Stored a b out (f 0) (g 0) k (sets out k (take n (drop at rows))) (f n) (g n) (k + n)
+    → MergeRoom a b out (f 0) (g 0) k
+    → Merged a b out (f 0) (g 0) k (sets out k (take n (drop at rows))) (f n) (g n) (k + n)
 stored-run rows at f g zero h turns room = rw add-zero (stored-none _ _ _ _ _ _ room)
 stored-run rows at {out = out} {k = k} f g (suc n) h turns room =
     let before = stored-run rows at f g n (omega arith) (λ m less. turns m (omega arith)) room in
@@ -152,14 +152,14 @@ stored-run rows at {out = out} {k = k} f g (suc n) h turns room =
     rw (← one-more, add-suc) (rw (add-one, add-one) at (stored-more before next))
 
 -- storing keeps the output's length
-pub stored-length : {a b out out′ : List ℕ} {i j k i′ j′ k′ : ℕ} → Stored a b out i j k out′ i′ j′ k′ → length out′ ≡ length out
+pub stored-length : {a b out out′ : List ℕ} {i j k i′ j′ k′ : ℕ} → Merged a b out i j k out′ i′ j′ k′ → length out′ ≡ length out
 stored-length {a} {b} {out} {out′} {i} {j} {k} {i′} {j′} {k′} stored =
     sym (length-sets out′ k′ (left a b i′ j′)) ∙ ap length (stored .same) ∙ length-sets out k (left a b i j)
 
 -- ---- copying what one run alone has
 
 -- a deeper row comes first
-deeper-first : (x y : ℕ) → depthIn x < depthIn y → keyIn y < keyIn x
+deeper-first : (x y : ℕ) → depthIn x < depthIn y → rankIn y < rankIn x
 deeper-first x y h = let node = ne-eqb (depthIn y) 0 (λ e. omega arith) in rw node (omega arith)
 
 pub below-at : (rows : List ℕ) (at depth : ℕ) → belowAt rows at depth ≡ true → (at < length rows) × (depth < depthIn (getD rows at 0))
@@ -228,9 +228,9 @@ copied-keys {rows} {at = at} bound copied h (suc m) inside =
       key-in rows (at + suc m) (omega (arith, copied .inside)),
     )
 
-module _ {a b out out′ : List ℕ} {i j k end : ℕ} (room : Room a b out i j k) where
+module _ {a b out out′ : List ℕ} {i j k end : ℕ} (room : MergeRoom a b out i j k) where
   -- a node that the left run alone has is stored, with all below it
-  pub stored-left : keyAt a i < keyAt b j → Copied a i out k out′ end → Stored a b out i j k out′ end j (k + (end - i))
+  pub stored-left : keyAt a i < keyAt b j → Copied a i out k out′ end → Merged a b out i j k out′ end j (k + (end - i))
   stored-left less copied =
       let last : i + (end - i) ≡ end = omega (arith, copied .some-row) in
       let turns : (m : ℕ) → m < end - i → Turn a b (i + m) j (getD a (i + m) 0) (i + (m + 1)) j = λ m inside.
@@ -239,7 +239,7 @@ module _ {a b out out′ : List ℕ} {i j k end : ℕ} (room : Room a b out i j 
       rw (copied .copied) (rw (add-zero, last) at stored)
 
   -- and one that the right run alone has
-  pub stored-right : keyAt b j < keyAt a i → Copied b j out k out′ end → Stored a b out i j k out′ i end (k + (end - j))
+  pub stored-right : keyAt b j < keyAt a i → Copied b j out k out′ end → Merged a b out i j k out′ i end (k + (end - j))
   stored-right less copied =
       let last : j + (end - j) ≡ end = omega (arith, copied .some-row) in
       let turns : (m : ℕ) → m < end - j → Turn a b i (j + m) (getD b (j + m) 0) i (j + (m + 1)) = λ m inside.
@@ -259,16 +259,16 @@ union-longer (x ∷ a) b = go (λ b. union-longer a b) b
     go : ((b : List ℕ) → Longer a b) → (b : List ℕ) → Longer (x ∷ a) b
     go rest [] = rw (union-words-nil (x ∷ a)) (omega arith, omega arith)
     go rest (y ∷ b) =
-        compared (keyIn x) (keyIn y)
+        compared (rankIn x) (rankIn y)
         (λ less. let longer = rest (y ∷ b) in rw (union-words-first x y a b less) (omega (arith, longer .0), omega (arith, longer .1)))
-        λ not-less. compared (keyIn y) (keyIn x)
+        λ not-less. compared (rankIn y) (rankIn x)
         (λ less. let longer = go rest b in rw (union-words-second x y a b less) (omega (arith, longer .0), omega (arith, longer .1)))
         (λ not-more.
         let longer = rest b in
-        let equal : keyIn x ≡ keyIn y = omega arith in
+        let equal : rankIn x ≡ rankIn y = omega arith in
         rw (union-words-same x y a b equal) (omega (arith, longer .0), omega (arith, longer .1)))
 
-module _ {a b out : List ℕ} {i j k : ℕ} (room : Room a b out i j k) where
+module _ {a b out : List ℕ} {i j k : ℕ} (room : MergeRoom a b out i j k) where
   -- so all that is left of either run fits
   pub room-left : k + length a ≤ i + length out
   unfolding left
@@ -309,19 +309,19 @@ module _ {words a b : List ℕ} {i j w i′ j′ entries nodes : ℕ} where
 -- ---- the whole union
 
 -- all of it is to be stored
-pub room-start : (a b out : List ℕ) (k : ℕ) → k + length (unionWords a b) ≤ length out → Room a b out 0 0 k
+pub room-start : (a b out : List ℕ) (k : ℕ) → k + length (unionWords a b) ≤ length out → MergeRoom a b out 0 0 k
 unfolding left
 room-start a b out k h = record { in-a = omega arith; in-b = omega arith; fits = h }
 
 -- all of it is stored where no row is next
-pub stored-all : (a b out out′ : List ℕ) (k i′ j′ k′ : ℕ) → allWords a ≡ true → allWords b ≡ true → Stored a b out 0 0 k out′ i′ j′ k′ →
+pub stored-all : (a b out out′ : List ℕ) (k i′ j′ k′ : ℕ) → allWords a ≡ true → allWords b ≡ true → Merged a b out 0 0 k out′ i′ j′ k′ →
     2 ^ 53 ≤ nextKey a b i′ j′ → out′ ≡ sets out k (unionWords a b)
 unfolding left
 stored-all a b out out′ k i′ j′ k′ good-a good-b stored h =
     ap (sets out′ k′) (sym (left-ended a b i′ j′ good-a good-b h)) ∙ stored .same
 
 -- and then the next place is behind all of it
-pub stored-end : (a b out out′ : List ℕ) (k i′ j′ k′ : ℕ) → allWords a ≡ true → allWords b ≡ true → Stored a b out 0 0 k out′ i′ j′ k′ →
+pub stored-end : (a b out out′ : List ℕ) (k i′ j′ k′ : ℕ) → allWords a ≡ true → allWords b ≡ true → Merged a b out 0 0 k out′ i′ j′ k′ →
     2 ^ 53 ≤ nextKey a b i′ j′ → k′ ≡ k + length (unionWords a b)
 unfolding left
 stored-end a b out out′ k i′ j′ k′ good-a good-b stored h =

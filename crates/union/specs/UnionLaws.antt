@@ -9,7 +9,7 @@ use borrow.Author.Tests.{ltb-true, ltb-false, lt-ltb, le-ltb, le-leb, lt-leb}
 use Rattle.rules.specs.Facts.{by-test}
 use Rattle.rules.specs.Tries.{union, entriesIn, nodesIn}
 use Rattle.rules.specs.TrieLaws.{union-nil-left, union-nil-right, union-first, union-second, union-same, union-sum-length, union-sum-entries, union-sum-nodes}
-use Rattle.rows.specs.Words.{rowOf, isWord, keyIn, joinedWord}
+use Rattle.rows.specs.Words.{rowIn, isWord, rankIn, joinedWord}
 use Rattle.union.specs.Unions.{unionWordsOnto, unionWords, unionInto, Roomy, unionOf}
 use Rattle.rows.specs.States.{allWords, formOf, wordsOf, rowsOf, lawfulState, Counted}
 use mathlib.Core.Logic.{⊎-elim}
@@ -34,40 +34,40 @@ union-words-nil (x ∷ a) = refl
 
 -- the turn that takes the first of the two next words, the second, or both in one
 module _ (x y : ℕ) (a b : List ℕ) where
-  pub union-words-first : keyIn x < keyIn y → unionWords (x ∷ a) (y ∷ b) ≡ x ∷ unionWords a (y ∷ b)
+  pub union-words-first : rankIn x < rankIn y → unionWords (x ∷ a) (y ∷ b) ≡ x ∷ unionWords a (y ∷ b)
   unfolding unionWords unionWordsOnto
   union-words-first h = rw (next-first x y h, unionWords, unionWordsOnto)
 
-  pub union-words-second : keyIn y < keyIn x → unionWords (x ∷ a) (y ∷ b) ≡ y ∷ unionWords (x ∷ a) b
+  pub union-words-second : rankIn y < rankIn x → unionWords (x ∷ a) (y ∷ b) ≡ y ∷ unionWords (x ∷ a) b
   unfolding unionWords unionWordsOnto
   union-words-second h = rw (next-second x y h, unionWords, unionWordsOnto)
 
-  pub union-words-same : keyIn x ≡ keyIn y → unionWords (x ∷ a) (y ∷ b) ≡ joinedWord x y ∷ unionWords a b
+  pub union-words-same : rankIn x ≡ rankIn y → unionWords (x ∷ a) (y ∷ b) ≡ joinedWord x y ∷ unionWords a b
   unfolding unionWords unionWordsOnto
   union-words-same h = rw (next-same x y h, unionWords, unionWordsOnto)
 
 -- the union of two runs of words is a run of words and packs the union of their rows
 abbrev Packs : List ℕ → List ℕ → Type 0
-Packs a b = (map rowOf (unionWords a b) ≡ union (map rowOf a) (map rowOf b)) × (allWords (unionWords a b) ≡ true)
+Packs a b = (map rowIn (unionWords a b) ≡ union (map rowIn a) (map rowIn b)) × (allWords (unionWords a b) ≡ true)
 
 -- it does so turn by turn
 module _ (x y : ℕ) (a b : List ℕ) (hx : isWord x ≡ true) (hy : isWord y ≡ true) where
-  packs-first : keyIn x < keyIn y → Packs a (y ∷ b) → Packs (x ∷ a) (y ∷ b)
+  packs-first : rankIn x < rankIn y → Packs a (y ∷ b) → Packs (x ∷ a) (y ∷ b)
   packs-first h more =
       let e = sym (next-word x y hx hy) ∙ next-first x y h in
-      rw (union-words-first x y a b h, union-first (rowOf x) (rowOf y) (map rowOf a) (map rowOf b) e)
-      (ap (λ c. rowOf x ∷ c) (more .0), all-words-cons _ _ .1 (hx, more .1))
+      rw (union-words-first x y a b h, union-first (rowIn x) (rowIn y) (map rowIn a) (map rowIn b) e)
+      (ap (λ c. rowIn x ∷ c) (more .0), all-words-cons _ _ .1 (hx, more .1))
 
-  packs-second : keyIn y < keyIn x → Packs (x ∷ a) b → Packs (x ∷ a) (y ∷ b)
+  packs-second : rankIn y < rankIn x → Packs (x ∷ a) b → Packs (x ∷ a) (y ∷ b)
   packs-second h more =
       let e = sym (next-word x y hx hy) ∙ next-second x y h in
-      rw (union-words-second x y a b h, union-second (rowOf x) (rowOf y) (map rowOf a) (map rowOf b) e)
-      (ap (λ c. rowOf y ∷ c) (more .0), all-words-cons _ _ .1 (hy, more .1))
+      rw (union-words-second x y a b h, union-second (rowIn x) (rowIn y) (map rowIn a) (map rowIn b) e)
+      (ap (λ c. rowIn y ∷ c) (more .0), all-words-cons _ _ .1 (hy, more .1))
 
-  packs-same : keyIn x ≡ keyIn y → Packs a b → Packs (x ∷ a) (y ∷ b)
+  packs-same : rankIn x ≡ rankIn y → Packs a b → Packs (x ∷ a) (y ∷ b)
   packs-same h more =
       let e = sym (next-word x y hx hy) ∙ next-same x y h in
-      rw (union-words-same x y a b h, union-same (rowOf x) (rowOf y) (map rowOf a) (map rowOf b) e)
+      rw (union-words-same x y a b h, union-same (rowIn x) (rowIn y) (map rowIn a) (map rowIn b) e)
       (ap₂ (λ row c. row ∷ c) (joined-row x y) (more .0), all-words-cons _ _ .1 (joined-word x y hx hy h, more .1))
 
 -- the union of words packs the union of their rows, and is of words
@@ -75,7 +75,7 @@ pub union-words :
     (a b : List ℕ)
     → allWords a ≡ true
     → allWords b ≡ true
-    → (map rowOf (unionWords a b) ≡ union (map rowOf a) (map rowOf b)) × (allWords (unionWords a b) ≡ true)
+    → (map rowIn (unionWords a b) ≡ union (map rowIn a) (map rowIn b)) × (allWords (unionWords a b) ≡ true)
 unfolding unionWords
 union-words [] b wa wb = rw union-nil-left (refl, wb)
 union-words (x ∷ a) b wa wb =
@@ -91,10 +91,10 @@ union-words (x ∷ a) b wa wb =
     onto hx rest [] wb = rw (union-words-nil, union-nil-right) (refl, wa)
     onto hx rest (y ∷ b) wb =
         let (hy, hb) = all-words-cons y b .0 wb in
-        by-test (ltb (keyIn x) (keyIn y))
+        by-test (ltb (rankIn x) (rankIn y))
         (λ e. packs-first x y a b hx hy (ltb-true _ _ e) (rest (y ∷ b) wb))
         (λ e.
-        by-test (ltb (keyIn y) (keyIn x))
+        by-test (ltb (rankIn y) (rankIn x))
         (λ f. packs-second x y a b hx hy (ltb-true _ _ f) (onto hx rest b hb))
         (λ f. packs-same x y a b hx hy (omega (arith, ltb-false)) (rest b hb)))
 
@@ -157,14 +157,14 @@ module _ (a b : List ℕ) (good-a : allWords a ≡ true) (good-b : allWords b �
               kind-room kind,
               all-rows (union (rowsOf a) (rowsOf b)),
               ap length united,
-              length-map (unionWords a b) rowOf,
+              length-map (unionWords a b) rowIn,
             )
 
         pub union-fits : Roomy kind a b out → 1 + length (unionWords a b) ≤ length out
         union-fits roomy =
             let sum = union-sum-length (rowsOf a) (rowsOf b) in
             ⊎-elim (λ long. omega (arith, union-within))
-            (λ long. omega (arith, sum, ap length united, length-map (unionWords a b) rowOf, length-map a rowOf, length-map b rowOf))
+            (λ long. omega (arith, sum, ap length united, length-map (unionWords a b) rowIn, length-map a rowIn, length-map b rowIn))
             roomy
 
         pub union-stored : unionInto kind a b out ≡ record { reply = Done; buffer = sets out 0 (length (unionWords a b) ∷ unionWords a b) }
@@ -176,7 +176,7 @@ module _ (a b : List ℕ) (good-a : allWords a ≡ true) (good-b : allWords b �
               le-ltb (limits .nodes) nodes few,
               ← united,
               words-rows (unionWords a b) (union-words a b good-a good-b .1),
-              length-map (unionWords a b) rowOf,
+              length-map (unionWords a b) rowIn,
             )
 
 -- ---- the union of lent states, by what was tested

@@ -8,7 +8,7 @@ ghost use Prim.Native.Nat.{_+_, _*_, _^_, _<_, _≤_};
 ghost use lib.ListN.{length};
 ghost use Rattle.union.specs.Unions.{unionWords, unionOf, unionInto, Roomy};
 ghost use Rattle.rows.specs.States.{allWords, Counted};
-ghost use Rattle.union.specs.Merge.{keyAt, nextKey, Turn, Room, Stored, belowAt, CopiedBelow, Copied, Decides};
+ghost use Rattle.union.specs.Merge.{keyAt, nextKey, Turn, MergeRoom, Merged, belowAt, CopiedBelow, Copied, Decides};
 use rows::Kind;
 use rows::Limits;
 use rows::Row;
@@ -182,9 +182,9 @@ fn copy_trie(rows: &[u64], at: usize, out: &mut [u64], to: usize) -> usize
 
 // The next node where one run alone has it, and all below it: the next row of the other run comes after these.
 fn take_alone(a: &[u64], b: &[u64], out: &mut [u64], c: Cursors) -> Cursors
-    requires { ⌜ Room (now a) (now b) (now out) (c .a) (c .b) (c .out) ⌝ }
+    requires { ⌜ MergeRoom (now a) (now b) (now out) (c .a) (c .b) (c .out) ⌝ }
     requires { ⌜ (nextKey (now a) (now b) (c .a) (c .b) < 2 ^ 53) × (keyAt (now a) (c .a) ≢ keyAt (now b) (c .b)) ⌝ }
-    ensures { λ r. ⌜ Stored (now (a .entry)) (now (b .entry)) (now (out .entry)) (c .a) (c .b) (c .out) (now (out .exit)) (r .a) (r .b) (r .out) ⌝ }
+    ensures { λ r. ⌜ Merged (now (a .entry)) (now (b .entry)) (now (out .entry)) (c .a) (c .b) (c .out) (now (out .exit)) (r .a) (r .b) (r .out) ⌝ }
     ensures { λ r. ⌜ c .a + c .b < r .a + r .b ⌝ }
 {
     if key_at(a, c.a) < key_at(b, c.b) {
@@ -205,9 +205,9 @@ fn take_alone(a: &[u64], b: &[u64], out: &mut [u64], c: Cursors) -> Cursors
 
 // Stores the next row where both runs have it.
 fn take_both(a: &[u64], b: &[u64], out: &mut [u64], c: Cursors) -> Cursors
-    requires { ⌜ Room (now a) (now b) (now out) (c .a) (c .b) (c .out) ⌝ }
+    requires { ⌜ MergeRoom (now a) (now b) (now out) (c .a) (c .b) (c .out) ⌝ }
     requires { ⌜ (nextKey (now a) (now b) (c .a) (c .b) < 2 ^ 53) × (keyAt (now a) (c .a) ≡ keyAt (now b) (c .b)) ⌝ }
-    ensures { λ r. ⌜ Stored (now (a .entry)) (now (b .entry)) (now (out .entry)) (c .a) (c .b) (c .out) (now (out .exit)) (r .a) (r .b) (r .out) ⌝ }
+    ensures { λ r. ⌜ Merged (now (a .entry)) (now (b .entry)) (now (out .entry)) (c .a) (c .b) (c .out) (now (out .exit)) (r .a) (r .b) (r .out) ⌝ }
     ensures { λ r. ⌜ c .a + c .b < r .a + r .b ⌝ }
 {
     let i = c.a;
@@ -225,10 +225,10 @@ fn take_both(a: &[u64], b: &[u64], out: &mut [u64], c: Cursors) -> Cursors
 
 // The next node of either run, and then all below it: its fields and its ancestors trie. What one run alone has is copied.
 fn union_trie(a: &[u64], b: &[u64], out: &mut [u64], c: Cursors, left: u64) -> Cursors
-    requires { ⌜ Room (now a) (now b) (now out) (c .a) (c .b) (c .out) ⌝ }
+    requires { ⌜ MergeRoom (now a) (now b) (now out) (c .a) (c .b) (c .out) ⌝ }
     requires { ⌜ nextKey (now a) (now b) (c .a) (c .b) < 2 ^ 53 ⌝ }
     requires { ⌜ left ≤ 24 ⌝ }
-    ensures { λ r. ⌜ Stored (now (a .entry)) (now (b .entry)) (now (out .entry)) (c .a) (c .b) (c .out) (now (out .exit)) (r .a) (r .b) (r .out) ⌝ }
+    ensures { λ r. ⌜ Merged (now (a .entry)) (now (b .entry)) (now (out .entry)) (c .a) (c .b) (c .out) (now (out .exit)) (r .a) (r .b) (r .out) ⌝ }
     ensures { λ r. ⌜ c .a + c .b < r .a + r .b ⌝ }
 {
     if key_at(a, c.a) != key_at(b, c.b) {
@@ -244,9 +244,9 @@ fn union_trie(a: &[u64], b: &[u64], out: &mut [u64], c: Cursors, left: u64) -> C
 
 // The nodes at one depth whose step is a field.
 fn union_fields(a: &[u64], b: &[u64], out: &mut [u64], c: Cursors, left: u64) -> Cursors
-    requires { ⌜ Room (now a) (now b) (now out) (c .a) (c .b) (c .out) ⌝ }
+    requires { ⌜ MergeRoom (now a) (now b) (now out) (c .a) (c .b) (c .out) ⌝ }
     requires { ⌜ left ≤ 24 ⌝ }
-    ensures { λ r. ⌜ Stored (now (a .entry)) (now (b .entry)) (now (out .entry)) (c .a) (c .b) (c .out) (now (out .exit)) (r .a) (r .b) (r .out) ⌝ }
+    ensures { λ r. ⌜ Merged (now (a .entry)) (now (b .entry)) (now (out .entry)) (c .a) (c .b) (c .out) (now (out .exit)) (r .a) (r .b) (r .out) ⌝ }
 {
     let roots = (left + 7) * 0x1_0000_0000_0000 + 0x1_0000;
     let mut at = c;
@@ -258,9 +258,9 @@ fn union_fields(a: &[u64], b: &[u64], out: &mut [u64], c: Cursors, left: u64) ->
 
 // The nodes at one depth whose step is a root, of an ancestors trie or of the whole; or the entries.
 fn union_roots(a: &[u64], b: &[u64], out: &mut [u64], c: Cursors, left: u64) -> Cursors
-    requires { ⌜ Room (now a) (now b) (now out) (c .a) (c .b) (c .out) ⌝ }
+    requires { ⌜ MergeRoom (now a) (now b) (now out) (c .a) (c .b) (c .out) ⌝ }
     requires { ⌜ left ≤ 24 ⌝ }
-    ensures { λ r. ⌜ Stored (now (a .entry)) (now (b .entry)) (now (out .entry)) (c .a) (c .b) (c .out) (now (out .exit)) (r .a) (r .b) (r .out) ⌝ }
+    ensures { λ r. ⌜ Merged (now (a .entry)) (now (b .entry)) (now (out .entry)) (c .a) (c .b) (c .out) (now (out .exit)) (r .a) (r .b) (r .out) ⌝ }
     ensures { λ r. ⌜ (left + 8) * 2 ^ 48 ≤ nextKey (now (a .entry)) (now (b .entry)) (r .a) (r .b) ⌝ }
 {
     let above = (left + 8) * 0x1_0000_0000_0000;

@@ -27,14 +27,14 @@ moved-later i (Found place) = ap {B = Search} Found (omega arith)
 moved-later i (Missing place) = ap {B = Search} Missing (omega arith)
 
 -- i words are passed, and the others say what is answered
-pub record Sought (words : List ℕ) (key i : ℕ) : Type 0 where
+pub record KeySought (words : List ℕ) (key i : ℕ) : Type 0 where
   pub inside : i ≤ length words
   pub left : searched words key ≡ moved i (searched (drop i words) key)
 
-pub sought-none : (words : List ℕ) (key : ℕ) → Sought words key 0
+pub sought-none : (words : List ℕ) (key : ℕ) → KeySought words key 0
 sought-none words key = record { inside = omega arith; left = sym (moved-none _) }
 
-module _ {words : List ℕ} {key i : ℕ} (sought : Sought words key i) where
+module _ {words : List ℕ} {key i : ℕ} (sought : KeySought words key i) where
   -- no word is left
   pub sought-all : length words ≤ i → Missing i ≡ searched words key
   unfolding searched
@@ -56,7 +56,7 @@ module _ {words : List ℕ} {key i : ℕ} (sought : Sought words key i) where
       sought-missing h = sym (sought .left ∙ rw (words-left, ne-eqb (keyIn (getD words i 0)) key other, lt-ltb key (keyIn (getD words i 0)) h, add-zero))
 
       -- the next word has a lower key
-      pub sought-next : keyIn (getD words i 0) ≤ key → Sought words key (i + 1)
+      pub sought-next : keyIn (getD words i 0) ≤ key → KeySought words key (i + 1)
       unfolding searched
       sought-next h = record {
         inside = omega arith;

@@ -57,12 +57,12 @@ use Rattle.wrapped_paths.specs.declared.WrappedAccessPaths.the-variants.
   RecordLiteral as RecordHead,
   SetLiteral as SetHead,
 }
-use Rattle.wrapped_paths.specs.Code.{headOf, wordFor, sizeOf, countIn, namesIn, code, codeFields, codes, nodesOfAll, placeOf, Standing, Measures, pathAt, pathsAt, AllWithin, Grew}
+use Rattle.wrapped_paths.specs.Code.{headOf, headWord, sizeOf, countIn, namesIn, code, codeFields, codes, nodesOfAll, namePlace, Standing, Measures, pathAt, pathsAt, AllWithin, Grew}
 use Rattle.wrapped_paths.specs.Turns.{
   placesFor,
   Noted,
   sidesOf,
-  Took,
+  TurnTook,
   Gained,
   fieldFrom,
   Literal,
@@ -70,10 +70,10 @@ use Rattle.wrapped_paths.specs.Turns.{
   readAt,
   writtenFor,
   isSet,
-  Room,
+  TurnRoom,
   Turned,
 }
-use Rattle.wrapped_paths.specs.CodeLaws.{pathsOf, headFor, codes-append, codes-fields, names-many, paths-many, code-turn, nodes-turn, nodes-words, Ahead, next-within, next-room, next-word, next-head, behind-word, stands-short, many-nodes, many-words, next-of, paths-at-append, within-append, places-few}
+use Rattle.wrapped_paths.specs.CodeLaws.{fieldPaths, headFor, codes-append, codes-fields, names-many, paths-many, code-turn, nodes-turn, nodes-words, Ahead, next-within, next-room, next-word, next-head, behind-word, stands-short, many-nodes, many-words, next-of, paths-at-append, within-append, places-few}
 
 -- ---- one stands there
 
@@ -98,20 +98,20 @@ pub path-gained :
     (words rest path out out₁ : List ℕ) (at steps f to last : ℕ)
     → length path ≡ steps
     → drop at words ≡ code (AccessPath path) ++ rest
-    → Wrote (set out to (wordFor (PathHead (steps + 1)))) (to + 1) (take (at + 1 + steps - (at + 1)) (drop (at + 1) words)) out₁ last
-    → Took at (code (AccessPath path)) out to (code (AccessPath (path ++ (f ∷ [])))) (set out₁ last f) (record { from = at + 1 + steps; to = last + 1 })
+    → Wrote (set out to (headWord (PathHead (steps + 1)))) (to + 1) (take (at + 1 + steps - (at + 1)) (drop (at + 1) words)) out₁ last
+    → TurnTook at (code (AccessPath path)) out to (code (AccessPath (path ++ (f ∷ [])))) (set out₁ last f) (record { from = at + 1 + steps; to = last + 1 })
 unfolding code
 path-gained words rest path out out₁ at steps f to last many e w =
     let behind : drop (at + 1) words ≡ path ++ rest = behind-word words at e in
     let copied : take (at + 1 + steps - (at + 1)) (drop (at + 1) words) ≡ path = cut words path rest (at + 1) (at + 1 + steps) behind (rw many) in
     let more : length (path ++ (f ∷ [])) ≡ steps + 1 = length-append path (f ∷ []) ∙ rw many in
     let after : last ≡ to + 1 + length path = w .after ∙ rw copied in
-    let text : out₁ ≡ sets (set out to (wordFor (PathHead (steps + 1)))) (to + 1) path = w .text ∙ rw copied in
+    let text : out₁ ≡ sets (set out to (headWord (PathHead (steps + 1)))) (to + 1) path = w .text ∙ rw copied in
     record {
       next = omega arith;
       wrote = record {
         after = omega arith;
-        text = rw (more, text, after, add-one to) (sym (sets-snoc (set out to (wordFor (PathHead (steps + 1)))) (suc to) path f));
+        text = rw (more, text, after, add-one to) (sym (sets-snoc (set out to (headWord (PathHead (steps + 1)))) (suc to) path f));
       };
     }
 
@@ -122,19 +122,19 @@ record FieldAt (f : ℕ) (fields : Fields) (place : ℕ) : Type 0 where
   front : List Paths
   value : Paths
   back : List Paths
-  parts : pathsOf fields ≡ front ++ value ∷ back
+  parts : fieldPaths fields ≡ front ++ value ∷ back
   as-many : length front ≡ place
   found : fieldOf f fields ≡ some value
 
-field-found : (f : ℕ) (fields : Fields) → placeOf (namesIn fields) f < countIn fields → FieldAt f fields (placeOf (namesIn fields) f)
-unfolding placeOf namesIn countIn pathsOf fieldOf
+field-found : (f : ℕ) (fields : Fields) → namePlace (namesIn fields) f < countIn fields → FieldAt f fields (namePlace (namesIn fields) f)
+unfolding namePlace namesIn countIn fieldPaths fieldOf
 field-found f noField h = absurd (omega arith)
 field-found f (field name paths fields) h = go (eqb name f) refl (field-found f fields) h
   where
     go :
-        (same : Bool) → eqb name f ≡ same → (placeOf (namesIn fields) f < countIn fields → FieldAt f fields (placeOf (namesIn fields) f)) → cond same 0 (suc (placeOf (namesIn fields) f)) < suc (countIn fields)
-        → FieldAt f (field name paths fields) (cond same 0 (suc (placeOf (namesIn fields) f)))
-    go true e more h = record { front = []; value = paths; back = pathsOf fields; parts = refl; as-many = refl; found = rw e }
+        (same : Bool) → eqb name f ≡ same → (namePlace (namesIn fields) f < countIn fields → FieldAt f fields (namePlace (namesIn fields) f)) → cond same 0 (suc (namePlace (namesIn fields) f)) < suc (countIn fields)
+        → FieldAt f (field name paths fields) (cond same 0 (suc (namePlace (namesIn fields) f)))
+    go true e more h = record { front = []; value = paths; back = fieldPaths fields; parts = refl; as-many = refl; found = rw e }
     go false e more h =
         let rest = more (omega arith) in
         record {
@@ -146,21 +146,21 @@ field-found f (field name paths fields) h = go (eqb name f) refl (field-found f 
           found = rw e (rest .found);
         }
 
-field-missing : (f : ℕ) (fields : Fields) → placeOf (namesIn fields) f ≡ countIn fields → fieldOf f fields ≡ none
-unfolding placeOf namesIn countIn fieldOf
+field-missing : (f : ℕ) (fields : Fields) → namePlace (namesIn fields) f ≡ countIn fields → fieldOf f fields ≡ none
+unfolding namePlace namesIn countIn fieldOf
 field-missing f noField h = refl
 field-missing f (field name paths fields) h = go (eqb name f) (field-missing f fields) h
   where
-    go : (same : Bool) → (placeOf (namesIn fields) f ≡ countIn fields → fieldOf f fields ≡ none) → cond same 0 (suc (placeOf (namesIn fields) f)) ≡ suc (countIn fields) → cond same (some paths) (fieldOf f fields) ≡ none
+    go : (same : Bool) → (namePlace (namesIn fields) f ≡ countIn fields → fieldOf f fields ≡ none) → cond same 0 (suc (namePlace (namesIn fields) f)) ≡ suc (countIn fields) → cond same (some paths) (fieldOf f fields) ≡ none
     go true more h = absurd (omega arith)
     go false more h = more (omega arith)
 
-pub place-most : (names : List ℕ) (f : ℕ) → placeOf names f ≤ length names
-unfolding placeOf
+pub place-most : (names : List ℕ) (f : ℕ) → namePlace names f ≤ length names
+unfolding namePlace
 place-most [] f = omega arith
 place-most (name ∷ names) f = go (eqb name f) (place-most names f)
   where
-    go : (same : Bool) → placeOf names f ≤ length names → cond same 0 (suc (placeOf names f)) ≤ suc (length names)
+    go : (same : Bool) → namePlace names f ≤ length names → cond same 0 (suc (namePlace names f)) ≤ suc (length names)
     go true h = omega arith
     go false h = omega arith
 
@@ -170,7 +170,7 @@ pub record LiteralAt (words rest : List ℕ) (fields : Fields) (at count : ℕ) 
   pub coded : drop at words ≡ code (RecordLiteral fields) ++ rest
 
 module _ {words rest : List ℕ} {fields : Fields} {at n : ℕ} (l : LiteralAt words rest fields at n) where
-  pub literal-length : length (code (RecordLiteral fields)) ≡ 1 + n + length (codes (pathsOf fields))
+  pub literal-length : length (code (RecordLiteral fields)) ≡ 1 + n + length (codes (fieldPaths fields))
   unfolding code
   literal-length = omega (arith, length-append (namesIn fields) (codeFields fields), names-many fields, ap length (codes-fields fields), l .as-many)
 
@@ -178,29 +178,29 @@ module _ {words rest : List ℕ} {fields : Fields} {at n : ℕ} (l : LiteralAt w
   literal-within = within-it words (code (RecordLiteral fields)) rest at (l .coded) (omega (arith, literal-length))
 
   -- its names, and its fields behind them
-  pub behind-head : drop (at + 1) words ≡ namesIn fields ++ (codes (pathsOf fields) ++ rest)
+  pub behind-head : drop (at + 1) words ≡ namesIn fields ++ (codes (fieldPaths fields) ++ rest)
   unfolding code
   behind-head = behind-word words at (l .coded) ∙ append-assoc (namesIn fields) (codeFields fields) rest ∙ rw (codes-fields fields)
 
   pub literal-names : take (at + 1 + n - (at + 1)) (drop (at + 1) words) ≡ namesIn fields
   literal-names =
-      cut words (namesIn fields) (codes (pathsOf fields) ++ rest) (at + 1) (at + 1 + n) behind-head (rw (names-many fields, l .as-many))
+      cut words (namesIn fields) (codes (fieldPaths fields) ++ rest) (at + 1) (at + 1 + n) behind-head (rw (names-many fields, l .as-many))
 
-  pub literal-fields : drop (at + 1 + n) words ≡ codes (pathsOf fields) ++ rest
+  pub literal-fields : drop (at + 1 + n) words ≡ codes (fieldPaths fields) ++ rest
   literal-fields =
-      rw (names-many fields, l .as-many) at (behind-it words (namesIn fields) (codes (pathsOf fields) ++ rest) (at + 1) behind-head)
+      rw (names-many fields, l .as-many) at (behind-it words (namesIn fields) (codes (fieldPaths fields) ++ rest) (at + 1) behind-head)
 
   pub literal-standing : Standing words (at + 1 + n) n
-  literal-standing = record { paths = pathsOf fields; rest = rest; as-many = paths-many fields ∙ l .as-many; coded = literal-fields }
+  literal-standing = record { paths = fieldPaths fields; rest = rest; as-many = paths-many fields ∙ l .as-many; coded = literal-fields }
 
   module _ {end nodes : ℕ} (m : Measures words (at + 1 + n) n end nodes) where
     pub literal-end : end ≡ at + length (code (RecordLiteral fields))
     literal-end =
-        omega (arith, m (pathsOf fields) rest (paths-many fields ∙ l .as-many) literal-fields .0, literal-length)
+        omega (arith, m (fieldPaths fields) rest (paths-many fields ∙ l .as-many) literal-fields .0, literal-length)
 
-    module _ (f : ℕ) {place : ℕ} (p : place ≡ placeOf (take (at + 1 + n - (at + 1)) (drop (at + 1) words)) f) where
-      place-here : place ≡ placeOf (namesIn fields) f
-      place-here = p ∙ ap (λ (l : List ℕ). placeOf l f) literal-names
+    module _ (f : ℕ) {place : ℕ} (p : place ≡ namePlace (take (at + 1 + n - (at + 1)) (drop (at + 1) words)) f) where
+      place-here : place ≡ namePlace (namesIn fields) f
+      place-here = p ∙ ap (λ (l : List ℕ). namePlace l f) literal-names
 
       -- without the field, the literal is copied
       module _ (missing : place ≡ n) where
@@ -212,7 +212,7 @@ module _ {words rest : List ℕ} {fields : Fields} {at n : ℕ} (l : LiteralAt w
 
       -- with it, it is the place-th
       module _ (there : place ≡ n → ⊥) where
-        here : FieldAt f fields (placeOf (namesIn fields) f)
+        here : FieldAt f fields (namePlace (namesIn fields) f)
         here =
             field-found f fields
             (omega (arith, there, place-here, place-most (namesIn fields) f, names-many fields, l .as-many))
@@ -384,13 +384,13 @@ grown-few f (SetLiteral elements) h = omega (arith, words-few elements h)
 -- ---- one turn
 
 module _ (words rest : List ℕ) (q : Paths) (at : ℕ) (e : drop at words ≡ code q ++ rest) where
-  word-here : getD words at 0 ≡ wordFor (headFor q)
+  word-here : getD words at 0 ≡ headWord (headFor q)
   word-here = next-word (stands-alone words rest q at e)
 
   pub head-here : headOf (getD words at 0) ≡ headFor q
   head-here = next-head (stands-alone words rest q at e)
 
-module _ {words out : List ℕ} {at f to : ℕ} (r : Room words at f out to) where
+module _ {words out : List ℕ} {at f to : ℕ} (r : TurnRoom words at f out to) where
   here-alone : Ahead words (r .rest) (r .paths ∷ []) at 1
   here-alone = stands-alone words (r .rest) (r .paths) at (r .coded)
 
@@ -424,21 +424,21 @@ module _ {words out : List ℕ} {at f to : ℕ} (r : Room words at f out to) whe
 
 module _ (words out out′ : List ℕ) (at f to : ℕ) (moved : Moved) where
   pub turned-empty :
-      headOf (getD words at 0) ≡ EmptyHead → Took at (getD words at 0 ∷ []) out to (getD words at 0 ∷ []) out′ moved
+      headOf (getD words at 0) ≡ EmptyHead → TurnTook at (getD words at 0 ∷ []) out to (getD words at 0 ∷ []) out′ moved
       → Turned words at f out to out′ (Next moved)
   unfolding readAt writtenFor code
   turned-empty said took q rest e =
       let head : headFor q ≡ EmptyHead = sym (head-here words rest q at e) ∙ said in
-      let word : getD words at 0 ≡ 0 = word-here words rest q at e ∙ ap wordFor head in
+      let word : getD words at 0 ≡ 0 = word-here words rest q at e ∙ ap headWord head in
       rw (empty-of q head) (refl, rw word at took)
 
   pub turned-union :
-      headOf (getD words at 0) ≡ UnionHead → Took at (getD words at 0 ∷ []) out to (getD words at 0 ∷ []) out′ moved
+      headOf (getD words at 0) ≡ UnionHead → TurnTook at (getD words at 0 ∷ []) out to (getD words at 0 ∷ []) out′ moved
       → Turned words at f out to out′ (Next moved)
   unfolding readAt writtenFor
   turned-union said took q rest e =
       let head : headFor q ≡ UnionHead = sym (head-here words rest q at e) ∙ said in
-      let word : getD words at 0 ≡ 2 = word-here words rest q at e ∙ ap wordFor head in
+      let word : getD words at 0 ≡ 2 = word-here words rest q at e ∙ ap headWord head in
       let (left, right, same) = union-of q head in
       rw same (refl, rw word at took)
 
@@ -493,12 +493,12 @@ joined-some q (some more) = refl
 
 joined-union :
     (x y : Option Paths) (o : Option (List ℕ))
-    → joined (x >>= (λ r. y >>= (λ l. some (Union l r)))) o ≡ after (wordFor UnionHead ∷ []) (joined x (joined y o))
+    → joined (x >>= (λ r. y >>= (λ l. some (Union l r)))) o ≡ after (headWord UnionHead ∷ []) (joined x (joined y o))
 unfolding code
 joined-union none y o = refl
 joined-union (some r) none o = refl
 joined-union (some r) (some l) none = refl
-joined-union (some r) (some l) (some more) = ap (λ (ws : List ℕ). some (wordFor UnionHead ∷ ws)) (append-assoc (code r) (code l) more)
+joined-union (some r) (some l) (some more) = ap (λ (ws : List ℕ). some (headWord UnionHead ∷ ws)) (append-assoc (code r) (code l) more)
 
 -- what a turn writes stands in front of what is left
 attr-turn : (f : ℕ) (q : Paths) (qs : List Paths) → isSet q ≡ false → extendedCodes f (q ∷ qs) ≡ after (writtenFor f q) (extendedCodes f (spine q ++ qs))
@@ -791,7 +791,7 @@ module _ {words rest out places : List ℕ} {f : ℕ} {paths : Paths} {from to l
 
     -- there is room for the next
     module _ (large : length (code paths) + length (grownIn f paths) ≤ length out) where
-      pub going-room : Room words from f out to
+      pub going-room : TurnRoom words from f out to
       unfolding codes grownInAll
       going-room =
           let (q, more, same) = going-next in

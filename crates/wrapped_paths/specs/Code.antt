@@ -40,12 +40,12 @@ headOf w =
     (cond (eqb (w % 8) 1) (PathHead (w / 8))
     (cond (eqb (w % 8) 2) UnionHead (cond (eqb (w % 8) 3) SetHead (RecordHead (w / 8)))))
 
-abbrev pub wordFor : WrappedAccessPaths → ℕ
-wordFor EmptyHead = 0
-wordFor (PathHead steps) = 1 + 8 * steps
-wordFor UnionHead = 2
-wordFor SetHead = 3
-wordFor (RecordHead fields) = 4 + 8 * fields
+abbrev pub headWord : WrappedAccessPaths → ℕ
+headWord EmptyHead = 0
+headWord (PathHead steps) = 1 + 8 * steps
+headWord UnionHead = 2
+headWord SetHead = 3
+headWord (RecordHead fields) = 4 + 8 * fields
 
 -- its steps or names, and how many wrapped paths it wraps
 abbrev pub sizeOf : WrappedAccessPaths → ℕ
@@ -73,11 +73,11 @@ namesIn (field name paths fields) = name ∷ namesIn fields
 -- the words of wrapped paths
 unfoldable mutual
   pub code : Paths → List ℕ
-  code Empty = wordFor EmptyHead ∷ []
-  code (AccessPath path) = wordFor (PathHead (length path)) ∷ path
-  code (Union left right) = wordFor UnionHead ∷ (code right ++ code left)
-  code (RecordLiteral fields) = wordFor (RecordHead (countIn fields)) ∷ (namesIn fields ++ codeFields fields)
-  code (SetLiteral elements) = wordFor SetHead ∷ code elements
+  code Empty = headWord EmptyHead ∷ []
+  code (AccessPath path) = headWord (PathHead (length path)) ∷ path
+  code (Union left right) = headWord UnionHead ∷ (code right ++ code left)
+  code (RecordLiteral fields) = headWord (RecordHead (countIn fields)) ∷ (namesIn fields ++ codeFields fields)
+  code (SetLiteral elements) = headWord SetHead ∷ code elements
 
   pub codeFields : Fields → List ℕ
   codeFields noField = []
@@ -93,9 +93,9 @@ nodesOfAll [] = 0
 nodesOfAll (paths ∷ more) = nodesOf paths + nodesOfAll more
 
 -- the place of a name among names, or their count
-unfoldable pub placeOf : List ℕ → ℕ → ℕ
-placeOf [] name = 0
-placeOf (other ∷ names) name = cond (eqb other name) 0 (suc (placeOf names name))
+unfoldable pub namePlace : List ℕ → ℕ → ℕ
+namePlace [] name = 0
+namePlace (other ∷ names) name = cond (eqb other name) 0 (suc (namePlace names name))
 
 -- some wrapped paths stand in words from a place on
 pub record Standing (words : List ℕ) (at count : ℕ) : Type 0 where
@@ -113,7 +113,7 @@ Measures words at count end nodes =
     → (end ≡ at + length (codes paths)) × (nodes ≡ nodesOfAll paths)
 
 -- wrapped paths within the limits stand there
-pub record Result (words : List ℕ) (at : ℕ) : Type 0 where
+pub record ResultStands (words : List ℕ) (at : ℕ) : Type 0 where
   pub paths : Paths
   pub rest : List ℕ
   pub coded : drop at words ≡ code paths ++ rest

@@ -18,7 +18,7 @@ use Rattle.wrapped_paths.specs.declared.WrappedAccessPaths.the-variants.
   RecordLiteral as RecordHead,
   SetLiteral as SetHead,
 }
-use Rattle.wrapped_paths.specs.Code.{headOf, wordFor, sizeOf, wrapsOf, countIn, namesIn, code, codeFields, codes, nodesOfAll, placeOf, Measures, pathAt, pathsAt, AllWithin, FoundAt}
+use Rattle.wrapped_paths.specs.Code.{headOf, headWord, sizeOf, wrapsOf, countIn, namesIn, code, codeFields, codes, nodesOfAll, namePlace, Measures, pathAt, pathsAt, AllWithin, FoundAt}
 use Rattle.wrapped_paths.specs.Turns.{placesFor, Noted}
 
 -- ---- heads
@@ -45,7 +45,7 @@ module _ (w : ℕ) where
   head-record a b c d = rw (ne-eqb (w % 8) 0 a, ne-eqb (w % 8) 1 b, ne-eqb (w % 8) 2 c, ne-eqb (w % 8) 3 d)
 
 -- a word says the head that it is for
-pub head-word : (h : WrappedAccessPaths) → headOf (wordFor h) ≡ h
+pub head-word : (h : WrappedAccessPaths) → headOf (headWord h) ≡ h
 head-word EmptyHead = head-empty 0 refl
 head-word (PathHead n) = head-path (1 + 8 * n) (add-mul-mod-self-left 1 8 n) ∙ ap PathHead (omega arith)
 head-word UnionHead = head-union 2 refl
@@ -56,9 +56,9 @@ head-word (RecordHead n) =
 
 -- ---- a head, its steps or names, and what it wraps
 
-unfoldable pub pathsOf : Fields → List Paths
-pathsOf noField = []
-pathsOf (field name paths fields) = paths ∷ pathsOf fields
+unfoldable pub fieldPaths : Fields → List Paths
+fieldPaths noField = []
+fieldPaths (field name paths fields) = paths ∷ fieldPaths fields
 
 abbrev pub headFor : Paths → WrappedAccessPaths
 headFor Empty = EmptyHead
@@ -78,7 +78,7 @@ abbrev pub unwrapped : Paths → List Paths
 unwrapped Empty = []
 unwrapped (AccessPath path) = []
 unwrapped (Union left right) = right ∷ left ∷ []
-unwrapped (RecordLiteral fields) = pathsOf fields
+unwrapped (RecordLiteral fields) = fieldPaths fields
 unwrapped (SetLiteral elements) = elements ∷ []
 
 -- the path that it is, if any
@@ -98,8 +98,8 @@ unfolding namesIn countIn
 names-many noField = refl
 names-many (field name paths fields) = ap suc (names-many fields)
 
-pub paths-many : (fields : Fields) → length (pathsOf fields) ≡ countIn fields
-unfolding pathsOf countIn
+pub paths-many : (fields : Fields) → length (fieldPaths fields) ≡ countIn fields
+unfolding fieldPaths countIn
 paths-many noField = refl
 paths-many (field name paths fields) = ap suc (paths-many fields)
 
@@ -132,23 +132,23 @@ unfolding pathsInAll
 paths-append [] qs = refl
 paths-append (p ∷ ps) qs = rw (paths-append ps qs, append-assoc)
 
-pub codes-fields : (fields : Fields) → codeFields fields ≡ codes (pathsOf fields)
-unfolding codes pathsOf codeFields
+pub codes-fields : (fields : Fields) → codeFields fields ≡ codes (fieldPaths fields)
+unfolding codes fieldPaths codeFields
 codes-fields noField = refl
 codes-fields (field name paths fields) = ap (λ (l : List ℕ). code paths ++ l) (codes-fields fields)
 
-nodes-fields : (fields : Fields) → nodesOfFields fields ≡ nodesOfAll (pathsOf fields)
-unfolding nodesOfAll pathsOf nodesOfFields
+nodes-fields : (fields : Fields) → nodesOfFields fields ≡ nodesOfAll (fieldPaths fields)
+unfolding nodesOfAll fieldPaths nodesOfFields
 nodes-fields noField = refl
 nodes-fields (field name paths fields) = ap (λ (n : ℕ). nodesOf paths + n) (nodes-fields fields)
 
-paths-fields : (fields : Fields) → pathsInFields fields ≡ pathsInAll (pathsOf fields)
-unfolding pathsInAll pathsOf pathsInFields
+paths-fields : (fields : Fields) → pathsInFields fields ≡ pathsInAll (fieldPaths fields)
+unfolding pathsInAll fieldPaths pathsInFields
 paths-fields noField = refl
 paths-fields (field name paths fields) = ap (λ (l : List Path). pathsIn paths ++ l) (paths-fields fields)
 
 -- its words
-pub code-turn : (q : Paths) → code q ≡ wordFor (headFor q) ∷ (payload q ++ codes (unwrapped q))
+pub code-turn : (q : Paths) → code q ≡ headWord (headFor q) ∷ (payload q ++ codes (unwrapped q))
 unfolding code codes
 code-turn Empty = refl
 code-turn (AccessPath path) = rw append-nil
@@ -227,7 +227,7 @@ next-of (x ∷ more) e h = (x, more, refl)
 
 module _ {words rest : List ℕ} {q : Paths} {qs : List Paths} {from left : ℕ} (a : Ahead words rest (q ∷ qs) from left) where
   -- the words of the next, one by one
-  opened : drop from words ≡ wordFor (headFor q) ∷ (payload q ++ (codes (unwrapped q ++ qs) ++ rest))
+  opened : drop from words ≡ headWord (headFor q) ∷ (payload q ++ (codes (unwrapped q ++ qs) ++ rest))
   unfolding codes
   opened = a .coded ∙ rw (code-turn q, codes-append (unwrapped q) qs) (simp append-assoc)
 
@@ -242,7 +242,7 @@ module _ {words rest : List ℕ} {q : Paths} {qs : List Paths} {from left : ℕ}
   pub next-room : from + (1 + sizeOf (headFor q)) ≤ length words
   next-room = omega (arith, opened-length)
 
-  pub next-word : getD words from 0 ≡ wordFor (headFor q)
+  pub next-word : getD words from 0 ≡ headWord (headFor q)
   next-word = first-word words from opened
 
   pub next-head : headOf (getD words from 0) ≡ headFor q
@@ -364,23 +364,23 @@ module _ {words rest : List ℕ} {paths : List Paths} {at from left nodes : ℕ}
 -- the names before a place are others
 pub record Others (names : List ℕ) (name i : ℕ) : Type 0 where
   pub so-many : i ≤ length names
-  pub same-place : placeOf names name ≡ i + placeOf (drop i names) name
+  pub same-place : namePlace names name ≡ i + namePlace (drop i names) name
 
 pub others-none : (names : List ℕ) (name : ℕ) → Others names name 0
 others-none names name = record { so-many = omega arith; same-place = omega arith }
 
 module _ {names : List ℕ} {name i : ℕ} (o : Others names name i) where
-  pub others-all : length names ≤ i → i ≡ placeOf names name
-  unfolding placeOf
+  pub others-all : length names ≤ i → i ≡ namePlace names name
+  unfolding namePlace
   others-all h = sym (o .same-place ∙ rw (drop-of-length-le names h) (add-zero i))
 
   module _ (h : i < length names) where
-    pub others-found : getD names i 0 ≡ name → i ≡ placeOf names name
-    unfolding placeOf
+    pub others-found : getD names i 0 ≡ name → i ≡ namePlace names name
+    unfolding namePlace
     others-found e = sym (o .same-place ∙ rw (drop-cons names i 0 h, eq-eqb (getD names i 0) name e) (add-zero i))
 
     pub others-next : (getD names i 0 ≡ name → ⊥) → Others names name (i + 1)
-    unfolding placeOf
+    unfolding namePlace
     others-next e = record {
       so-many = omega arith;
       same-place = o .same-place ∙ rw (drop-cons names i 0 h, ne-eqb (getD names i 0) name e, add-one) (omega arith);
@@ -456,9 +456,9 @@ searching-first words places at paths rest e = record {
   there = rw append-nil;
 }
 
-pub searched : {words places : List ℕ} (at : ℕ) {from left found : ℕ} → Searching words at places from left found → left ≤ 0 → FoundAt words at places found
+pub name-searched : {words places : List ℕ} (at : ℕ) {from left found : ℕ} → Searching words at places from left found → left ≤ 0 → FoundAt words at places found
 unfolding pathsInAll
-searched {words} {places} at {from} {left} {found} m none-left paths rest e =
+name-searched {words} {places} at {from} {left} {found} m none-left paths rest e =
     let s = m paths rest e in
     record { in-places = s .in-places; within = s .within; there = go (s .qs) (s .ahead .as-many) (s .there) }
   where

@@ -29,7 +29,7 @@ use Rattle.wrapped_paths.specs.declared.WrappedAccessPaths.the-variants.
 use Rattle.wrapped_paths.specs.declared.Moved.{Moved}
 use Rattle.wrapped_paths.specs.declared.Turn.{Turn}
 use Rattle.wrapped_paths.specs.declared.Turn.the-variants.{Next, SetDereferenced}
-use Rattle.wrapped_paths.specs.Code.{wordFor, countIn, code, Result}
+use Rattle.wrapped_paths.specs.Code.{headWord, countIn, code, ResultStands}
 
 -- the place of a head, if it is that of a path
 abbrev pub placesFor : WrappedAccessPaths → ℕ → List ℕ
@@ -53,7 +53,7 @@ sidesOf SetHead = 0
 sidesOf (RecordHead fields) = 0
 
 -- words were read up to a place and others written
-pub record Took (at : ℕ) (read : List ℕ) (out : List ℕ) (to : ℕ) (written out′ : List ℕ) (moved : Moved) : Type 0 where
+pub record TurnTook (at : ℕ) (read : List ℕ) (out : List ℕ) (to : ℕ) (written out′ : List ℕ) (moved : Moved) : Type 0 where
   pub next : moved .from ≡ at + length read
   pub wrote : Wrote out to written out′ (moved .to)
 
@@ -63,7 +63,7 @@ Gained words at steps f out to out′ moved =
     (path : Path) (rest : List ℕ)
     → length path ≡ steps
     → drop at words ≡ code (AccessPath path) ++ rest
-    → Took at (code (AccessPath path)) out to (code (AccessPath (path ++ (f ∷ [])))) out′ moved
+    → TurnTook at (code (AccessPath path)) out to (code (AccessPath (path ++ (f ∷ [])))) out′ moved
 
 -- what a record literal gives for the field f
 abbrev pub fieldFrom : ℕ → Fields → Paths
@@ -82,20 +82,20 @@ FieldTaken words at count f out to out′ moved =
     (fields : Fields) (rest : List ℕ)
     → countIn fields ≡ count
     → drop at words ≡ code (RecordLiteral fields) ++ rest
-    → Took at (code (RecordLiteral fields)) out to (code (fieldFrom f fields)) out′ moved
+    → TurnTook at (code (RecordLiteral fields)) out to (code (fieldFrom f fields)) out′ moved
 
 -- what `attr` reads and writes at one head: all of it, or the head of a union alone
 unfoldable pub readAt : Paths → List ℕ
 readAt Empty = code Empty
 readAt (AccessPath path) = code (AccessPath path)
-readAt (Union left right) = wordFor UnionHead ∷ []
+readAt (Union left right) = headWord UnionHead ∷ []
 readAt (RecordLiteral fields) = code (RecordLiteral fields)
 readAt (SetLiteral elements) = []
 
 unfoldable pub writtenFor : ℕ → Paths → List ℕ
 writtenFor f Empty = code Empty
 writtenFor f (AccessPath path) = code (AccessPath (path ++ (f ∷ [])))
-writtenFor f (Union left right) = wordFor UnionHead ∷ []
+writtenFor f (Union left right) = headWord UnionHead ∷ []
 writtenFor f (RecordLiteral fields) = code (fieldFrom f fields)
 writtenFor f (SetLiteral elements) = []
 
@@ -108,7 +108,7 @@ isSet (RecordLiteral fields) = false
 isSet (SetLiteral elements) = true
 
 -- wrapped paths stand there, and there is room for what `attr` makes of them: a word more for each path that gains the field
-pub record Room (words : List ℕ) (at f : ℕ) (out : List ℕ) (to : ℕ) : Type 0 where
+pub record TurnRoom (words : List ℕ) (at f : ℕ) (out : List ℕ) (to : ℕ) : Type 0 where
   pub paths : Paths
   pub rest : List ℕ
   pub coded : drop at words ≡ code paths ++ rest
@@ -116,11 +116,11 @@ pub record Room (words : List ℕ) (at f : ℕ) (out : List ℕ) (to : ℕ) : Ty
 
 -- and they are those of a result
 pub record Growing (words : List ℕ) (at f : ℕ) (out : List ℕ) : Type 0 where
-  pub result : Result words at
+  pub result : ResultStands words at
   pub fits : length (code (result .paths)) + length (grownIn f (result .paths)) ≤ length out
 
 abbrev pub TurnedBy : ℕ → Paths → ℕ → List ℕ → ℕ → List ℕ → Turn → Type 0
-TurnedBy f paths at out to out′ (Next moved) = (isSet paths ≡ false) × Took at (readAt paths) out to (writtenFor f paths) out′ moved
+TurnedBy f paths at out to out′ (Next moved) = (isSet paths ≡ false) × TurnTook at (readAt paths) out to (writtenFor f paths) out′ moved
 TurnedBy f paths at out to out′ SetDereferenced = isSet paths ≡ true
 
 abbrev pub Turned : List ℕ → ℕ → ℕ → List ℕ → ℕ → List ℕ → Turn → Type 0

@@ -4,8 +4,8 @@ ghost use mathlib.Core.Path.{_≡_};
 ghost use mathlib.Core.List.{[], _∷_};
 ghost use Prim.Native.Nat.{_+_, _^_, _<_, _≤_};
 ghost use lib.ListN.{length, getD};
-ghost use Rattle.wrapped_paths.specs.Code.{headOf, wordFor, sizeOf, wrapsOf, placeOf, stepsAt, Standing, Measures, Result, FoundAt, ExtendedAt};
-ghost use Rattle.wrapped_paths.specs.Turns.{placesFor, Noted, sidesOf, Took, Gained, Literal, FieldTaken, Room, Growing, Turned};
+ghost use Rattle.wrapped_paths.specs.Code.{headOf, headWord, sizeOf, wrapsOf, namePlace, stepsAt, Standing, Measures, ResultStands, FoundAt, ExtendedAt};
+ghost use Rattle.wrapped_paths.specs.Turns.{placesFor, Noted, sidesOf, TurnTook, Gained, Literal, FieldTaken, TurnRoom, Growing, Turned};
 use words::copy_words;
 
 // What a head says: a path has so many steps behind it, a record so many names and then as many fields.
@@ -70,7 +70,7 @@ impl WrappedAccessPaths {
     // The word that says it.
     pub fn word(self) -> u64
         requires { ⌜ sizeOf self < 2 ^ 60 ⌝ }
-        ensures { λ r. ⌜ r ≡ wordFor self ⌝ }
+        ensures { λ r. ⌜ r ≡ headWord self ⌝ }
     {
         match self {
             WrappedAccessPaths::Empty => 0,
@@ -172,7 +172,7 @@ fn note_place(at: usize, places: &mut [u64], found: usize) -> usize
 
 // The places of all paths among the wrapped paths at a place, and how many there are.
 pub fn paths_in(code: &[u64], at: usize, places: &mut [u64]) -> usize
-    requires { ⌜ Result (now code) at × (length (now places) ≡ 256) ⌝ }
+    requires { ⌜ ResultStands (now code) at × (length (now places) ≡ 256) ⌝ }
     ensures { λ r. ⌜ FoundAt (now (code .entry)) at (now (places .exit)) r ⌝ }
 {
     let mut from = at;
@@ -189,7 +189,7 @@ pub fn paths_in(code: &[u64], at: usize, places: &mut [u64]) -> usize
 
 // The place of a name among names, or their count.
 pub fn name_place(names: &[u64], name: u64) -> usize
-    ensures { λ r. ⌜ r ≡ placeOf (now (names .entry)) name ⌝ }
+    ensures { λ r. ⌜ r ≡ namePlace (now (names .entry)) name ⌝ }
 {
     let mut i = 0;
     while i < names.len() {
@@ -250,7 +250,7 @@ fn grow_path(code: &[u64], at: usize, steps: usize, name: u64, out: &mut [u64], 
 // A head that stays as it is.
 fn keep_head(code: &[u64], at: usize, out: &mut [u64], to: usize) -> Moved
     requires { ⌜ (at < length (now code)) × (to < length (now out)) ⌝ }
-    ensures { λ r. ⌜ Took at (getD (now (code .entry)) at 0 ∷ []) (now (out .entry)) to (getD (now (code .entry)) at 0 ∷ []) (now (out .exit)) r ⌝ }
+    ensures { λ r. ⌜ TurnTook at (getD (now (code .entry)) at 0 ∷ []) (now (out .entry)) to (getD (now (code .entry)) at 0 ∷ []) (now (out .exit)) r ⌝ }
 {
     out[to] = code[at];
     Moved {
@@ -268,7 +268,7 @@ fn extend(
     out: &mut [u64],
     to: usize,
 ) -> Turn
-    requires { ⌜ Room (now code) at name (now out) to × (head ≡ headOf (getD (now code) at 0)) ⌝ }
+    requires { ⌜ TurnRoom (now code) at name (now out) to × (head ≡ headOf (getD (now code) at 0)) ⌝ }
     ensures { λ r. ⌜ Turned (now (code .entry)) at name (now (out .entry)) to (now (out .exit)) r ⌝ }
 {
     match head {

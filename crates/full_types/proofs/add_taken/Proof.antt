@@ -11,13 +11,13 @@ use Rattle.path_tries.specs.Nodes.{Became}
 use mathlib.Core.Path.{_∙_, sym}
 use borrow.Author.Tests.{not-true, not-false}
 use Rattle.schema.specs.Items.{itemsOf}
-use Rattle.full_types.specs.Pairs.{placeIn, typeIn}
-use Rattle.full_types.specs.FullLaws.{Adding, adding-none, adding-all, adding-over, adding-next, pair-at, taken-path, taken-near}
+use Rattle.full_types.specs.Pairs.{pairPlace, pairType}
+use Rattle.full_types.specs.FullLaws.{AddingTaken, adding-none, adding-all, adding-over, adding-next, pair-at, taken-path, taken-near}
 use Rattle.full_types.proofs.add_taken.Statement.{statement}
 use Rattle.full_types.proofs.add_taken.Tie as tie
 
 abbrev Inv-loop : tie.InvT-loop
-Inv-loop trie₀ code words table pairs i₀ trie i = Adding (itemsOf words) code pairs trie₀ i trie
+Inv-loop trie₀ code words table pairs i₀ trie i = AddingTaken (itemsOf words) code pairs trie₀ i trie
 
 abbrev μ-loop : tie.MeasureT-loop
 μ-loop trie₀ code words table pairs i₀ trie i = length pairs - i
@@ -27,7 +27,7 @@ pair :
     (c : tie.In-loop Inv-loop μ-loop) →
     let args = c .before .before .before .before .before .before .before .args in
     let next = getD (args .pairs .now) (c .before .loop .i) 0 in
-    (placeIn next + 1 + stepsAt (args .code .now) (placeIn next) ≤ length (args .code .now)) × (typeIn next < typesIn (itemsOf (args .words .now)))
+    (pairPlace next + 1 + stepsAt (args .code .now) (pairPlace next) ≤ length (args .code .now)) × (pairType next < typesIn (itemsOf (args .words .now)))
 pair c =
     pair-at (c .before .before .before .before .before .before .before .args .code .now) (typesIn (itemsOf (c .before .before .before .before .before .before .before .args .words .now))) (c .before .before .before .before .before .before .before .args .pairs .now) (c .before .loop .i) (c .before .before .before .before .before .before .before .pre .all-pairs) (c .loop-test .taken)
 
@@ -37,7 +37,7 @@ added :
     let args = c .before .before .before .before .before .before .before .before .before .before .before .before .args in
     let next = getD (args .pairs .now) (c .before .before .before .before .before .before .loop .i) 0 in
     Became
-    (addAccessPath (rowsIn (c .before .before .before .before .before .before .loop .trie)) (pathAt (args .code .now) (placeIn next)) (typeToAccessTrie (itemsOf (args .words .now)) (typeIn next)))
+    (addAccessPath (rowsIn (c .before .before .before .before .before .before .loop .trie)) (pathAt (args .code .now) (pairPlace next)) (typeToAccessTrie (itemsOf (args .words .now)) (pairType next)))
     (c .add-typed .last .0)
     (c .add-typed .result)
 added c = let said = c .before .before .before .of .ensures in rw (c .before .path-at .ensures, said .0, said .1) at (c .add-typed .ensures)

@@ -9,7 +9,7 @@ use Rattle.rules.specs.Schema.{Item}
 use Rattle.rules.specs.Paths.{Fields, hasAll, attributesAt}
 use Rattle.schema.specs.Items.{itemsOf}
 use Rattle.wrapped_paths.specs.Code.{namesIn}
-use Rattle.type_table.specs.TypeTableLaws.{Stands}
+use Rattle.type_table.specs.TypeTableLaws.{TypeStands}
 use Rattle.full_types.specs.RequiredLaws.{known-inside, known-stands, attributes-inside, attributes-cut, attributes-ascend, meeting-room, meeting-within, record-none, record-lacks, record-stacked}
 use borrow.Author.Needs.{needs}
 use Rattle.full_types.proofs.await_record.Statement.{statement}
@@ -25,7 +25,7 @@ abbrev ended : tie.After-has-all → tie.After-attributes-end
 ended c = c .before .before .before
 
 -- the type stands there
-there : (c : tie.After-size-at) → Stands (begun c .args .words .now) (begun c .args .t) (c .size-at .result .place)
+there : (c : tie.After-size-at) → TypeStands (begun c .args .words .now) (begun c .args .t) (c .size-at .result .place)
 there c = known-stands (begun c .pre .type) (c .size-at .ensures .0)
 
 tag : (c : tie.After-of) → c .of .result .tag ≡ getD (begun (c .before .before) .args .words .now) (c .before .before .size-at .result .place) 0 % 16

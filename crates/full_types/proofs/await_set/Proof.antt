@@ -5,7 +5,7 @@ use Prim.Native.Nat.{_%_, _/_, _^_}
 use mathlib.Core.Path.{_≡_, sym, ap, _∙_}
 use lib.ListN.{getD}
 use Rattle.rules.specs.Schema.{Item}
-use Rattle.type_table.specs.TypeTableLaws.{Stands}
+use Rattle.type_table.specs.TypeTableLaws.{TypeStands}
 use Rattle.full_types.specs.RequiredLaws.{known-inside, known-stands, set-none, set-stacked}
 use borrow.Author.Needs.{needs}
 use Rattle.full_types.proofs.await_set.Statement.{statement}
@@ -15,7 +15,7 @@ abbrev begun : tie.After-size-at → tie.Start
 begun c = c .before .before .before .before
 
 -- the type stands there
-there : (c : tie.After-size-at) → Stands (begun c .args .words .now) (begun c .args .t) (c .size-at .result .place)
+there : (c : tie.After-size-at) → TypeStands (begun c .args .words .now) (begun c .args .t) (c .size-at .result .place)
 there c = known-stands (begun c .pre .0) (c .size-at .ensures .0)
 
 tag : (c : tie.After-of) → c .of .result .tag ≡ getD (begun (c .before .before) .args .words .now) (c .before .before .size-at .result .place) 0 % 16

@@ -5,7 +5,7 @@ use Prim.Native.Nat.{_-_, _/_, _^_}
 use mathlib.Core.Path.{_≡_, sym, ap, _∙_}
 use lib.ListN.{length, getD}
 use Rattle.rules.specs.Schema.{Item}
-use Rattle.wrapped_paths.specs.Code.{placeOf}
+use Rattle.wrapped_paths.specs.Code.{namePlace}
 use Rattle.full_types.specs.FullLaws.{Checking, checking-none, checking-all, checking-not, checking-next}
 use Rattle.full_types.proofs.has_all.Statement.{statement}
 use Rattle.full_types.proofs.has_all.Tie as tie
@@ -20,7 +20,7 @@ abbrev μ-loop : tie.MeasureT-loop
 place :
     (c : tie.After-name-place Inv-loop μ-loop) →
     let args = c .before .before .before .before .before .before .before .args in
-    c .name-place .result ≡ placeOf (args .names .now) (getD (args .attributes .now) (c .before .before .before .before .loop .i) 0 / 2 ^ 40)
+    c .name-place .result ≡ namePlace (args .names .now) (getD (args .attributes .now) (c .before .before .before .before .loop .i) 0 / 2 ^ 40)
 place c = rw (← ap (λ (it : Item). it .key) (c .before .of .ensures)) (c .name-place .ensures)
 
 loop-holds : tie.Need-loop-holds Inv-loop μ-loop

@@ -6,14 +6,14 @@ use mathlib.Core.Path.{_≡_}
 use native.Mathlib.Omega.{arith}
 use lib.ListN.{length, getD}
 use Rattle.wrapped_paths.specs.Code.{stepsAt}
-use Rattle.type_table.specs.Tables.{depthIn}
-use Rattle.full_types.specs.Pairs.{placeIn, typeIn}
-use Rattle.full_types.specs.FullLaws.{Looking, looking-none, looking-all, looking-deep, looking-next, pair-at}
+use Rattle.type_table.specs.Tables.{typeDepth}
+use Rattle.full_types.specs.Pairs.{pairPlace, pairType}
+use Rattle.full_types.specs.FullLaws.{LookingTaken, looking-none, looking-all, looking-deep, looking-next, pair-at}
 use Rattle.full_types.proofs.is_any_too_deep.Statement.{statement}
 use Rattle.full_types.proofs.is_any_too_deep.Tie as tie
 
 abbrev Inv-loop : tie.InvT-loop
-Inv-loop code table pairs i₀ i = Looking code table pairs i
+Inv-loop code table pairs i₀ i = LookingTaken code table pairs i
 
 abbrev μ-loop : tie.MeasureT-loop
 μ-loop code table pairs i₀ i = length pairs - i
@@ -23,7 +23,7 @@ pair :
     (c : tie.In-loop Inv-loop μ-loop) →
     let args = c .before .before .before .before .before .args in
     let i = c .before .loop .i in
-    (placeIn (getD (args .pairs .now) i 0) + 1 + stepsAt (args .code .now) (placeIn (getD (args .pairs .now) i 0)) ≤ length (args .code .now)) × (typeIn (getD (args .pairs .now) i 0) < 1024)
+    (pairPlace (getD (args .pairs .now) i 0) + 1 + stepsAt (args .code .now) (pairPlace (getD (args .pairs .now) i 0)) ≤ length (args .code .now)) × (pairType (getD (args .pairs .now) i 0) < 1024)
 pair c = pair-at (c .before .before .before .before .before .args .code .now) 1024 (c .before .before .before .before .before .args .pairs .now) (c .before .loop .i) (c .before .before .before .before .before .pre .0) (c .loop-test .taken)
 
 loop-holds : tie.Need-loop-holds Inv-loop μ-loop
@@ -32,12 +32,12 @@ loop-holds c = looking-none _ _ _
 -- the steps of its path, and the depth of its type's trie
 steps : (c : tie.After-steps-at Inv-loop μ-loop) →
     let args = c .before .before .before .before .before .before .before .before .args in
-    c .steps-at .result ≡ stepsAt (args .code .now) (placeIn (getD (args .pairs .now) (c .before .before .before .before .loop .i) 0))
+    c .steps-at .result ≡ stepsAt (args .code .now) (pairPlace (getD (args .pairs .now) (c .before .before .before .before .loop .i) 0))
 steps c = rw (c .before .of .ensures .0) at (c .steps-at .ensures)
 
 deep : (c : tie.After-size-at Inv-loop μ-loop) →
     let args = c .before .before .before .before .before .before .before .before .before .args in
-    c .size-at .result .depth ≡ depthIn (getD (args .table .now) (typeIn (getD (args .pairs .now) (c .before .before .before .before .before .loop .i) 0)) 0)
+    c .size-at .result .depth ≡ typeDepth (getD (args .table .now) (pairType (getD (args .pairs .now) (c .before .before .before .before .before .loop .i) 0)) 0)
 deep c = rw (c .before .before .of .ensures .1) at (c .size-at .ensures .1 .0)
 
 mul-of : tie.Need-mul-of Inv-loop μ-loop

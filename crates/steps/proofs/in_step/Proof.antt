@@ -10,7 +10,7 @@ use lib.ListN.{take, drop}
 use lib.Seq.{length-take-le}
 use Rattle.rules.specs.Steps.{Result, inResult}
 use Rattle.wrapped_paths.specs.Code.{codes, pathsAt, Found}
-use Rattle.result_stack.specs.Stacks.{pathsOf, Held}
+use Rattle.result_stack.specs.Stacks.{stackPaths, Held}
 use Rattle.steps.specs.StepsLaws.{two-few, held-two, code-end-room, tries-end-room, copied-top, longest-short, run-nodes, run-rows, in-too-deep, in-over, in-rows, in-done}
 use Rattle.result_stack.specs.StackLaws.{at-within, below-held, top-code, top-good, top-stands, top-standing, top-at, code-end, tries-end}
 use borrow.Author.Needs.{needs}
@@ -30,14 +30,14 @@ found-right :
     (c : tie.After-paths-in) (right : Result) (rest : List Result)
     → Held (c .before .before .before .before .before .before .before .before .args .code .now) (c .before .before .before .before .before .before .before .before .args .tries .now) (c .before .before .before .before .before .before .before .before .args .stack) (right ∷ rest)
     → Found (c .before .before .before .before .before .before .before .before .args .code .now) (right .paths) (c .paths-in .last .1 .1 .0) (c .paths-in .result)
-found-right c right rest held = c .paths-in .ensures (right .paths) (codes (pathsOf rest)) (top-code held)
+found-right c right rest held = c .paths-in .ensures (right .paths) (codes (stackPaths rest)) (top-code held)
 
 found-left :
     (c : tie.After-paths-in2) (right left : Result) (rest : List Result)
     → Held (c .before .before .before .before .before .before .before .before .before .before .before .before .before .before .args .code .now) (c .before .before .before .before .before .before .before .before .before .before .before .before .before .before .args .tries .now) (c .before .before .before .before .before .before .before .before .before .before .before .before .before .before .args .stack) (right ∷ left ∷ rest)
     → Found (c .before .before .before .before .before .before .before .before .before .before .before .before .before .before .args .code .now) (left .paths) (c .paths-in2 .last .1 .1 .0) (c .paths-in2 .result)
 found-left c right left rest held =
-    (rw (code-end held (c .before .before .before .measure .ensures)) at (c .paths-in2 .ensures)) (left .paths) (codes (pathsOf rest)) (top-code (below-held held))
+    (rw (code-end held (c .before .before .before .measure .ensures)) at (c .paths-in2 .ensures)) (left .paths) (codes (stackPaths rest)) (top-code (below-held held))
 
 returns : tie.Need-returns
 returns c results held place =

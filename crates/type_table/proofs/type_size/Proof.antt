@@ -10,7 +10,7 @@ use Rattle.rules.specs.Schema.{Item}
 use Rattle.rules.specs.TypeLaws.{typesIn}
 use Rattle.schema.specs.Items.{itemsOf}
 use Rattle.type_table.specs.Tables.{attributeAt, Sized}
-use Rattle.type_table.specs.TypeTableLaws.{Stands, Sizing, sizing-none, sizing-small, sizing-next, sizing-all, stands-here, attribute-inside, passing-below}
+use Rattle.type_table.specs.TypeTableLaws.{TypeStands, Sizing, sizing-none, sizing-small, sizing-next, sizing-all, stands-here, attribute-inside, passing-below}
 use Rattle.type_table.proofs.type_size.Statement.{statement}
 use Rattle.type_table.proofs.type_size.Tie as tie
 
@@ -24,7 +24,7 @@ abbrev μ-loop : tie.MeasureT-loop
 abbrev number : tie.Start Inv-loop μ-loop → ℕ
 number c = typesIn (itemsOf (take (c .args .place) (c .args .words .now)))
 
-there : (c : tie.Start Inv-loop μ-loop) → Stands (c .args .words .now) (number c) (c .args .place)
+there : (c : tie.Start Inv-loop μ-loop) → TypeStands (c .args .words .now) (number c) (c .args .place)
 there c = stands-here (c .args .words .now) (c .args .place) (c .pre .1 .0 .0) (c .pre .0 .0) (c .pre .1 .0 .1)
 
 -- the next word is an attribute

@@ -4,7 +4,7 @@ use Prim.Native.Nat.{ℕ, _+_, _-_, _*_, _<_}
 use mathlib.Core.Path.{sym, _∙_}
 use native.Mathlib.Omega.{arith}
 use lib.ListN.{length}
-use Rattle.union.specs.Merge.{Stored}
+use Rattle.union.specs.Merge.{Merged}
 use Rattle.union.specs.MergeLaws.{stored-more, stored-length}
 use Prim.Native.Nat.{ℕ, _<_}
 use borrow.Fn.Kinds.{In}
@@ -63,7 +63,7 @@ union-trie-below t =
     and 3 union-trie-kinds.ps (falls 3 union-trie-kinds.ps _<_ μ-union-trie t) union-trie.Pre
 
 abbrev union-fields-Inv-loop : union-fields-lts.InvT-loop
-union-fields-Inv-loop a b out₀ left roots at₀ out at = Stored a b out₀ (at₀ .a) (at₀ .b) (at₀ .out) out (at .a) (at .b) (at .out)
+union-fields-Inv-loop a b out₀ left roots at₀ out at = Merged a b out₀ (at₀ .a) (at₀ .b) (at₀ .out) out (at .a) (at .b) (at .out)
 
 abbrev union-fields-μ-loop : union-fields-lts.MeasureT-loop
 union-fields-μ-loop a b out₀ left roots at₀ out at = length a + length b - (at .a + at .b)
@@ -149,7 +149,7 @@ union-fields-returns : (t : ℕ) → union-fields-lts.Need-returns (
 union-fields-returns t c = search needs
 
 abbrev union-roots-Inv-loop : union-roots-lts.InvT-loop
-union-roots-Inv-loop a b out₀ left above at₀ out at = Stored a b out₀ (at₀ .a) (at₀ .b) (at₀ .out) out (at .a) (at .b) (at .out)
+union-roots-Inv-loop a b out₀ left above at₀ out at = Merged a b out₀ (at₀ .a) (at₀ .b) (at₀ .out) out (at .a) (at .b) (at .out)
 
 abbrev union-roots-μ-loop : union-roots-lts.MeasureT-loop
 union-roots-μ-loop a b out₀ left above at₀ out at = length a + length b - (at .a + at .b)

@@ -5,7 +5,7 @@ use native.Mathlib.Omega.{arith}
 use mathlib.Core.Path.{_≡_, sym, _∙_}
 use lib.ListN.{length}
 use Rattle.wrapped_paths.specs.Code.{sizeOf, wrapsOf}
-use Rattle.wrapped_paths.specs.CodeLaws.{Seen, Searching, searching-first, searched, seen-few, seen-more, seen-within, seen-room, seen-next}
+use Rattle.wrapped_paths.specs.CodeLaws.{Seen, Searching, searching-first, name-searched, seen-few, seen-more, seen-within, seen-room, seen-next}
 use borrow.Author.Needs.{needs}
 use Rattle.wrapped_paths.proofs.paths_in.Statement.{statement}
 use Rattle.wrapped_paths.proofs.paths_in.Tie as tie
@@ -77,7 +77,7 @@ same-length : tie.Need-same-length Inv-loop μ-loop
 same-length c = c .before .loop .inv .0 ∙ sym (c .before .before .before .before .pre .1)
 
 returns : tie.Need-returns Inv-loop μ-loop
-returns c = searched (c .before .before .before .before .args .at) (c .before .loop .inv .1) (c .loop-test .left)
+returns c = name-searched (c .before .before .before .before .args .at) (c .before .loop .inv .1) (c .loop-test .left)
 
 pub paths-in-spec : {M : Type 1} → statement M
 paths-in-spec =

@@ -14,7 +14,7 @@ use Rattle.rules.specs.Numbers.{accepted}
 use Rattle.rows.specs.States.{formOf, wordsOf}
 use Rattle.rows.specs.StateLaws.{kind-room, kind-most}
 use Rattle.rows.specs.declared.Kind.{Kind}
-use Rattle.manifest.specs.Reads.{formFor, rowsBy, wordsFor}
+use Rattle.manifest.specs.Reads.{formFor, rowsBy, rowWords}
 use Rattle.words.specs.Runs.{stored}
 use borrow.Author.Needs.{needs}
 use Rattle.manifest.proofs.listing.read_listing.Statement.{statement}
@@ -49,7 +49,7 @@ enum-told : tie.Need-enum-told
 enum-told c = search needs
 
 -- what was read, where it is rows: their words are stored, and fit a state of the kind
-words-read : (c : tie.After-count) → accepted (stored (c .count .given .0 .0) (c .before .before .before .read-rows .last .1 .1 .0)) ≡ wordsFor (rowsBy (c .before .before .before .before .before .limits .result) (c .before .before .before .before .before .before .before .before .before .before .args .text .now))
+words-read : (c : tie.After-count) → accepted (stored (c .count .given .0 .0) (c .before .before .before .read-rows .last .1 .1 .0)) ≡ rowWords (rowsBy (c .before .before .before .before .before .limits .result) (c .before .before .before .before .before .before .before .before .before .before .args .text .now))
 words-read c = rw (c .count .given .1) at (c .before .before .before .read-rows .ensures .0)
 
 count-fits : (c : tie.After-count) → (c .count .given .0 .0 < wordsOf (c .before .before .before .before .before .before .before .before .before .before .args .kind)) × (wordsOf (c .before .before .before .before .before .before .before .before .before .before .args .kind) ≤ length (c .before .before .before .read-rows .last .1 .1 .0))

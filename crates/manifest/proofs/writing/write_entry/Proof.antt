@@ -7,7 +7,7 @@ use lib.ListN.{drop}
 use Rattle.rules.specs.Text.{decimal}
 use Rattle.rules.specs.Listing.{lineOf, read}
 use Rattle.manifest.specs.Lines.{lineFor}
-use Rattle.manifest.specs.WriteLaws.{Room, field-room, room-left, wrote-field, wrote-last}
+use Rattle.manifest.specs.WriteLaws.{LineRoom, field-room, room-left, wrote-field, wrote-last}
 use borrow.Author.Needs.{needs}
 use Rattle.manifest.proofs.writing.write_entry.Statement.{statement}
 use Rattle.manifest.proofs.writing.write_entry.Tie as tie
@@ -32,16 +32,16 @@ fields c = let parts = c .of .result in decimal (parts .principal) ∷ decimal (
 line : (c : tie.After-of) → lineFor (read 0 (c .before .before .args .request) false) ≡ lineOf ((65 ∷ []) ∷ fields c)
 line c = let parts = c .of .ensures in rw (parts .0, parts .1, parts .2)
 
-room : (c : tie.After-of) → Room (c .before .before .args .out .now) (c .before .before .args .at) ((65 ∷ []) ∷ fields c)
+room : (c : tie.After-of) → LineRoom (c .before .before .args .out .now) (c .before .before .args .at) ((65 ∷ []) ∷ fields c)
 room c = record { fits = rw (line c) at (c .before .before .pre) }
 
-room-1 : (c : tie.After-put-byte) → Room (c .put-byte .last .0) (c .put-byte .result) (fields (start c))
+room-1 : (c : tie.After-put-byte) → LineRoom (c .put-byte .last .0) (c .put-byte .result) (fields (start c))
 room-1 c = room-left (room (start c)) (c .put-byte .ensures)
 
-room-2 : (c : tie.After-put-number) → Room (c .put-number .last .0) (c .put-number .result) (drop 1 (fields (start (first c))))
+room-2 : (c : tie.After-put-number) → LineRoom (c .put-number .last .0) (c .put-number .result) (drop 1 (fields (start (first c))))
 room-2 c = room-left (room-1 (first c)) (c .put-number .ensures)
 
-room-3 : (c : tie.After-put-number2) → Room (c .put-number2 .last .0) (c .put-number2 .result) (drop 2 (fields (start (first (second c)))))
+room-3 : (c : tie.After-put-number2) → LineRoom (c .put-number2 .last .0) (c .put-number2 .result) (drop 2 (fields (start (first (second c)))))
 room-3 c = room-left (room-2 (second c)) (c .put-number2 .ensures)
 
 of-requires : tie.Need-of-requires

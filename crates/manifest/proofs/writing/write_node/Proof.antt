@@ -8,7 +8,7 @@ use Rattle.rules.specs.Text.{decimal, LF, TAB}
 use Rattle.rules.specs.Tries.{kindOf, idOf}
 use Rattle.rules.specs.Listing.{letters}
 use Rattle.words.specs.Runs.{Wrote}
-use Rattle.manifest.specs.WriteLaws.{Room, nodeFields, node-fields, field-room, room-left, wrote-field, wrote-last}
+use Rattle.manifest.specs.WriteLaws.{LineRoom, nodeFields, node-fields, field-room, room-left, wrote-field, wrote-last}
 use Rattle.words.specs.RunLaws.{wrote-same}
 use borrow.Author.Needs.{needs}
 use Rattle.manifest.proofs.writing.write_node.Statement.{statement}
@@ -47,19 +47,19 @@ wrote-id :
     Wrote (out .last .0) (out .result) (decimal (idOf (start (first (second (third c))) .before .before .args .step)) ++ (TAB ∷ [])) (c .put-number2 .last .0) (c .put-number2 .result)
 wrote-id c = rw (start (first (second (third c))) .of .ensures .1) at (c .put-number2 .ensures)
 
-room : (c : tie.After-of) → Room (c .before .before .args .out .now) (c .before .before .args .at) ((78 ∷ []) ∷ fields c)
+room : (c : tie.After-of) → LineRoom (c .before .before .args .out .now) (c .before .before .args .at) ((78 ∷ []) ∷ fields c)
 room c = let s = c .before .before in record { fits = rw (node-fields (s .args .depth) (s .args .step) (s .args .marked) (s .pre .0)) at (s .pre .2) }
 
-room-1 : (c : tie.After-put-byte) → Room (c .put-byte .last .0) (c .put-byte .result) (fields (start c))
+room-1 : (c : tie.After-put-byte) → LineRoom (c .put-byte .last .0) (c .put-byte .result) (fields (start c))
 room-1 c = room-left (room (start c)) (c .put-byte .ensures)
 
-room-2 : (c : tie.After-put-number) → Room (c .put-number .last .0) (c .put-number .result) (drop 1 (fields (start (first c))))
+room-2 : (c : tie.After-put-number) → LineRoom (c .put-number .last .0) (c .put-number .result) (drop 1 (fields (start (first c))))
 room-2 c = room-left (room-1 (first c)) (c .put-number .ensures)
 
-room-3 : (c : tie.After-put-byte2) → Room (c .put-byte2 .last .0) (c .put-byte2 .result) (drop 2 (fields (start (first (second c)))))
+room-3 : (c : tie.After-put-byte2) → LineRoom (c .put-byte2 .last .0) (c .put-byte2 .result) (drop 2 (fields (start (first (second c)))))
 room-3 c = room-left (room-2 (second c)) (wrote-letter c)
 
-room-4 : (c : tie.After-put-number2) → Room (c .put-number2 .last .0) (c .put-number2 .result) (drop 3 (fields (start (first (second (third c))))))
+room-4 : (c : tie.After-put-number2) → LineRoom (c .put-number2 .last .0) (c .put-number2 .result) (drop 3 (fields (start (first (second (third c))))))
 room-4 c = room-left (room-3 (third c)) (wrote-id c)
 
 of-requires : tie.Need-of-requires

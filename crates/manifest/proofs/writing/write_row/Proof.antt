@@ -3,7 +3,7 @@ use native.Mathlib.Omega.{arith}
 use mathlib.Core.Bool.{false}
 use mathlib.Core.Path.{_≡_}
 use Rattle.rules.specs.Listing.{read}
-use Rattle.rows.specs.Words.{rowOf}
+use Rattle.rows.specs.Words.{rowIn}
 use Rattle.manifest.specs.Lines.{lineFor}
 use Rattle.manifest.specs.WriteLaws.{entry-line, node-line, node-word-kind}
 use borrow.Author.Needs.{needs}
@@ -14,13 +14,13 @@ abbrev start : tie.After-step → tie.Start
 start c = c .before .before .before
 
 -- the row's line is the one that is written
-entry-row : (c : tie.Then1) → lineFor (rowOf (start (c .before) .args .row .word)) ≡ lineFor (read 0 (c .before .step .result) false)
+entry-row : (c : tie.Then1) → lineFor (rowIn (start (c .before) .args .row .word)) ≡ lineFor (read 0 (c .before .step .result) false)
 entry-row c = entry-line _ (c .before .before .depth .ensures) (c .before .step .ensures) (c .if1 .taken)
 
 node-row :
     (c : tie.After-is-marked) →
     let place = c .before .before .before in
-    lineFor (rowOf (start place .args .row .word)) ≡ lineFor (read (place .before .depth .result) (place .step .result) (c .is-marked .result))
+    lineFor (rowIn (start place .args .row .word)) ≡ lineFor (read (place .before .depth .result) (place .step .result) (c .is-marked .result))
 node-row c = let place = c .before .before .before in node-line _ (place .before .depth .ensures) (place .step .ensures) (c .is-marked .ensures)
 
 depth-requires : tie.Need-depth-requires

@@ -9,13 +9,13 @@ use mathlib.Core.Logic.{⊎-elim}
 use mathlib.Core.Path.{_≡_, refl, sym, _∙_}
 use lib.ListN.{length, take, getD, length-set}
 use Rattle.rows.specs.States.{mayFollow}
-use Rattle.rows.proofs.LawfulLaws.{Passed, passed-none, passed-bad, passed-entry, passed-node, passed-all, follow-depth, place-stored}
+use Rattle.rows.proofs.LawfulLaws.{RowsPassed, passed-none, passed-bad, passed-entry, passed-node, passed-all, follow-depth, place-stored}
 use Rattle.rows.proofs.lawful.count_rows.Statement.{statement}
 use Rattle.rows.proofs.lawful.count_rows.Tie as tie
 
 abbrev Inv-loop : tie.InvT-loop
 Inv-loop words path₀ len₀ entries₀ nodes₀ i₀ path len entries nodes i =
-    (len ≤ 25) × (length path ≡ 25) × Passed words (take len path) i entries nodes
+    (len ≤ 25) × (length path ≡ 25) × RowsPassed words (take len path) i entries nodes
 
 abbrev μ-loop : tie.MeasureT-loop
 μ-loop words path₀ len₀ entries₀ nodes₀ i₀ path len entries nodes i = length words - i

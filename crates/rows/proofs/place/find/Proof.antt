@@ -12,7 +12,7 @@ use borrow.Author.Needs.{needs}
 use Rattle.rules.specs.Tries.{found}
 use Rattle.rules.specs.PlaceLaws.{Sought, sought-first, sought-last, sought-below, sought-other, sought-step, sought-here}
 use Rattle.rows.specs.States.{rowsOf}
-use Rattle.rows.specs.Words.{rowOf}
+use Rattle.rows.specs.Words.{rowIn}
 use Rattle.rows.proofs.place.find.Statement.{statement}
 use Rattle.rows.proofs.place.find.Tie as tie
 
@@ -42,7 +42,7 @@ next-row :
     let loop = c .before .before .before .loop in
     Sought
     (found [] (rowsOf (args .words .now)) (args .place .now))
-    (rowOf (getD (args .words .now) (loop .i) 0) ∷ rowsOf (drop (loop .i + 1) (args .words .now)))
+    (rowIn (getD (args .words .now) (loop .i) 0) ∷ rowsOf (drop (loop .i + 1) (args .words .now)))
     (args .place .now)
     (loop .matched)
 next-row c =

@@ -6,7 +6,7 @@ use Prim.Native.Nat.{_-_}
 use Rattle.rules.specs.Schema.{fits}
 use Rattle.schema.specs.Reads.{knownFor}
 use Rattle.schema.specs.Items.{itemFor, isItem}
-use Rattle.schema.specs.ItemLaws.{Judged, judged-none, judged-all, judged-bad, judged-stray, judged-next, item-key}
+use Rattle.schema.specs.ItemLaws.{ItemsJudged, judged-none, judged-all, judged-bad, judged-stray, judged-next, item-key}
 use lib.ListN.{length}
 use mathlib.Core.Bool.{true}
 use borrow.Author.Needs.{needs}
@@ -14,7 +14,7 @@ use Rattle.schema.proofs.lawful.are_items.Statement.{statement}
 use Rattle.schema.proofs.lawful.are_items.Tie as tie
 
 abbrev Inv-loop : tie.InvT-loop
-Inv-loop words known₀ i₀ known i = Judged words (knownFor known) i
+Inv-loop words known₀ i₀ known i = ItemsJudged words (knownFor known) i
 
 abbrev μ-loop : tie.MeasureT-loop
 μ-loop words known₀ i₀ known i = length words - i

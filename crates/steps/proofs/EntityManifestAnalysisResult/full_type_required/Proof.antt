@@ -11,8 +11,8 @@ use Rattle.rules.specs.TypeLaws.{typesIn}
 use Rattle.schema.specs.Items.{itemsOf}
 use Rattle.wrapped_paths.specs.Code.{codes}
 use Rattle.type_table.specs.Tables.{GoodTypes}
-use Rattle.full_types.specs.Required.{Took}
-use Rattle.result_stack.specs.Stacks.{pathsOf, Held}
+use Rattle.full_types.specs.Required.{TypesTook}
+use Rattle.result_stack.specs.Stacks.{stackPaths, Held}
 use Rattle.steps.specs.StepsLaws.{held-top, code-end-room, tries-end-room, copied-top, full-missing, full-few, full-mismatch, full-places, full-paths, full-too-deep, full-rows, full-done}
 use Rattle.result_stack.specs.StackLaws.{top-code, top-at, tries-end, top-stands}
 use borrow.Author.Needs.{needs}
@@ -37,7 +37,7 @@ topped c results held = held-top results held (omega (arith, c .if2 .left))
 took :
     (c : tie.After-code-end) (top : Result) (rest : List Result)
     → Held (c .before .before .before .before .before .before .before .before .before .before .before .before .before .before .args .code .now) (c .before .before .before .before .before .before .before .before .before .before .before .before .before .before .args .tries .now) (c .before .before .before .before .before .before .before .before .before .before .before .before .before .before .args .stack) (top ∷ rest)
-    → Took
+    → TypesTook
     (c .before .before .before .before .before .before .before .before .before .before .before .before .before .before .args .code .now)
     (itemsOf (c .before .before .before .before .before .before .before .before .before .before .before .before .before .before .args .words .now))
     (top .paths)
@@ -46,7 +46,7 @@ took :
     (c .before .before .before .full-type-required .last .1 .1 .1 .1 .1 .0)
     (c .code-end .given .0 .0)
     (c .code-end .given .0 .1 .0)
-took c top rest held = (rw (c .code-end .given .1) at (c .before .before .before .full-type-required .ensures)) (top .paths) (codes (pathsOf rest)) (top-code held)
+took c top rest held = (rw (c .code-end .given .1) at (c .before .before .before .full-type-required .ensures)) (top .paths) (codes (stackPaths rest)) (top-code held)
 
 returns : tie.Need-returns
 returns c results held place =
@@ -88,7 +88,7 @@ returns-3 c results held place =
     let type-test = some-there .before .before in
     let start = type-test .before .before .before .before .before .before in
     let (top, rest, same, h) = topped some-there results held in
-    let none-there = (rw (c .enum-told .given .1) at (at-required .full-type-required .ensures)) (top .paths) (codes (pathsOf rest)) (top-code h) in
+    let none-there = (rw (c .enum-told .given .1) at (at-required .full-type-required .ensures)) (top .paths) (codes (stackPaths rest)) (top-code h) in
     rw same (full-mismatch (start .args .words .now) (start .pre .0 .0) (start .args .t) (known type-test) h none-there place)
 
 array-share-prefix-pairs : tie.Need-array-share-prefix-pairs

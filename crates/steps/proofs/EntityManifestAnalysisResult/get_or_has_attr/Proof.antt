@@ -7,7 +7,7 @@ use borrow.Author.Tests.{not-true, not-false}
 use lib.Seq.{length-take-le}
 use Rattle.rules.specs.Steps.{Result}
 use Rattle.wrapped_paths.specs.Code.{codes, Grew}
-use Rattle.result_stack.specs.Stacks.{pathsOf, Held}
+use Rattle.result_stack.specs.Stacks.{stackPaths, Held}
 use Rattle.steps.specs.StepsLaws.{held-top, attr-grows, tries-end-room, copied-top, attr-few, attr-set, attr-room, attr-too-deep, attr-paths, attr-rows, attr-done}
 use Rattle.result_stack.specs.StackLaws.{top-code, top-standing, top-at, code-end, tries-end}
 use borrow.Author.Needs.{needs}
@@ -32,7 +32,7 @@ grew :
     (c .before .before .before .before .before .get-or-has-attr .last .1 .1 .1 .1 .0)
     (c .words .given .0 .0)
     (c .words .given .0 .1 .0)
-grew c top rest held = (rw (c .words .given .1) at (c .before .before .before .before .before .get-or-has-attr .ensures)) (top .paths) (codes (pathsOf rest)) (top-code held)
+grew c top rest held = (rw (c .words .given .1) at (c .before .before .before .before .before .get-or-has-attr .ensures)) (top .paths) (codes (stackPaths rest)) (top-code held)
 
 returns : tie.Need-returns
 returns c results held place =
@@ -64,7 +64,7 @@ returns-2 : tie.Need-returns-2
 returns-2 c results held place =
     let start = c .before .before .before .before .before .before .before .before .before .before .before .before .before .before .before in
     let (top, rest, same, h) = topped (c .before .before .before .before .before .before .before .before .before) results held in
-    let none-there = (rw (c .enum-told .given .1) at (c .before .before .before .before .before .get-or-has-attr .ensures)) (top .paths) (codes (pathsOf rest)) (top-code h) in
+    let none-there = (rw (c .enum-told .given .1) at (c .before .before .before .before .before .get-or-has-attr .ensures)) (top .paths) (codes (stackPaths rest)) (top-code h) in
     rw same (attr-set h (start .args .name) none-there place)
 
 array-share-prefix-places : tie.Need-array-share-prefix-places

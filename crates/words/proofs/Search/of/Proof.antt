@@ -3,7 +3,7 @@
 use native.Mathlib.Omega.{arith}
 use mathlib.Core.Path.{_≡_, sym, _∙_}
 use Prim.Native.Nat.{_-_}
-use Rattle.words.specs.KeyLaws.{Sought, sought-none, sought-all, sought-found, sought-missing, sought-next}
+use Rattle.words.specs.KeyLaws.{KeySought, sought-none, sought-all, sought-found, sought-missing, sought-next}
 use lib.ListN.{length, getD}
 use Rattle.words.specs.Keys.{keyIn}
 use borrow.Author.Needs.{needs}
@@ -11,7 +11,7 @@ use Rattle.words.proofs.Search.of.Statement.{statement}
 use Rattle.words.proofs.Search.of.Tie as tie
 
 abbrev Inv-loop : tie.InvT-loop
-Inv-loop words key i₀ i = Sought words key i
+Inv-loop words key i₀ i = KeySought words key i
 
 abbrev μ-loop : tie.MeasureT-loop
 μ-loop words key i₀ i = length words - i

@@ -2,7 +2,7 @@
 -- Assumes nothing.
 use mathlib.Core.Path.{ap}
 use native.Mathlib.Omega.{arith}
-use Rattle.wrapped_paths.specs.Code.{sizeOf, wordFor}
+use Rattle.wrapped_paths.specs.Code.{sizeOf, headWord}
 use borrow.Author.Needs.{needs}
 use Rattle.wrapped_paths.proofs.WrappedAccessPaths.word.Statement.{statement}
 use Rattle.wrapped_paths.proofs.WrappedAccessPaths.word.Tie as tie
@@ -35,19 +35,19 @@ add-result-2 : tie.Need-add-result-2
 add-result-2 c = omega (arith, ap sizeOf (c .before .self2 .given .1), c .before .before .before .pre)
 
 returns : tie.Need-returns
-returns c = omega (arith, ap wordFor (c .enum-told .given .1))
+returns c = omega (arith, ap headWord (c .enum-told .given .1))
 
 returns-2 : tie.Need-returns-2
-returns-2 c = omega (arith, ap wordFor (c .before .self .given .1))
+returns-2 c = omega (arith, ap headWord (c .before .self .given .1))
 
 returns-3 : tie.Need-returns-3
-returns-3 c = omega (arith, ap wordFor (c .enum-told2 .given .1))
+returns-3 c = omega (arith, ap headWord (c .enum-told2 .given .1))
 
 returns-4 : tie.Need-returns-4
-returns-4 c = omega (arith, ap wordFor (c .enum-told3 .given .1))
+returns-4 c = omega (arith, ap headWord (c .enum-told3 .given .1))
 
 returns-5 : tie.Need-returns-5
-returns-5 c = omega (arith, ap wordFor (c .before .self2 .given .1))
+returns-5 c = omega (arith, ap headWord (c .before .self2 .given .1))
 
 pub word-spec : {M : Type 1} → statement M
 word-spec =

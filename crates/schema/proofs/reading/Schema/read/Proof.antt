@@ -10,7 +10,7 @@ use Rattle.rules.specs.Numbers.{accepted}
 use Rattle.rules.specs.Schema.{readSchema}
 use Rattle.words.specs.RunLaws.{by-parts, counted, copied}
 use Rattle.words.specs.Runs.{stored}
-use Rattle.schema.specs.Reads.{wordsFor}
+use Rattle.schema.specs.Reads.{itemWords}
 use Rattle.schema.specs.ReadLaws.{read-short, read-refused, read-stored}
 use borrow.Author.Needs.{needs}
 use Rattle.schema.proofs.reading.Schema.read.Statement.{statement}
@@ -22,7 +22,7 @@ returns c = let a = c .before .before .before .args in by-parts (read-short (a .
 -- what was read, where it is items: their words are stored, and fit a state
 words-read :
     (c : tie.After-count) →
-    accepted (stored (c .count .given .0 .0) (c .before .before .before .read-items .last .1 .0)) ≡ wordsFor (readSchema (c .before .before .before .before .before .before .before .before .args .text .now))
+    accepted (stored (c .count .given .0 .0) (c .before .before .before .read-items .last .1 .0)) ≡ itemWords (readSchema (c .before .before .before .before .before .before .before .before .args .text .now))
 words-read c = rw (c .count .given .1) at (c .before .before .before .read-items .ensures .0)
 
 count-fits : (c : tie.After-count) → c .count .given .0 .0 < length (c .before .before .before .read-items .last .1 .0)
