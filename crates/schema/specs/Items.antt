@@ -67,10 +67,6 @@ abbrev pub tagRead : Tag → Option ℕ
 tagRead (OfTag place) = some place
 tagRead Other = none
 
-abbrev pub given : {A : Type 0} → Option A → Bool
-given none = false
-given (some a) = true
-
 -- what the names of an entity type give
 abbrev pub namedBy : List (List ℕ) → Option ℕ
 namedBy fields = ascending 0 fields >>= namesOf

@@ -1,64 +1,54 @@
 -- Laws of the fields of a schema's lines. No contract cites this file.
-use Prim.Native.Nat.{ℕ, _+_, _≤_}
+use Prim.Native.Nat.{ℕ, _+_, _≤_, _<_}
 use native.Mathlib.Omega.{arith}
-use mathlib.Core.Bool.{Bool, cond}
 use mathlib.Core.List.{List, [], _∷_}
 use mathlib.Core.Logic.{_≢_}
-use mathlib.Core.Option.{Option, none, some}
+use mathlib.Core.Option.{none, some, Option·some-injective}
 use mathlib.Core.Path.{_≡_, refl, sym, ap, _∙_}
-use borrow.Author.Tests.{ne-eqb, le-leb, leb-true, leb-false}
-use lib.Dec.{leb}
-use Rattle.rules.specs.Facts.{by-option, by-test}
+use borrow.Author.Tests.{ne-eqb, le-leb}
+use lib.ListN.{length}
+use Rattle.rules.specs.Facts.{by-option}
 use Rattle.rules.specs.Text.{decimalOf}
-use Rattle.rules.specs.Listing.{_>>=_}
+use Rattle.rules.specs.TextLaws.{decimal-written}
+use Rattle.rules.specs.ListingLaws.{bind-some}
+use Rattle.text.proofs.NameLaws.{ascending-first}
 use Rattle.rules.specs.Schema.{ascending, namesOf, valueOf}
-use Rattle.text.proofs.FieldLaws.{ascending-bad, ascending-low, ascending-next}
-use Rattle.schema.specs.Items.{given, namedBy}
-
--- ---- decimals that ascend
-
-module _ (least : ℕ) (field : List ℕ) (fields : List (List ℕ)) {n : ℕ} (e : decimalOf field ≡ some n) where
-  pub given-next : least ≤ n → given (ascending least (field ∷ fields)) ≡ given (ascending (n + 1) fields)
-  given-next h = ap given (ascending-next least field fields e h) ∙ go (ascending (n + 1) fields)
-    where
-      go : (rest : Option (List ℕ)) → given (rest >>= (λ ns. some (n ∷ ns))) ≡ given rest
-      go none = refl
-      go (some ns) = refl
-
--- one decimal is at least `least` or not
-pub given-last : (least n : ℕ) (field : List ℕ) → decimalOf field ≡ some n → given (ascending least (field ∷ [])) ≡ leb least n
-unfolding ascending
-given-last least n field e = by-test (leb least n) (λ t. rw (e, t)) (λ t. rw (e, t))
+use Rattle.schema.specs.Items.{namedBy}
 
 -- ---- the names of an entity type
 
 -- one name
-pub named-one : (field : List ℕ) → namedBy (field ∷ []) ≡ decimalOf field
+named-one : (field : List ℕ) → namedBy (field ∷ []) ≡ decimalOf field
 unfolding ascending
 named-one field = by-option (decimalOf field) (λ e. rw e) (λ n e. rw (e, le-leb 0 n (omega arith)))
 
-module _ (field next : List ℕ) (fields : List (List ℕ)) where
-  -- the first of more is no decimal
-  pub named-bad : decimalOf field ≡ none → namedBy (field ∷ next ∷ fields) ≡ none
-  named-bad e = rw (ascending-bad 0 field (next ∷ fields) e)
+-- names, by the first and whether it is the only one
+module _ (fields : List (List ℕ)) {name : ℕ} {others : List ℕ} (e : ascending 0 fields ≡ some (name ∷ others)) where
+  pub named-alone : length others ≡ 0 → namedBy fields ≡ some name
+  named-alone h = rw e (go others h)
+    where
+      go : (others : List ℕ) → length others ≡ 0 → namesOf (name ∷ others) ≡ some name
+      go [] h = refl
+      go (next ∷ others) h = absurd (omega arith)
 
-  module _ {n : ℕ} (e : decimalOf field ≡ some n) where
-    -- the others do not ascend after it, or they do
-    pub named-more : {test : Bool} → test ≡ given (ascending (n + 1) (next ∷ fields)) → namedBy (field ∷ next ∷ fields) ≡ cond test (some (n + 65536)) none
-    named-more {test} t = ap (λ (o : Option (List ℕ)). o >>= namesOf) (ascending-next 0 field (next ∷ fields) e (omega arith)) ∙ rw t (go (decimalOf next) refl)
-      where
-        go : (first : Option ℕ) → decimalOf next ≡ first →
-            ((ascending (n + 1) (next ∷ fields) >>= (λ ns. some (n ∷ ns))) >>= namesOf) ≡ cond (given (ascending (n + 1) (next ∷ fields))) (some (n + 65536)) none
-        go none q = rw (ascending-bad (n + 1) next fields q)
-        go (some m) q =
-            by-test (leb (n + 1) m)
-            (λ l. rw (ascending-next (n + 1) next fields q (leb-true (n + 1) m l)) (rest (ascending (m + 1) fields)))
-            (λ l. rw (ascending-low (n + 1) next fields q (leb-false (n + 1) m l)))
-          where
-            rest : (others : Option (List ℕ)) →
-                (((others >>= (λ ns. some (m ∷ ns))) >>= (λ ns. some (n ∷ ns))) >>= namesOf) ≡ cond (given (others >>= (λ ns. some (m ∷ ns)))) (some (n + 65536)) none
-            rest none = refl
-            rest (some ns) = refl
+  pub named-more : 0 < length others → namedBy fields ≡ some (name + 65536)
+  named-more h = rw e (go others h)
+    where
+      go : (others : List ℕ) → 0 < length others → namesOf (name ∷ others) ≡ some (name + 65536)
+      go [] h = absurd (omega arith)
+      go (next ∷ others) h = refl
+
+-- they give a small number
+pub named-most : (field : List ℕ) (fields : List (List ℕ)) (v : ℕ) → namedBy (field ∷ fields) ≡ some v → v < 131072
+named-most field fields v e =
+    bind-some (ascending 0 (field ∷ fields)) namesOf v e λ ns read e.
+    let (n, others, value, same) = ascending-first 0 field fields read in
+    let most = decimal-written field n value .1 in
+    omega (arith, go n others (sym (ap namesOf same) ∙ e))
+  where
+    go : (n : ℕ) (others : List ℕ) → namesOf (n ∷ others) ≡ some v → v ≤ n + 65536
+    go n [] e = omega (arith, Option·some-injective n v e)
+    go n (next ∷ others) e = omega (arith, Option·some-injective (n + 65536) v e)
 
 -- ---- what follows a kind
 

@@ -4,12 +4,12 @@ use native.Mathlib.Omega.{arith}
 use mathlib.Core.Bool.{Bool, true, false, cond}
 use mathlib.Core.List.{List, [], _∷_, _++_, map, map-append}
 use mathlib.Core.Option.{Option, none, some, Option·none-ne-some, Option·some-injective}
-use mathlib.Core.Path.{_≡_, refl, sym, ap, _∙_}
+use mathlib.Core.Path.{_≡_, refl, ap, _∙_}
 use borrow.Author.Tests.{eqb-true, leb-true, le-leb, lt-leb}
 use lib.Dec.{eqb, leb}
 use lib.ListN.{length, take, drop, set, length-set, length-map}
 use lib.Seq.{sets}
-use Rattle.rules.specs.Facts.{by-option, cond-some}
+use Rattle.rules.specs.Facts.{cond-some}
 use Rattle.rules.specs.Numbers.{Answer, accepted, refused}
 use Rattle.rules.specs.Lines.{Folded, foldText}
 use Rattle.rules.specs.LineLaws.{gathering, gathered, itemAfter, itemLine, items-folded}
@@ -17,7 +17,7 @@ use Rattle.rules.specs.Text.{bytes, linesOf, fieldsOf, decimalOf}
 use Rattle.rules.specs.TextLaws.{decimal-written}
 use Rattle.rules.specs.Listing.{_>>=_, isLetter, placeIn}
 use Rattle.rules.specs.ListingLaws.{bind-some}
-use Rattle.rules.specs.Schema.{Item, Known, item, unknown, ascending, valueOf, typeOf, pairOf, itemOf, fits, beyond, readSchema}
+use Rattle.rules.specs.Schema.{Item, Known, item, unknown, valueOf, typeOf, pairOf, itemOf, fits, beyond, readSchema}
 use Rattle.text.specs.Answers.{lineAt}
 use Rattle.text.proofs.Laws.{whole-line, cut-line}
 use Rattle.text.proofs.FoldLaws.{CameTo, came-start, came-end, came-cut, came-refused, came-next}
@@ -28,10 +28,10 @@ use Rattle.words.specs.declared.Reply.the-variants.{Done}
 use Rattle.text.proofs.FieldLaws.{place-within}
 use Rattle.words.specs.RunLaws.{stored-next}
 use Rattle.schema.specs.declared.known.Known.{Known as Kept}
-use Rattle.schema.specs.Items.{given, namedBy, itemWord, storingItems, readSchemaIn}
+use Rattle.schema.specs.Items.{itemWord, storingItems, readSchemaIn}
 use Rattle.schema.specs.Reads.{knownFor, Bounded, ItemRoom, LinePassed, refusedLine, itemWords}
 use Rattle.schema.specs.KnownLaws.{most-lines, bounded-beyond, counted-beyond}
-use Rattle.schema.specs.LineLaws.{named-bad, named-more}
+use Rattle.schema.specs.LineLaws.{named-most}
 
 -- ---- the numbers of an item
 
@@ -56,15 +56,7 @@ value-fits kind (field ∷ []) v e =
     (omega (arith, eqb-true kind 9 t), omega (arith, decimal-written field v d .1)))
 value-fits kind (field ∷ next ∷ fields) v e =
     let (t, named) = cond-some (eqb kind 9) _ v e in
-    (omega (arith, eqb-true kind 9 t), first named)
-  where
-    first : namedBy (field ∷ next ∷ fields) ≡ some v → v < 131072
-    first named =
-        by-option (decimalOf field)
-        (λ d. absurd (Option·none-ne-some v (sym (named-bad field next fields d) ∙ named)))
-        (λ n d. let (_, e) = cond-some (given (ascending (n + 1) (next ∷ fields))) (some (n + 65536)) v (sym (named-more field next fields d refl) ∙ named) in
-        let both : n + 65536 ≡ v = Option·some-injective (n + 65536) v e in
-        omega (arith, decimal-written field n d .1))
+    (omega (arith, eqb-true kind 9 t), named-most field (next ∷ fields) v named)
 
 -- a line's item fits its word
 abbrev pub ItemFits : Item → Type 0

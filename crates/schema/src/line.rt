@@ -1,16 +1,15 @@
 // A line of a schema's text as an item.
 ghost use mathlib.Core.Path.{_≡_};
-ghost use Prim.Native.Nat.{_≤_};
 ghost use mathlib.Core.List.{[], _∷_};
-ghost use lib.ListN.{length, drop};
 ghost use Rattle.rules.specs.Text.{fieldsOf, bytes};
 ghost use Rattle.rules.specs.Listing.{placeIn};
-ghost use Rattle.rules.specs.Schema.{itemOf, typeOf, pairOf, valueOf, ascending};
+ghost use Rattle.rules.specs.Schema.{itemOf, typeOf, pairOf, valueOf};
 ghost use Rattle.text.specs.Answers.{numberOf};
-ghost use Rattle.schema.specs.Items.{itemRead, tagRead, given, namedBy};
+ghost use Rattle.schema.specs.Items.{itemRead, tagRead, namedBy};
 use crate::item::Item;
 use text::Decimal;
 use text::Field;
+use text::Names;
 
 // What a line is read as: an item, or not of the stated form.
 pub enum Parsed {
@@ -39,46 +38,18 @@ fn tag_of(field: &[u8]) -> Tag
     }
 }
 
-// Whether the fields of a line from a place on are decimals that ascend strictly, the first at least `least`.
-fn ascends(line: &[u8], at: usize, least: u64) -> bool
-    requires { ⌜ at ≤ length (now line) ⌝ }
-    ensures { λ r. ⌜ r ≡ given (ascending least (fieldsOf (drop at (now (line .entry))))) ⌝ }
-{
-    let mut from = at;
-    let mut next = least;
-    while from <= line.len() {
-        let Field::More(end) = Field::at(line, from) else {
-            let Decimal::Value(last) = Decimal::read(&line[from..]) else {
-                return false;
-            };
-            return next <= last;
-        };
-        let Decimal::Value(n) = Decimal::read(&line[from..end]) else {
-            return false;
-        };
-        if n < next {
-            return false;
-        }
-        next = n + 1;
-        from = end + 1;
-    }
-    false
-}
-
 // The names of an entity type: the first, and 65,536 more where it is not the only one.
 fn names(more: &[u8]) -> Decimal
     ensures { λ r. ⌜ numberOf r ≡ namedBy (fieldsOf (now (more .entry))) ⌝ }
 {
-    let Field::More(end) = Field::at(more, 0) else {
-        return Decimal::read(more);
-    };
-    let Decimal::Value(first) = Decimal::read(&more[..end]) else {
+    let mut first = [0u64; 1];
+    let Names::Of(count) = Names::read(more, &mut first) else {
         return Decimal::Bad;
     };
-    if !ascends(more, end + 1, first + 1) {
-        return Decimal::Bad;
+    if count == 1 {
+        return Decimal::Value(first[0]);
     }
-    Decimal::Value(first + 0x1_0000)
+    Decimal::Value(first[0] + 0x1_0000)
 }
 
 // What a type of a kind with nothing more has: 0, where its kind asks for nothing more.

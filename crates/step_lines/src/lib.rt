@@ -2,12 +2,13 @@
 ghost use mathlib.Core.Path.{_≡_};
 ghost use Prim.Native.Nat.{_≤_};
 ghost use mathlib.Core.Bool.{false};
-ghost use lib.ListN.{length, drop};
+ghost use lib.ListN.{length};
 ghost use Rattle.rules.specs.Text.{bytes, fieldsOf};
 ghost use Rattle.rules.specs.Steps.{isText, recOf, bareStep, stepWith, stepFrom};
 ghost use Rattle.step_lines.specs.Lines.{stepRead, nameCount, Bare, varStep};
 use text::Decimal;
 use text::Field;
+use text::Names;
 
 // A step; the names of `rec` are kept beside it, so many of them.
 pub enum Step {
@@ -26,42 +27,6 @@ pub enum Step {
 impl Step {
     // A record literal has at most so many fields.
     pub const NAMES: usize = 32;
-}
-
-// The fields of a line from a place on as names that ascend strictly, at most NAMES of them, the last in front of the others at the end of
-// `names`.
-fn read_names(line: &[u8], at: usize, names: &mut [u64]) -> Step
-    requires { ⌜ (at ≤ length (now line)) × (length (now names) ≡ 32) ⌝ }
-    ensures { λ r. ⌜ stepRead r (now (names .exit)) ≡ recOf (fieldsOf (drop at (now (line .entry)))) ⌝ }
-    ensures { λ r. ⌜ nameCount r ≤ 32 ⌝ }
-{
-    let mut from = at;
-    let mut least: u64 = 0;
-    let mut count = 0;
-    while count < Step::NAMES {
-        let slot = Step::NAMES - 1 - count;
-        let Field::More(end) = Field::at(line, from) else {
-            let Decimal::Value(last) = Decimal::read(&line[from..]) else {
-                return Step::Bad;
-            };
-            if last < least {
-                return Step::Bad;
-            }
-            names[slot] = last;
-            return Step::Rec(count + 1);
-        };
-        let Decimal::Value(name) = Decimal::read(&line[from..end]) else {
-            return Step::Bad;
-        };
-        if name < least {
-            return Step::Bad;
-        }
-        names[slot] = name;
-        least = name + 1;
-        from = end + 1;
-        count += 1;
-    }
-    Step::Bad
 }
 
 // A step of one word.
@@ -129,6 +94,21 @@ fn step_with(word: &[u8], field: &[u8]) -> Step
     Step::Bad
 }
 
+// A record literal with the fields of those names, at most NAMES of them.
+fn rec_step(fields: &[u8], names: &mut [u64]) -> Step
+    requires { ⌜ length (now names) ≡ 32 ⌝ }
+    ensures { λ r. ⌜ stepRead r (now (names .exit)) ≡ recOf (fieldsOf (now (fields .entry))) ⌝ }
+    ensures { λ r. ⌜ nameCount r ≤ 32 ⌝ }
+{
+    let Names::Of(count) = Names::read(fields, names) else {
+        return Step::Bad;
+    };
+    if Step::NAMES < count {
+        return Step::Bad;
+    }
+    Step::Rec(count)
+}
+
 // The step of a line, by its fields.
 pub fn parse(line: &[u8], names: &mut [u64]) -> Step
     requires { ⌜ length (now names) ≡ 32 ⌝ }
@@ -140,7 +120,7 @@ pub fn parse(line: &[u8], names: &mut [u64]) -> Step
     };
     let second = word_end + 1;
     if check::same(&line[..word_end], b"rec") {
-        return read_names(line, second, names);
+        return rec_step(&line[second..], names);
     }
     let Field::Last = Field::at(line, second) else {
         return Step::Bad;

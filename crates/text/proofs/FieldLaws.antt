@@ -1,4 +1,4 @@
--- Laws of the fields of a line, by the answers that find them, of letters and of decimals that ascend. No contract cites this file.
+-- Laws of the fields of a line, by the answers that find them, and of letters. No contract cites this file.
 use Prim.Native.Nat.{ℕ, _+_, _-_, _≤_, _<_}
 use native.Mathlib.Nat.{sub-zero, add-sub-cancel-left}
 use native.Mathlib.Omega.{arith}
@@ -8,10 +8,8 @@ use mathlib.Core.Path.{_≡_, refl, sym, ap, _∙_}
 use lib.ListN.{length, getD, take, drop, length-drop}
 use lib.Seq.{take-all}
 use Rattle.rules.specs.Facts.{compared}
-use borrow.Author.Tests.{le-leb, lt-leb}
-use Rattle.rules.specs.Text.{fieldsOf, decimalOf, TAB}
-use Rattle.rules.specs.Listing.{_>>=_, placeIn}
-use Rattle.rules.specs.Schema.{ascending}
+use Rattle.rules.specs.Text.{fieldsOf, TAB}
+use Rattle.rules.specs.Listing.{placeIn}
 use Rattle.rules.specs.ListingLaws.{place-read}
 use Rattle.text.specs.Answers.{fieldAt, firstField}
 use Rattle.text.specs.Before.{before as earlier}
@@ -80,21 +78,3 @@ place-one xs field h e = ap (placeIn xs) (one-byte field h) ∙ rw e
 -- a place among letters is one of theirs
 pub place-within : (xs field : List ℕ) (n : ℕ) → placeIn xs field ≡ some n → n < length xs
 place-within xs field n e = place-read xs field n e .0
-
--- ---- decimals that ascend
-
-module _ (least : ℕ) (field : List ℕ) (fields : List (List ℕ)) where
-  -- the first field is no decimal, or too low
-  pub ascending-bad : decimalOf field ≡ none → ascending least (field ∷ fields) ≡ none
-  unfolding ascending
-  ascending-bad e = rw e
-
-  module _ {n : ℕ} (e : decimalOf field ≡ some n) where
-    pub ascending-low : n < least → ascending least (field ∷ fields) ≡ none
-    unfolding ascending
-    ascending-low h = rw (e, lt-leb least n h)
-
-    -- the others follow it
-    pub ascending-next : least ≤ n → ascending least (field ∷ fields) ≡ (ascending (n + 1) fields >>= (λ ns. some (n ∷ ns)))
-    unfolding ascending
-    ascending-next h = rw (e, le-leb least n h)

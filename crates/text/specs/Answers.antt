@@ -4,8 +4,10 @@ use mathlib.Core.Bool.{cond}
 use mathlib.Core.List.{List, [], _∷_}
 use mathlib.Core.Option.{Option, none, some}
 use lib.Dec.{leb, eqb}
-use lib.ListN.{length, drop}
+use mathlib.Core.Path.{_≡_}
+use lib.ListN.{length, take, drop}
 use Rattle.rules.specs.Text.{parted, linesOf, fieldsOf, isDigit, decimalOf}
+use Rattle.rules.specs.Steps.{reversed}
 use Rattle.text.specs.declared.Line.{Line}
 use Rattle.text.specs.declared.Line.the-variants.{End, Whole, Cut}
 use Rattle.text.specs.declared.Field.{Field}
@@ -14,6 +16,8 @@ use Rattle.text.specs.declared.Decimal.{Decimal}
 use Rattle.text.specs.declared.Decimal.the-variants.{Value, Bad}
 use Rattle.text.specs.declared.Number.{Number}
 use Rattle.text.specs.declared.Number.the-variants.{Of, Bad as BadNumber}
+use Rattle.text.specs.declared.Names.{Names}
+use Rattle.text.specs.declared.Names.the-variants.{Of as OfNames, Bad as BadNames}
 
 -- of the lines of what is left from a place on, the first: none, one that an LF ends at a place, or a last one without LF
 abbrev pub firstLine : ℕ → List (List ℕ) → Line
@@ -61,3 +65,17 @@ firstNumber reads at (part ∷ next ∷ more) = ending (at + length part) (reads
 -- the decimal that begins at a place and that a byte b ends
 abbrev pub numberAt : ℕ → List ℕ → ℕ → Number
 numberAt b s at = firstNumber decimalOf at (parted b (drop at s))
+
+-- how many names there are, if they are names
+abbrev pub counted : Option (List ℕ) → Names
+counted none = BadNames
+counted (some names) = OfNames (length names)
+
+-- the names for which a buffer has room stand at its end, the last in front of the others
+abbrev pub Kept : Option (List ℕ) → List ℕ → Type 0
+Kept none buffer = Unit
+Kept (some names) buffer = drop (length buffer - length names) buffer ≡ reversed (take (length buffer) names)
+
+pub record NamesRead (names : Option (List ℕ)) (r : Names) (buffer : List ℕ) : Type 0 where
+  pub answer : r ≡ counted names
+  pub kept : Kept names buffer

@@ -4,9 +4,10 @@ ghost use Prim.Native.Nat.{_+_, _≤_, _<_};
 ghost use lib.ListN.{length, drop};
 ghost use lib.Seq.{sets};
 ghost use mathlib.Core.List.{_∷_};
-ghost use Rattle.rules.specs.Text.{decimalOf, decimal, parted};
+ghost use Rattle.rules.specs.Text.{decimalOf, decimal, parted, fieldsOf};
 ghost use Rattle.rules.specs.Listing.{isLetter};
-ghost use Rattle.text.specs.Answers.{lineAt, fieldAt, numberOf, digitsFrom, firstNumber, numberAt};
+ghost use Rattle.rules.specs.Schema.{ascending};
+ghost use Rattle.text.specs.Answers.{lineAt, fieldAt, numberOf, digitsFrom, firstNumber, numberAt, NamesRead};
 ghost use Rattle.text.specs.Before.{before};
 
 pub const LF: u8 = 10;
@@ -35,6 +36,12 @@ pub enum Decimal {
 // What begins at a place as a decimal: a number that a byte at a place ends, or no such decimal.
 pub enum Number {
     Of(u64, usize),
+    Bad,
+}
+
+// What the fields of a line are as decimals that ascend strictly: so many names, or no such.
+pub enum Names {
+    Of(usize),
     Bad,
 }
 
@@ -192,5 +199,36 @@ impl Number {
             return Number::Of(0, at);
         }
         Number::Bad
+    }
+}
+
+impl Names {
+    // Reads them all; those for which `names` has room are kept at its end, the last in front of the others.
+    pub fn read(line: &[u8], names: &mut [u64]) -> Names
+        ensures { λ r. ⌜ NamesRead (ascending 0 (fieldsOf (now (line .entry)))) r (now (names .exit)) ⌝ }
+    {
+        let mut from = 0;
+        let mut least: u64 = 0;
+        let mut count = 0;
+        while from < line.len() {
+            let end = scan(line, from, TAB);
+            let Decimal::Value(name) = Decimal::read(&line[from..end]) else {
+                return Names::Bad;
+            };
+            if name < least {
+                return Names::Bad;
+            }
+            if count < names.len() {
+                let slot = names.len() - 1 - count;
+                names[slot] = name;
+            }
+            count += 1;
+            if end == line.len() {
+                return Names::Of(count);
+            }
+            least = name + 1;
+            from = end + 1;
+        }
+        Names::Bad
     }
 }

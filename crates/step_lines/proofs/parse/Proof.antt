@@ -5,8 +5,8 @@ use native.Mathlib.Omega.{arith}
 use native.Mathlib.Nat.{sub-zero}
 use mathlib.Core.Path.{_≡_, sym, _∙_}
 use borrow.Author.Needs.{needs}
-use lib.Seq.{length-take-le}
-use lib.ListN.{take, drop}
+use lib.Seq.{length-take-le, take-all}
+use lib.ListN.{length, take, drop, length-drop}
 use Rattle.rules.specs.Steps.{isText, stepFrom}
 use Rattle.rules.specs.Text.{bytes}
 use Rattle.text.proofs.FieldLaws.{Ends, field-ends, fields-last}
@@ -52,18 +52,28 @@ slice-aggregate-same-2 c = search needs
 same-requires : tie.Need-same-requires
 same-requires c κs = search needs
 
-read-names-requires : tie.Need-read-names-requires
-read-names-requires c κs = (omega (arith, word-ends (c .before .before .before .before .before .before)), c .before .before .before .before .before .before .before .before .before .before .before .pre)
+sub-rec-step : tie.Need-sub-rec-step
+sub-rec-step c = omega (arith, word-ends (c .before .before .before .before .before))
+
+part-rec-step-start : tie.Need-part-rec-step-start
+part-rec-step-start c = omega (arith, word-ends (c .before .before .before .before .before))
+
+part-rec-step-end : tie.Need-part-rec-step-end
+part-rec-step-end c = search needs
+
+rec-step-requires : tie.Need-rec-step-requires
+rec-step-requires c κs = c .before .before .before .before .before .before .before .before .before .before .before .before .pre
 
 same-length : tie.Need-same-length
 same-length c = search needs
 
 returns-2 : tie.Need-returns-2
 returns-2 c =
-    let line = c .before .before .before .before .before .before .before .before .before .before .before .before .before .before .args .line .now in
-    let end = c .before .before .before .before .before .before .before .before .before .word-end .given .0 .0 in
-    let whole = rec-fields (take end line) line (end + 1) (rec-said (c .before .before .before .before .before) ∙ c .before .before .before .before .if1 .taken) in
-    (c .before .before .read-names .ensures .0 ∙ sym (rw (word-ends (c .before .before .before .before .before .before .before .before .before) .2, sub-zero) whole), c .before .before .read-names .ensures .1)
+    let line = c .before .before .before .before .before .before .before .before .before .before .before .before .before .before .before .args .line .now in
+    let end = c .before .before .before .before .before .before .before .before .before .before .word-end .given .0 .0 in
+    let whole = rec-fields (take end line) line (end + 1) (rec-said (c .before .before .before .before .before .before) ∙ c .before .before .before .before .before .if1 .taken) in
+    let behind : take (length line - (end + 1)) (drop (end + 1) line) ≡ drop (end + 1) line = take-all (length line - (end + 1)) (drop (end + 1) line) (omega (arith, length-drop (end + 1) line)) in
+    (c .before .before .rec-step .ensures .0 ∙ rw behind (sym (rw (word-ends (c .before .before .before .before .before .before .before .before .before .before) .2, sub-zero) whole)), c .before .before .rec-step .ensures .1)
 
 at-requires-2 : tie.Need-at-requires-2
 at-requires-2 c κs = search needs
@@ -120,7 +130,10 @@ parse-spec =
     slice-aggregate-same
     slice-aggregate-same-2
     same-requires
-    read-names-requires
+    sub-rec-step
+    part-rec-step-start
+    part-rec-step-end
+    rec-step-requires
     same-length
     returns-2
     at-requires-2

@@ -1,112 +1,57 @@
--- `schema::line::names` meets its contract: one field is a name, and of more the first is, where the others ascend after it.
--- Assumes nothing.
+-- `schema::line::names` meets its contract: the names that were read ascend, the first of them is kept, and the count says whether it is the
+-- only one. Assumes nothing.
+use Prim.Native.Nat.{ℕ, suc, _≤_}
 use native.Mathlib.Omega.{arith}
-use mathlib.Core.Path.{_≡_, sym, ap, _∙_}
-use borrow.Author.Tests.{not-true, not-false}
-use Prim.Native.Nat.{_+_}
-use lib.ListN.{take, drop}
-use mathlib.Core.Option.{none, some}
-use Rattle.rules.specs.Text.{decimalOf, fieldsOf, TAB}
-use Rattle.rules.specs.TextLaws.{decimal-written, parted-some}
-use Rattle.text.specs.Answers.{numberOf}
-use Rattle.text.proofs.FieldLaws.{Ends, field-ends, fields-whole}
-use Rattle.schema.specs.LineLaws.{named-one, named-bad, named-more}
-use Rattle.schema.specs.Items.{namedBy}
-use lib.Seq.{length-take-le}
-use native.Mathlib.Nat.{sub-zero}
-use mathlib.Core.Bool.{cond}
+use mathlib.Core.List.{List, _∷_}
+use mathlib.Core.Option.{some}
+use mathlib.Core.Path.{_≡_, sym}
 use borrow.Author.Needs.{needs}
+use lib.ListN.{length, getD}
+use Rattle.rules.specs.Text.{fieldsOf}
+use Rattle.rules.specs.Schema.{ascending}
+use Rattle.text.proofs.NameLaws.{no-names, first-kept}
+use Rattle.schema.specs.LineLaws.{named-alone, named-more}
 use Rattle.schema.proofs.line.names.Statement.{statement}
 use Rattle.schema.proofs.line.names.Tie as tie
 
-at-requires : tie.Need-at-requires
-at-requires c κs = search needs
-
-enum-known-end : tie.Need-enum-known-end
-enum-known-end c = search needs
-
-enum-told : tie.Need-enum-told
-enum-told c = search needs
+slice-aggregate-read : tie.Need-slice-aggregate-read
+slice-aggregate-read c = search needs
 
 read-requires : tie.Need-read-requires
 read-requires c κs = search needs
 
+enum-known-count : tie.Need-enum-known-count
+enum-known-count c = search needs
+
+enum-told : tie.Need-enum-told
+enum-told c = search needs
+
+-- what is known of the first name
+kept : (c : tie.After-count) →
+    let line = c .before .before .before .before .before .before .args .more .now in
+    let buffer = c .before .before .before .read .last .1 .0 in
+    (others : List ℕ) × (ascending 0 (fieldsOf line) ≡ some (getD buffer 0 0 ∷ others)) × (suc (length others) ≡ c .count .given .0 .0) × (getD buffer 0 0 ≤ 65535)
+kept c = first-kept (c .before .before .before .before .before .before .args .more .now) _ (c .before .before .before .read .kept .1 .0) (c .before .before .before .read .ensures) (c .count .given .1)
+
 returns : tie.Need-returns
-returns c =
-    let more = c .before .before .before .before .before .args .more .now in
-    c .read .ensures ∙ sym (rw (fields-whole more _ (c .before .before .before .at .ensures) (c .before .enum-told .given .1)) (named-one more))
+returns c = sym (rw (no-names (c .before .before .before .read .ensures) (c .enum-told .given .1)))
 
--- what is known of the first field, and that others follow it
-ends : (c : tie.After-end) → Ends (c .before .before .before .before .args .more .now) 0 (c .end .given .0 .0)
-ends c = field-ends (c .before .before .before .before .args .more .now) 0 _ _ (c .before .before .at .ensures) (c .end .given .1)
-
-first-read : (c : tie.After-first) → decimalOf (take (c .before .before .before .before .before .end .given .0 .0) (c .before .before .before .before .before .before .before .before .before .args .more .now)) ≡ some (c .first .given .0 .0)
-first-read c = sym (c .before .before .read2 .ensures) ∙ ap numberOf (c .first .given .1)
-
-slice-aggregate-read : tie.Need-slice-aggregate-read
-slice-aggregate-read c = sym (length-take-le _ _ (omega (arith, ends (c .before .before))))
-
-read-requires-2 : tie.Need-read-requires-2
-read-requires-2 c κs = search needs
-
-enum-known-first : tie.Need-enum-known-first
-enum-known-first c = search needs
-
-enum-told-2 : tie.Need-enum-told-2
-enum-told-2 c = search needs
+array-read-t10 : tie.Need-array-read-t10
+array-read-t10 c = search needs
 
 returns-2 : tie.Need-returns-2
-returns-2 c =
-    let ended = c .before .before .before .before .before in
-    let more = ended .before .before .before .before .args .more .now in
-    let rest = parted-some TAB (drop (ended .end .given .0 .0 + 1) more) in
-    sym (rw (ends ended .2, rest .2, sub-zero) (named-bad _ (rest .0) (rest .1) (sym (c .before .before .read2 .ensures) ∙ ap numberOf (c .enum-told2 .given .1))))
+returns-2 c = let (others, names, counts, most) = kept (c .before .before) in sym (named-alone _ names (omega arith))
 
-add-ascends : tie.Need-add-ascends
-add-ascends c = omega (arith, ends (c .before .before .before .before .before .before))
+array-read-t13 : tie.Need-array-read-t13
+array-read-t13 c = search needs
 
-add-ascends-2 : tie.Need-add-ascends-2
-add-ascends-2 c = omega (arith, decimal-written _ _ (first-read (c .before)) .1)
-
-ascends-requires : tie.Need-ascends-requires
-ascends-requires c κs = omega (arith, ends (c .before .before .before .before .before .before))
-
--- the others say whether there are names
-named :
-    (c : tie.After-ascends) →
-    namedBy (fieldsOf (c .before .before .before .before .before .before .before .before .before .before .before .args .more .now)) ≡ cond (c .ascends .result) (some (c .before .before .first .given .0 .0 + 65536)) none
-named c =
-    let ended = c .before .before .before .before .before .before .before in
-    let more = ended .before .before .before .before .args .more .now in
-    let rest = parted-some TAB (drop (ended .end .given .0 .0 + 1) more) in
-    rw (ends ended .2, rest .2, sub-zero) (named-more _ (rest .0) (rest .1) (first-read (c .before .before)) (rw (rest .2) at (c .ascends .ensures)))
+add-t14 : tie.Need-add-t14
+add-t14 c = omega (arith, kept (c .before .before))
 
 returns-3 : tie.Need-returns-3
-returns-3 c = sym (named (c .before) ∙ rw (not-true (c .before .ascends .result) (c .if1 .taken)))
-
-add-t10 : tie.Need-add-t10
-add-t10 c = omega (arith, decimal-written _ _ (first-read (c .before .before .before)) .1)
-
-returns-4 : tie.Need-returns-4
-returns-4 c = sym (named (c .before) ∙ rw (not-false (c .before .ascends .result) (c .if1 .left)))
+returns-3 c = let (others, names, counts, most) = kept (c .before .before) in sym (named-more _ names (omega arith))
 
 pub names-spec : {M : Type 1} → statement M
 names-spec =
     tie.close
-    (tie.spec
-    at-requires
-    enum-known-end
-    enum-told
-    read-requires
-    returns
-    slice-aggregate-read
-    read-requires-2
-    enum-known-first
-    enum-told-2
-    returns-2
-    add-ascends
-    add-ascends-2
-    ascends-requires
-    returns-3
-    add-t10
-    returns-4)
+    (tie.spec slice-aggregate-read read-requires enum-known-count enum-told returns array-read-t10 returns-2 array-read-t13 add-t14 returns-3)
