@@ -7,10 +7,9 @@ ghost use lib.ListN.{length, drop};
 ghost use Rattle.rules.specs.Tries.{Row as RowOf};
 ghost use Rattle.rules.specs.Listing.{read};
 ghost use Rattle.rules.specs.Steps.{analyse as analyseSteps};
-ghost use Rattle.rules.specs.TypeLaws.{typesIn};
 ghost use Rattle.rows.specs.States.{holding, storing};
 ghost use Rattle.schema.specs.Items.{itemsOf, goodItems};
-ghost use Rattle.type_table.specs.Tables.{Tabled};
+ghost use Rattle.type_table.specs.Tables.{GoodTypes};
 ghost use Rattle.result_stack.specs.Stacks.{TrieAt, trieWords, Scratch};
 ghost use Rattle.analysis.specs.Outcomes.{analyseIn, RanBy, AnsweredBy, FullBy};
 use path_tries::TRIE;
@@ -50,7 +49,7 @@ fn run(
     tries: &mut [u64],
     paths: &mut [u64],
 ) -> Ran
-    requires { ⌜ (goodItems (now words) ≡ true) × (Tabled (now words) (now table) types × (types ≡ typesIn (itemsOf (now words)))) ⌝ }
+    requires { ⌜ GoodTypes (now words) (now table) types ⌝ }
     requires { ⌜ (length (now code) < 2 ^ 53) × Scratch (now code) (now paths) ⌝ }
     ensures { λ r. ⌜ RanBy (itemsOf (now (words .entry))) (now (text .entry)) (now (code .exit)) (now (tries .exit)) r ⌝ }
 {
@@ -121,7 +120,7 @@ fn answer_in(
     tries: &mut [u64],
     paths: &mut [u64],
 ) -> Answered
-    requires { ⌜ (goodItems (now words) ≡ true) × (Tabled (now words) (now table) types × (types ≡ typesIn (itemsOf (now words)))) ⌝ }
+    requires { ⌜ GoodTypes (now words) (now table) types ⌝ }
     requires { ⌜ (request < 2 ^ 48) × (1026 ≤ length (now out)) ⌝ }
     requires { ⌜ (length (now code) < 2 ^ 53) × Scratch (now code) (now paths) ⌝ }
     ensures { λ r. ⌜ AnsweredBy (itemsOf (now (words .entry))) request (now (text .entry)) (now (out .entry)) (now (out .exit)) r × FullBy (now (code .entry)) (now (tries .entry)) r ⌝ }
@@ -148,7 +147,7 @@ fn answer_small(
     text: &[u8],
     out: &mut [u64],
 ) -> Answered
-    requires { ⌜ (goodItems (now words) ≡ true) × (Tabled (now words) (now table) types × (types ≡ typesIn (itemsOf (now words)))) ⌝ }
+    requires { ⌜ GoodTypes (now words) (now table) types ⌝ }
     requires { ⌜ (request < 2 ^ 48) × (1026 ≤ length (now out)) ⌝ }
     ensures { λ r. ⌜ AnsweredBy (itemsOf (now (words .entry))) request (now (text .entry)) (now (out .entry)) (now (out .exit)) r ⌝ }
 {
@@ -177,7 +176,7 @@ fn answer_large(
     text: &[u8],
     out: &mut [u64],
 ) -> Reply
-    requires { ⌜ (goodItems (now words) ≡ true) × (Tabled (now words) (now table) types × (types ≡ typesIn (itemsOf (now words)))) ⌝ }
+    requires { ⌜ GoodTypes (now words) (now table) types ⌝ }
     requires { ⌜ (request < 2 ^ 48) × (1026 ≤ length (now out)) ⌝ }
     ensures { λ r. ⌜ (r ≡ storing (now (out .entry)) (analyseSteps (itemsOf (now (words .entry))) request (now (text .entry))) .reply) × (now (out .exit) ≡ storing (now (out .entry)) (analyseSteps (itemsOf (now (words .entry))) request (now (text .entry))) .buffer) ⌝ }
 {

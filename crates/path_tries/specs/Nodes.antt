@@ -8,9 +8,11 @@ use lib.ListN.{length, getD, take}
 use Rattle.rules.specs.Numbers.{mostSteps}
 use Rattle.rules.specs.Tries.{Row, isStep}
 use Rattle.rules.specs.Paths.{Path, Leaf, chain, deeper}
+use Rattle.rules.specs.StepLaws.{AllPaths}
 use Rattle.rows.specs.Words.{wordOf, isWord, depthIn, stepIn}
 use Rattle.rows.specs.States.{rowsOf, rowsIn}
 use Rattle.words.specs.Runs.{wordsIn}
+use Rattle.wrapped_paths.specs.Code.{AllWithin, pathsAt}
 
 -- a word that packs a node without a type, and one that packs a node below another, its depth counted from that
 unfoldable pub nodeWord : ℕ → Bool
@@ -46,6 +48,12 @@ pub record Became (trie : List Row) (state : List ℕ) (fits : Bool) : Type 0 wh
   pub judged : fits ≡ leb (length trie) 1024
   pub still : IsState state
   pub there : fits ≡ true → rowsIn state ≡ trie
+
+-- paths at some places, and a trie that they go into
+pub record PathsToAdd (trie code places : List ℕ) : Type 0 where
+  pub state : IsState trie
+  pub within : AllWithin code places
+  pub all-paths : AllPaths (pathsAt code places)
 
 -- the leaf of a mark and of words below it
 abbrev pub leafOf : Bool → List ℕ → Leaf

@@ -7,14 +7,14 @@ ghost use lib.Dec.{eqb};
 ghost use lib.ListN.{length, getD};
 ghost use Rattle.rules.specs.Tries.{union};
 ghost use Rattle.rules.specs.Paths.{toRootAccessTrieWithLeaf, addAccessPath, addPaths};
-ghost use Rattle.rules.specs.StepLaws.{IsPath, AllPaths};
+ghost use Rattle.rules.specs.StepLaws.{IsPath};
 ghost use Rattle.rules.specs.TypeLaws.{longest as longestOf};
 ghost use Rattle.rows.specs.States.{rowsOf, rowsIn};
 ghost use Rattle.union.specs.Unions.{Roomy};
 ghost use Rattle.words.specs.Runs.{wordsIn, Wrote};
 ghost use Rattle.rows.specs.declared.Kind.the-variants.{Contribution};
 ghost use Rattle.wrapped_paths.specs.Code.{pathAt, pathsAt, AllWithin};
-ghost use Rattle.path_tries.specs.Nodes.{allNodes, allBelow, IsState, Became, leafOf, anyDeep, AllFit, chainWords, deeperWords, RunOf};
+ghost use Rattle.path_tries.specs.Nodes.{allNodes, allBelow, IsState, Became, PathsToAdd, leafOf, anyDeep, AllFit, chainWords, deeperWords, RunOf};
 use rows::Kind;
 use rows::Row;
 use words::Reply;
@@ -182,7 +182,7 @@ pub fn add_wrapped_access_paths(
     marked: bool,
     below: &[u64],
 ) -> bool
-    requires { ⌜ IsState (now trie) × (AllWithin (now code) (now places) × AllPaths (pathsAt (now code) (now places))) ⌝ }
+    requires { ⌜ PathsToAdd (now trie) (now code) (now places) ⌝ }
     requires { ⌜ (length (now below) ≤ 1024) × AllFit (pathsAt (now code) (now places)) (now below) ⌝ }
     ensures { λ r. ⌜ Became (addPaths (rowsIn (now (trie .entry))) (pathsAt (now (code .entry)) (now (places .entry))) (leafOf marked (now (below .entry)))) (now (trie .exit)) r ⌝ }
 {

@@ -55,6 +55,11 @@ pub record Holding (code tries : List ℕ) (stack : Stack) : Type 0 where
   pub tries-room : 1025 ≤ stack .tries
   pub few-words : length code < 2 ^ 53
 
+-- and its scratch is as long as a trie's words
+pub record Working (code tries trie : List ℕ) (stack : Stack) : Type 0 where
+  pub holding : Holding code tries stack
+  pub trie-length : length trie ≡ 1026
+
 -- words that hold a result's paths, as long as those may be beside the run that they come from
 abbrev pub Scratch : List ℕ → List ℕ → Type 0
 Scratch code paths = (n : ℕ) → n ≤ length code → n ≤ 6656 → n ≤ length paths

@@ -19,7 +19,7 @@ answer-small-requires : tie.Need-answer-small-requires
 answer-small-requires c κs =
     let start = c .before .before .before .before .before .before .before .before in
     let filled = c .before .before .before .fill-table in
-    ((start .pre .0 .0, (filled .ensures .1, filled .ensures .0)), start .pre .1)
+    (record { good-items = start .pre .0 .0; tabled = filled .ensures .1; all-types = filled .ensures .0 }, start .pre .1)
 
 enum-known-reply : tie.Need-enum-known-reply
 enum-known-reply c = search needs
@@ -34,7 +34,7 @@ answer-large-requires : tie.Need-answer-large-requires
 answer-large-requires c κs =
     let start = c .before .before .before .before .before .before .before .before .before .before .before .before .before .before .before in
     let filled = c .before .before .before .before .before .before .before .before .before .before .fill-table in
-    ((start .pre .0 .0, (filled .ensures .1, filled .ensures .0)), (start .pre .1 .0, omega (arith, start .pre .1 .1, c .before .before .before .before .before .before .answer-small .kept .1 .1 .1 .1 .1 .0)))
+    (record { good-items = start .pre .0 .0; tabled = filled .ensures .1; all-types = filled .ensures .0 }, (start .pre .1 .0, omega (arith, start .pre .1 .1, c .before .before .before .before .before .before .answer-small .kept .1 .1 .1 .1 .1 .0)))
 
 same-length : tie.Need-same-length
 same-length c = search needs

@@ -106,8 +106,11 @@ apply-requires c κs =
       (
         (at-parse .parse .ensures .1, (at-parse .parse .kept .1 .0 ∙ inv .1 .1 .0, read-good (at-parse .parse .result) (at-parse .parse .last .1 .0) _ (at-parse .parse .ensures .0))),
         (
-          running-holds (inv .0) (omega (arith, c .before .before .before .before .before .before .before .before .before .before .before .before .before .before .before .if1 .left)) (omega (arith, c .before .before .before .before .before .before .before .before .before .before .before .before .before .if2 .left)) (omega (arith, inv .1 .0 .0, start .pre .1 .0)),
-          (λ n in-code few. omega (arith, start .pre .1 .1 n (omega (arith, inv .1 .0 .0)) few, inv .1 .0 .1 .1), inv .1 .1 .1),
+          record {
+            holding = running-holds (inv .0) (omega (arith, c .before .before .before .before .before .before .before .before .before .before .before .before .before .before .before .if1 .left)) (omega (arith, c .before .before .before .before .before .before .before .before .before .before .before .before .before .if2 .left)) (omega (arith, inv .1 .0 .0, start .pre .1 .0));
+            trie-length = inv .1 .1 .1;
+          },
+          λ n in-code few. omega (arith, start .pre .1 .1 n (omega (arith, inv .1 .0 .0)) few, inv .1 .0 .1 .1),
         ),
       ),
     )
@@ -146,7 +149,7 @@ loop-again c =
     let inv = c .before .before .before .before .before .before .before .before .before .before .before .before .before .before .before .before .before .before .before .before .before .before .before .before .before .before .before .before .before .loop .inv in
     let at-parse = c .before .before .before .before .before .before .before .before .before .before .before .before .before .before .before .before .before in
     let kept = c .before .before .before .before .before .before .before .before .before .before .apply .kept in (
-      running-next (inv .0) (c .before .before .before .before .before .before .before .before .before .before .before .before .before .before .before .before .before .before .before .before .before .before .before .at .ensures) (c .before .before .before .before .before .before .before .before .before .before .before .before .before .before .before .before .before .before .before .before .before .end .given .1) (at-parse .parse .ensures .0) (c .before .before .before .before .before .before .before .before .before .before .before .before .before .before .before .before .before .before .before .before .before .before .before .before .before .before .before .before .before .before .before .before .before .before .before .before .before .pre .0 .0)
+      running-next (inv .0) (c .before .before .before .before .before .before .before .before .before .before .before .before .before .before .before .before .before .before .before .before .before .before .before .at .ensures) (c .before .before .before .before .before .before .before .before .before .before .before .before .before .before .before .before .before .before .before .before .before .end .given .1) (at-parse .parse .ensures .0) (c .before .before .before .before .before .before .before .before .before .before .before .before .before .before .before .before .before .before .before .before .before .before .before .before .before .before .before .before .before .before .before .before .before .before .before .before .before .pre .0 .good-items)
           (rw (c .before .stepped .given .1) at (c .before .before .before .before .before .before .before .before .before .before .apply .ensures)),
       (
         (kept .1 .1 .1 .1 .1 .0 ∙ inv .1 .0 .0, (kept .1 .1 .1 .1 .1 .1 .0 ∙ inv .1 .0 .1 .0, kept .1 .1 .1 .1 .1 .1 .1 .0 ∙ inv .1 .0 .1 .1)),

@@ -31,7 +31,7 @@ became :
 became c = rw (c .before .path-at .ensures) at (c .add-access-path .ensures)
 
 loop-holds : tie.Need-loop-holds Inv-loop μ-loop
-loop-holds c = (omega arith, record { still = c .before .before .before .before .pre .0 .0; within = c .before .before .before .before .pre .0 .1 .0; good = c .before .before .before .before .pre .0 .1 .1; fit = c .before .before .before .before .pre .1 .1; left = refl })
+loop-holds c = (omega arith, record { still = c .before .before .before .before .pre .0 .state; within = c .before .before .before .before .pre .0 .within; good = c .before .before .before .before .pre .0 .all-paths; fit = c .before .before .before .before .pre .1 .1; left = refl })
 
 mul-at : tie.Need-mul-at Inv-loop μ-loop
 mul-at c = search needs

@@ -25,8 +25,8 @@ default-requires c κs = search needs
 enum-known-step-2 : tie.Need-enum-known-step-2
 enum-known-step-2 c = search needs
 
-get-or-has-attr-requires : tie.Need-get-or-has-attr-requires
-get-or-has-attr-requires c κs =
+attr-step-requires : tie.Need-attr-step-requires
+attr-step-requires c κs =
     let start = c .before .before .before .before .before .before .before .before .before .before .before .before .before .before in
     (start .pre .1 .1 .0, (rw (c .before .before .before .before .before .step2 .given .1) at (start .pre .1 .0 .1 .1), start .pre .1 .1 .1))
 
@@ -34,7 +34,7 @@ enum-told-2 : tie.Need-enum-told-2
 enum-told-2 c = search needs
 
 union-requires : tie.Need-union-requires
-union-requires c κs = (c .before .before .before .before .before .before .before .before .before .before .before .before .pre .1 .1 .0, c .before .before .before .before .before .before .before .before .before .before .before .before .pre .1 .1 .1 .1)
+union-requires c κs = search needs
 
 enum-told-3 : tie.Need-enum-told-3
 enum-told-3 c = search needs
@@ -45,20 +45,20 @@ empty-paths-requires c κs = search needs
 enum-known-step-3 : tie.Need-enum-known-step-3
 enum-known-step-3 c = search needs
 
-full-type-required-requires : tie.Need-full-type-required-requires
-full-type-required-requires c κs = (c .before .before .before .before .before .before .before .before .before .before .before .before .before .pre .0, (c .before .before .before .before .before .before .before .before .before .before .before .before .before .pre .1 .1 .0, c .before .before .before .before .before .before .before .before .before .before .before .before .before .pre .1 .1 .1 .1))
+full-step-requires : tie.Need-full-step-requires
+full-step-requires c κs = search needs
 
 enum-told-4 : tie.Need-enum-told-4
 enum-told-4 c = search needs
 
 in-step-requires : tie.Need-in-step-requires
-in-step-requires c κs = (c .before .before .before .before .before .before .before .before .before .before .before .before .pre .1 .1 .0, c .before .before .before .before .before .before .before .before .before .before .before .before .pre .1 .1 .1 .1)
+in-step-requires c κs = search needs
 
 enum-told-5 : tie.Need-enum-told-5
 enum-told-5 c = search needs
 
 set-step-requires : tie.Need-set-step-requires
-set-step-requires c κs = (c .before .before .before .before .before .before .before .before .before .before .before .before .pre .1 .1 .0, c .before .before .before .before .before .before .before .before .before .before .before .before .pre .1 .1 .1 .1)
+set-step-requires c κs = search needs
 
 enum-known-step-4 : tie.Need-enum-known-step-4
 enum-known-step-4 c = search needs
@@ -66,7 +66,7 @@ enum-known-step-4 c = search needs
 rec-step-requires : tie.Need-rec-step-requires
 rec-step-requires c κs =
     let start = c .before .before .before .before .before .before .before .before .before .before .before .before .before in
-    ((start .pre .1 .1 .0, (rw (c .before .before .before .before .step4 .given .1) at (start .pre .1 .0 .0), start .pre .1 .0 .1 .0)), start .pre .1 .1 .1 .1)
+    (start .pre .1 .1 .0, (rw (c .before .before .before .before .step4 .given .1) at (start .pre .1 .0 .0), start .pre .1 .0 .1 .0))
 
 enum-told-6 : tie.Need-enum-told-6
 enum-told-6 c = search needs
@@ -117,7 +117,7 @@ returns-3 : tie.Need-returns-3
 unfolding applied
 returns-3 c results held =
     let start = c .before .before .before .before .before .before .before .before .before .before .before .before .before .before .before .before .before .before .before .before .before .before .before in
-    let call = c .before .before .before .before .before .before .before .before .get-or-has-attr in
+    let call = c .before .before .before .before .before .before .before .before .attr-step in
     step-is (itemsOf (start .args .words .now)) (start .args .names .now) results (call .last .1 .0) (call .last .1 .1 .0) (call .result) (start .args .step) (Attr (c .before .before .before .before .before .before .before .before .before .before .before .before .before .before .step2 .given .0 .0))
     (c .before .before .before .before .before .before .before .before .before .before .before .before .before .before .step2 .given .1)
     (call .ensures results held)
@@ -168,7 +168,7 @@ returns-6 : tie.Need-returns-6
 unfolding applied
 returns-6 c results held =
     let start = c .before .before .before .before .before .before .before .before .before .before .before .before .before .before .before .before .before .before .before .before in
-    let call = c .before .before .before .before .before .before .full-type-required in
+    let call = c .before .before .before .before .before .before .full-step in
     step-is (itemsOf (start .args .words .now)) (start .args .names .now) results (call .last .1 .1 .1 .1 .0) (call .last .1 .1 .1 .1 .1 .0) (call .result) (start .args .step) (Full (c .before .before .before .before .before .before .before .before .before .before .before .step3 .given .0 .0))
     (c .before .before .before .before .before .before .before .before .before .before .before .step3 .given .1)
     (call .ensures results held)
@@ -243,13 +243,13 @@ apply-spec =
     enum-told
     default-requires
     enum-known-step-2
-    get-or-has-attr-requires
+    attr-step-requires
     enum-told-2
     union-requires
     enum-told-3
     empty-paths-requires
     enum-known-step-3
-    full-type-required-requires
+    full-step-requires
     enum-told-4
     in-step-requires
     enum-told-5

@@ -9,9 +9,13 @@ use borrow.Author.Tests.{not-true, not-false}
 use lib.ListN.{take, drop}
 use lib.Seq.{length-take-le}
 use Rattle.rules.specs.Steps.{Result, inResult}
+use Rattle.rules.specs.TypeLaws.{longest}
 use Rattle.wrapped_paths.specs.Code.{codes, pathsAt, Found}
+use Rattle.path_tries.specs.Nodes.{anyDeep}
 use Rattle.result_stack.specs.Stacks.{stackPaths, Held}
-use Rattle.steps.specs.StepsLaws.{two-few, held-two, code-end-room, tries-end-room, copied-top, longest-short, run-nodes, run-rows, in-too-deep, in-over, in-rows, in-done}
+use Rattle.wrap_steps.specs.WrapLaws.{two-few, code-end-room, tries-end-room}
+use Rattle.steps.specs.AncestorLaws.{held-two, longest-short, in-judging, in-over, in-rows, in-done}
+use Rattle.steps.specs.StepsLaws.{too-deep, copied-top, run-nodes, run-rows}
 use Rattle.result_stack.specs.StackLaws.{at-within, below-held, top-code, top-good, top-stands, top-standing, top-at, code-end, tries-end}
 use borrow.Author.Needs.{needs}
 use Rattle.steps.proofs.in_step.Statement.{statement}
@@ -39,6 +43,12 @@ found-left :
 found-left c right left rest held =
     (rw (code-end held (c .before .before .before .measure .ensures)) at (c .paths-in2 .ensures)) (left .paths) (codes (stackPaths rest)) (top-code (below-held held))
 
+-- whether they are too deep
+deep-told :
+    (c : tie.After-is-too-deep)
+    → anyDeep (pathsAt (c .before .before .before .before .before .before .before .before .before .before .before .before .before .before .before .before .before .before .before .before .args .code .now) (take (c .before .before .before .before .before .before .paths-in2 .result) (c .before .before .before .before .before .before .paths-in2 .last .1 .1 .0))) (longest (pathsAt (c .before .before .before .before .before .before .before .before .before .before .before .before .before .before .before .before .before .before .before .before .args .code .now) (take (c .before .before .before .before .before .before .before .before .before .before .before .before .paths-in .result) (c .before .before .before .before .before .before .before .before .before .before .before .before .paths-in .last .1 .1 .0)))) ≡ c .is-too-deep .result
+deep-told c = sym (c .is-too-deep .ensures ∙ rw (c .before .longest .ensures))
+
 returns : tie.Need-returns
 returns c results held place =
     two-few results held inResult (c .if1 .taken) place
@@ -50,14 +60,14 @@ paths-in-requires : tie.Need-paths-in-requires
 paths-in-requires c κs =
     let enough = c .before .before in
     let start = enough .before .before .before .before .before in
-    let (right, left, rest, same, held) = two enough (start .pre .0 .results) (start .pre .0 .held) in
+    let (right, left, rest, same, held) = two enough (start .pre .holding .results) (start .pre .holding .held) in
     (top-stands held, refl)
 
 measure-requires : tie.Need-measure-requires
 measure-requires c κs =
     let enough = c .before .before .before .before .before in
     let start = enough .before .before .before .before .before in
-    let (right, left, rest, same, held) = two enough (start .pre .0 .results) (start .pre .0 .held) in
+    let (right, left, rest, same, held) = two enough (start .pre .holding .results) (start .pre .holding .held) in
     top-standing held
 
 slice-aggregate-paths-in-2 : tie.Need-slice-aggregate-paths-in-2
@@ -68,7 +78,7 @@ paths-in-requires-2 c κs =
     let at-measure = c .before .before in
     let enough = at-measure .before .before .before .before .before .before in
     let start = enough .before .before .before .before .before in
-    let (right, left, rest, same, held) = two enough (start .pre .0 .results) (start .pre .0 .held) in
+    let (right, left, rest, same, held) = two enough (start .pre .holding .results) (start .pre .holding .held) in
     (rw (code-end held (at-measure .measure .ensures)) (top-stands (below-held held)), refl)
 
 array-share-prefix-left : tie.Need-array-share-prefix-left
@@ -76,7 +86,7 @@ array-share-prefix-left c =
     let at-left = c .before .before in
     let enough = at-left .before .before .before .before .before .before .before .before .before in
     let start = enough .before .before .before .before .before in
-    let (right, left, rest, same, held) = two enough (start .pre .0 .results) (start .pre .0 .held) in
+    let (right, left, rest, same, held) = two enough (start .pre .holding .results) (start .pre .holding .held) in
     (found-left at-left right left rest held) .in-places
 
 slice-aggregate-is-too-deep : tie.Need-slice-aggregate-is-too-deep
@@ -84,7 +94,7 @@ slice-aggregate-is-too-deep c =
     let at-left = c .before .before .before in
     let enough = at-left .before .before .before .before .before .before .before .before .before in
     let start = enough .before .before .before .before .before in
-    let (right, left, rest, same, held) = two enough (start .pre .0 .results) (start .pre .0 .held) in
+    let (right, left, rest, same, held) = two enough (start .pre .holding .results) (start .pre .holding .held) in
     sym (length-take-le (at-left .paths-in2 .result) (at-left .paths-in2 .last .1 .1 .0) ((found-left at-left right left rest held) .in-places))
 
 array-share-prefix-right : tie.Need-array-share-prefix-right
@@ -92,7 +102,7 @@ array-share-prefix-right c =
     let at-right = c .before .before .before .before .before .before .before .before .before in
     let enough = at-right .before .before .before in
     let start = enough .before .before .before .before .before in
-    let (right, left, rest, same, held) = two enough (start .pre .0 .results) (start .pre .0 .held) in
+    let (right, left, rest, same, held) = two enough (start .pre .holding .results) (start .pre .holding .held) in
     (found-right at-right right (left ∷ rest) held) .in-places
 
 slice-aggregate-longest : tie.Need-slice-aggregate-longest
@@ -100,7 +110,7 @@ slice-aggregate-longest c =
     let at-right = c .before .before .before .before .before .before .before .before .before .before in
     let enough = at-right .before .before .before in
     let start = enough .before .before .before .before .before in
-    let (right, left, rest, same, held) = two enough (start .pre .0 .results) (start .pre .0 .held) in
+    let (right, left, rest, same, held) = two enough (start .pre .holding .results) (start .pre .holding .held) in
     sym (length-take-le (at-right .paths-in .result) (at-right .paths-in .last .1 .1 .0) ((found-right at-right right (left ∷ rest) held) .in-places))
 
 longest-requires : tie.Need-longest-requires
@@ -108,7 +118,7 @@ longest-requires c κs =
     let at-right = c .before .before .before .before .before .before .before .before .before .before in
     let enough = at-right .before .before .before in
     let start = enough .before .before .before .before .before in
-    let (right, left, rest, same, held) = two enough (start .pre .0 .results) (start .pre .0 .held) in
+    let (right, left, rest, same, held) = two enough (start .pre .holding .results) (start .pre .holding .held) in
     (found-right at-right right (left ∷ rest) held) .within
 
 is-too-deep-requires : tie.Need-is-too-deep-requires
@@ -117,7 +127,7 @@ is-too-deep-requires c κs =
     let at-right = at-left .before .before .before .before .before .before in
     let enough = at-right .before .before .before in
     let start = enough .before .before .before .before .before in
-    let (right, left, rest, same, held) = two enough (start .pre .0 .results) (start .pre .0 .held) in
+    let (right, left, rest, same, held) = two enough (start .pre .holding .results) (start .pre .holding .held) in
     ((found-left at-left right left rest held) .within, rw (c .longest .ensures) (longest-short (pathsAt (start .args .code .now) (take (at-right .paths-in .result) (at-right .paths-in .last .1 .1 .0))) (rw ((found-right at-right right (left ∷ rest) held) .there) (top-good held .good-paths))))
 
 same-length : tie.Need-same-length
@@ -126,20 +136,19 @@ same-length c = search needs
 returns-2 : tie.Need-returns-2
 returns-2 c results held place =
     let at-deep = c .before in
-    let at-longest = at-deep .before in
-    let at-left = at-longest .before .before .before .before .before in
+    let at-left = at-deep .before .before .before .before .before .before in
     let at-right = at-left .before .before .before .before .before .before in
     let enough = at-right .before .before .before in
     let (right, left, rest, same, h) = two enough results held in
     rw same
-    (in-too-deep h
-    ((found-left at-left right left rest h) .there) ((found-right at-right right (left ∷ rest) h) .there) ((sym (at-deep .is-too-deep .ensures ∙ rw (at-longest .longest .ensures))) ∙ c .if2 .taken) place)
+    (too-deep (in-judging h ((found-left at-left right left rest h) .there) ((found-right at-right right (left ∷ rest) h) .there))
+    (deep-told at-deep ∙ c .if2 .taken) place)
 
 trie-end-requires : tie.Need-trie-end-requires
 trie-end-requires c κs =
     let enough = c .before .before .before .before .before .before .before .before .before .before .before .before .before .before .before .before .before in
     let start = enough .before .before .before .before .before in
-    let (right, left, rest, same, held) = two enough (start .pre .0 .results) (start .pre .0 .held) in
+    let (right, left, rest, same, held) = two enough (start .pre .holding .results) (start .pre .holding .held) in
     top-at held
 
 copy-trie-requires : tie.Need-copy-trie-requires
@@ -147,15 +156,15 @@ copy-trie-requires c κs =
     let at-end = c .before .before in
     let enough = at-end .before .before .before .before .before .before .before .before .before .before .before .before .before .before .before .before .before .before in
     let start = enough .before .before .before .before .before in
-    let (right, left, rest, same, held) = two enough (start .pre .0 .results) (start .pre .0 .held) in
-    (rw (tries-end held (at-end .trie-end .ensures .0)) (top-at (below-held held)), start .pre .1)
+    let (right, left, rest, same, held) = two enough (start .pre .holding .results) (start .pre .holding .held) in
+    (rw (tries-end held (at-end .trie-end .ensures .0)) (top-at (below-held held)), start .pre .trie-length)
 
 array-share-prefix-left-2 : tie.Need-array-share-prefix-left-2
 array-share-prefix-left-2 c =
     let at-left = c .before .before .before .before .before .before .before .before .before .before .before .before .before .before .before .before in
     let enough = at-left .before .before .before .before .before .before .before .before .before in
     let start = enough .before .before .before .before .before in
-    let (right, left, rest, same, held) = two enough (start .pre .0 .results) (start .pre .0 .held) in
+    let (right, left, rest, same, held) = two enough (start .pre .holding .results) (start .pre .holding .held) in
     (found-left at-left right left rest held) .in-places
 
 slice-aggregate-with-ancestors-required : tie.Need-slice-aggregate-with-ancestors-required
@@ -163,7 +172,7 @@ slice-aggregate-with-ancestors-required c =
     let at-left = c .before .before .before .before .before .before .before .before .before .before .before .before .before .before .before .before .before in
     let enough = at-left .before .before .before .before .before .before .before .before .before in
     let start = enough .before .before .before .before .before in
-    let (right, left, rest, same, held) = two enough (start .pre .0 .results) (start .pre .0 .held) in
+    let (right, left, rest, same, held) = two enough (start .pre .holding .results) (start .pre .holding .held) in
     sym (length-take-le (at-left .paths-in2 .result) (at-left .paths-in2 .last .1 .1 .0) ((found-left at-left right left rest held) .in-places))
 
 array-share-prefix-right-2 : tie.Need-array-share-prefix-right-2
@@ -171,7 +180,7 @@ array-share-prefix-right-2 c =
     let at-right = c .before .before .before .before .before .before .before .before .before .before .before .before .before .before .before .before .before .before .before .before .before .before .before in
     let enough = at-right .before .before .before in
     let start = enough .before .before .before .before .before in
-    let (right, left, rest, same, held) = two enough (start .pre .0 .results) (start .pre .0 .held) in
+    let (right, left, rest, same, held) = two enough (start .pre .holding .results) (start .pre .holding .held) in
     (found-right at-right right (left ∷ rest) held) .in-places
 
 slice-aggregate-with-ancestors-required-2 : tie.Need-slice-aggregate-with-ancestors-required-2
@@ -179,7 +188,7 @@ slice-aggregate-with-ancestors-required-2 c =
     let at-right = c .before .before .before .before .before .before .before .before .before .before .before .before .before .before .before .before .before .before .before .before .before .before .before .before in
     let enough = at-right .before .before .before in
     let start = enough .before .before .before .before .before in
-    let (right, left, rest, same, held) = two enough (start .pre .0 .results) (start .pre .0 .held) in
+    let (right, left, rest, same, held) = two enough (start .pre .holding .results) (start .pre .holding .held) in
     sym (length-take-le (at-right .paths-in .result) (at-right .paths-in .last .1 .1 .0) ((found-right at-right right (left ∷ rest) held) .in-places))
 
 with-ancestors-required-requires : tie.Need-with-ancestors-required-requires
@@ -187,14 +196,17 @@ with-ancestors-required-requires c κs =
     let at-copy = c .before .before .before .before .before .before in
     let deep-test = at-copy .before .before .before .before .before in
     let at-deep = deep-test .before in
-    let at-longest = at-deep .before in
-    let at-left = at-longest .before .before .before .before .before in
+    let at-left = at-deep .before .before .before .before .before .before in
     let at-right = at-left .before .before .before .before .before .before in
     let enough = at-right .before .before .before in
     let start = enough .before .before .before .before .before in
-    let (right, left, rest, same, held) = two enough (start .pre .0 .results) (start .pre .0 .held) in (
-      (at-copy .copy-trie .ensures .0, ((found-left at-left right left rest held) .within, (rw ((found-left at-left right left rest held) .there) (top-good (below-held held) .good-paths)))),
-      (((found-right at-right right (left ∷ rest) held) .within, (rw ((found-right at-right right (left ∷ rest) held) .there) (top-good held .good-paths))), ((sym (at-deep .is-too-deep .ensures ∙ rw (at-longest .longest .ensures))) ∙ deep-test .if2 .left)),
+    let (right, left, rest, same, held) = two enough (start .pre .holding .results) (start .pre .holding .held) in (
+      record {
+        state = at-copy .copy-trie .ensures .0;
+        within = (found-left at-left right left rest held) .within;
+        all-paths = rw ((found-left at-left right left rest held) .there) (top-good (below-held held) .good-paths);
+      },
+      (((found-right at-right right (left ∷ rest) held) .within, (rw ((found-right at-right right (left ∷ rest) held) .there) (top-good held .good-paths))), (deep-told at-deep ∙ deep-test .if2 .left)),
     )
 
 same-length-2 : tie.Need-same-length-2
@@ -213,8 +225,7 @@ returns-3 c results held place =
     let at-end = at-copy .before .before .before in
     let deep-test = at-end .before .before in
     let at-deep = deep-test .before in
-    let at-longest = at-deep .before in
-    let at-left = at-longest .before .before .before .before .before in
+    let at-left = at-deep .before .before .before .before .before .before in
     let at-right = at-left .before .before .before .before .before .before in
     let enough = at-right .before .before .before in
     let (right, left, rest, same, h) = two enough results held in
@@ -222,7 +233,7 @@ returns-3 c results held place =
     (in-over h
     ((found-left at-left right left rest h) .there)
     ((found-right at-right right (left ∷ rest) h) .there)
-    ((sym (at-deep .is-too-deep .ensures ∙ rw (at-longest .longest .ensures))) ∙ deep-test .if2 .left)
+    (deep-told at-deep ∙ deep-test .if2 .left)
     (at-copy .copy-trie .last .1 .1 .0)
     (copied-top (below-held h) (rw (tries-end h (at-end .trie-end .ensures .0)) at (at-copy .copy-trie .ensures)))
     (at-ancestors .with-ancestors-required .ensures)
@@ -235,7 +246,7 @@ mul-union-into : tie.Need-mul-union-into
 mul-union-into c =
     let enough = c .before .before .before .before .before .before .before .before .before .before .before .before .before .before .before .before .before .before .before .before .before .before .before .before .before .before .before .before .before .before .before .before in
     let start = enough .before .before .before .before .before in
-    let (right, left, rest, same, held) = two enough (start .pre .0 .results) (start .pre .0 .held) in
+    let (right, left, rest, same, held) = two enough (start .pre .holding .results) (start .pre .holding .held) in
     omega (arith, at-within (top-at held))
 
 sub-union-into : tie.Need-sub-union-into
@@ -253,7 +264,7 @@ union-into-requires c κs =
     let at-end = at-ancestors .before .before .before .before .before .before .before .before .before .before in
     let enough = at-end .before .before .before .before .before .before .before .before .before .before .before .before .before .before .before .before .before .before in
     let start = enough .before .before .before .before .before in
-    let (right, left, rest, same, held) = two enough (start .pre .0 .results) (start .pre .0 .held) in
+    let (right, left, rest, same, held) = two enough (start .pre .holding .results) (start .pre .holding .held) in
     (at-ancestors .with-ancestors-required .ensures .still, run-nodes held (at-end .trie-end .ensures .0))
 
 same-length-5 : tie.Need-same-length-5
@@ -274,8 +285,7 @@ returns-4 c results held place =
     let at-end = at-copy .before .before .before in
     let deep-test = at-end .before .before in
     let at-deep = deep-test .before in
-    let at-longest = at-deep .before in
-    let at-left = at-longest .before .before .before .before .before in
+    let at-left = at-deep .before .before .before .before .before .before in
     let at-right = at-left .before .before .before .before .before .before in
     let enough = at-right .before .before .before in
     let start = enough .before .before .before .before .before in
@@ -284,7 +294,7 @@ returns-4 c results held place =
     (in-rows h
     ((found-left at-left right left rest h) .there)
     ((found-right at-right right (left ∷ rest) h) .there)
-    ((sym (at-deep .is-too-deep .ensures ∙ rw (at-longest .longest .ensures))) ∙ deep-test .if2 .left)
+    (deep-told at-deep ∙ deep-test .if2 .left)
     (at-copy .copy-trie .last .1 .1 .0)
     (copied-top (below-held h) (rw (tries-end h (at-end .trie-end .ensures .0)) at (at-copy .copy-trie .ensures)))
     (at-ancestors .with-ancestors-required .ensures)
@@ -299,7 +309,7 @@ measure-requires-2 c κs =
     let at-measure = c .before .before .before .before .before .before .before .before .before .before .before .before .before .before .before .before .before .before .before .before .before .before .before .before .before .before .before .before .before .before .before .before .before in
     let enough = at-measure .before .before .before .before .before .before in
     let start = enough .before .before .before .before .before in
-    let (right, left, rest, same, held) = two enough (start .pre .0 .results) (start .pre .0 .held) in
+    let (right, left, rest, same, held) = two enough (start .pre .holding .results) (start .pre .holding .held) in
     rw (code-end held (at-measure .measure .ensures)) (top-standing (below-held held))
 
 trie-end-requires-2 : tie.Need-trie-end-requires-2
@@ -307,7 +317,7 @@ trie-end-requires-2 c κs =
     let at-end = c .before .before .before .before .before .before .before .before .before .before .before .before .before .before .before .before .before .before .before .before .before .before .before in
     let enough = at-end .before .before .before .before .before .before .before .before .before .before .before .before .before .before .before .before .before .before in
     let start = enough .before .before .before .before .before in
-    let (right, left, rest, same, held) = two enough (start .pre .0 .results) (start .pre .0 .held) in
+    let (right, left, rest, same, held) = two enough (start .pre .holding .results) (start .pre .holding .held) in
     rw (tries-end held (at-end .trie-end .ensures .0)) (top-at (below-held held))
 
 sub-replace : tie.Need-sub-replace
@@ -324,10 +334,10 @@ replace-requires c κs =
     let at-measure = at-end .before .before .before .before .before .before .before .before .before .before .before .before in
     let enough = at-measure .before .before .before .before .before .before in
     let start = enough .before .before .before .before .before in
-    let (right, left, rest, same, held) = two enough (start .pre .0 .results) (start .pre .0 .held) in
+    let (right, left, rest, same, held) = two enough (start .pre .holding .results) (start .pre .holding .held) in
     let still = at-union .union-into .ensures .still in
-    let code-room = code-end-room (below-held held) (omega (arith, start .pre .0 .code-room)) (code-end (below-held held) (rw (code-end held (at-measure .measure .ensures)) at (at-measure2 .measure2 .ensures))) in
-    let tries-room = tries-end-room (below-held held) (omega (arith, start .pre .0 .tries-room)) (tries-end (below-held held) (rw (tries-end held (at-end .trie-end .ensures .0)) at (at-end2 .trie-end2 .ensures .0))) in (
+    let code-room = code-end-room (below-held held) (omega (arith, start .pre .holding .code-room)) (code-end (below-held held) (rw (code-end held (at-measure .measure .ensures)) at (at-measure2 .measure2 .ensures))) in
+    let tries-room = tries-end-room (below-held held) (omega (arith, start .pre .holding .tries-room)) (tries-end (below-held held) (rw (tries-end held (at-end .trie-end .ensures .0)) at (at-end2 .trie-end2 .ensures .0))) in (
       (still, code-room),
       (omega (arith, still .few-rows, tries-room .0), tries-room .1),
     )
@@ -354,8 +364,7 @@ returns-5 c results held =
     let at-end = at-copy .before .before .before in
     let deep-test = at-end .before .before in
     let at-deep = deep-test .before in
-    let at-longest = at-deep .before in
-    let at-left = at-longest .before .before .before .before .before in
+    let at-left = at-deep .before .before .before .before .before .before in
     let at-measure = at-left .before .before .before in
     let at-right = at-measure .before .before .before in
     let enough = at-right .before .before .before in
@@ -366,7 +375,7 @@ returns-5 c results held =
     (in-done h
     ((found-left at-left right left rest h) .there)
     ((found-right at-right right (left ∷ rest) h) .there)
-    ((sym (at-deep .is-too-deep .ensures ∙ rw (at-longest .longest .ensures))) ∙ deep-test .if2 .left)
+    (deep-told at-deep ∙ deep-test .if2 .left)
     (at-copy .copy-trie .last .1 .1 .0)
     (copied-top (below-held h) (rw (tries-end h (at-end .trie-end .ensures .0)) at (at-copy .copy-trie .ensures)))
     (at-ancestors .with-ancestors-required .ensures)

@@ -1,11 +1,11 @@
--- `steps::EntityManifestAnalysisResult::empty_paths` meets its contract: empty paths take the place of the top's paths.
+-- `wrap_steps::EntityManifestAnalysisResult::empty_paths` meets its contract: empty paths take the place of the top's paths.
 -- Assumes nothing.
 use native.Mathlib.Omega.{arith}
-use Rattle.steps.specs.StepsLaws.{held-top, code-end-room, drop-few, drop-done}
+use Rattle.wrap_steps.specs.WrapLaws.{held-top, code-end-room, drop-few, drop-done}
 use Rattle.result_stack.specs.StackLaws.{top-standing, code-end}
 use borrow.Author.Needs.{needs}
-use Rattle.steps.proofs.EntityManifestAnalysisResult.empty_paths.Statement.{statement}
-use Rattle.steps.proofs.EntityManifestAnalysisResult.empty_paths.Tie as tie
+use Rattle.wrap_steps.proofs.EntityManifestAnalysisResult.empty_paths.Statement.{statement}
+use Rattle.wrap_steps.proofs.EntityManifestAnalysisResult.empty_paths.Tie as tie
 
 returns : tie.Need-returns
 returns c results held place = drop-few results held (c .if1 .taken) place

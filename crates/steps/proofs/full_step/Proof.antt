@@ -1,4 +1,4 @@
--- `steps::EntityManifestAnalysisResult::full_type_required` meets its contract: every path of the top takes the trie of its type, and all go into the top's trie.
+-- `steps::full_step` meets its contract: every path of the top takes the trie of its type, and all go into the top's trie.
 -- Assumes nothing.
 use Prim.Native.Nat.{_<_}
 use mathlib.Core.Path.{_≡_, refl, sym, _∙_}
@@ -13,18 +13,20 @@ use Rattle.wrapped_paths.specs.Code.{codes}
 use Rattle.type_table.specs.Tables.{GoodTypes}
 use Rattle.full_types.specs.Required.{TypesTook}
 use Rattle.result_stack.specs.Stacks.{stackPaths, Held}
-use Rattle.steps.specs.StepsLaws.{held-top, code-end-room, tries-end-room, copied-top, full-missing, full-few, full-mismatch, full-places, full-paths, full-too-deep, full-rows, full-done}
+use Rattle.wrap_steps.specs.WrapLaws.{held-top, code-end-room, tries-end-room}
+use Rattle.steps.specs.FullStepLaws.{full-missing, full-few, full-mismatch, full-places, full-paths, full-judging, full-rows, full-done}
+use Rattle.steps.specs.StepsLaws.{too-deep, copied-top}
 use Rattle.result_stack.specs.StackLaws.{top-code, top-at, tries-end, top-stands}
 use borrow.Author.Needs.{needs}
-use Rattle.steps.proofs.EntityManifestAnalysisResult.full_type_required.Statement.{statement}
-use Rattle.steps.proofs.EntityManifestAnalysisResult.full_type_required.Tie as tie
+use Rattle.steps.proofs.full_step.Statement.{statement}
+use Rattle.steps.proofs.full_step.Tie as tie
 
 -- the type is one of the schema, and the table says its sizes
 known : (c : tie.Else1) → c .before .before .before .before .before .before .args .t < typesIn (itemsOf (c .before .before .before .before .before .before .args .words .now))
-known c = omega (arith, c .before .before .before .before .before .before .pre .0 .1 .1, c .if1 .left)
+known c = omega (arith, c .before .before .before .before .before .before .pre .0 .all-types, c .if1 .left)
 
 types : (c : tie.Start) → GoodTypes (c .args .words .now) (c .args .table .now) (typesIn (itemsOf (c .args .words .now)))
-types c = record { good-items = c .pre .0 .0; tabled = rw (c .pre .0 .1 .1) at (c .pre .0 .1 .0); all-types = refl }
+types c = rw (c .pre .0 .all-types) at (c .pre .0)
 
 -- the result on top
 topped :
@@ -51,13 +53,13 @@ took c top rest held = (rw (c .code-end .given .1) at (c .before .before .before
 returns : tie.Need-returns
 returns c results held place =
     let start = c .before .before .before .before .before .before in
-    full-missing (start .args .words .now) (start .pre .0 .0) (start .args .t) results (omega (arith, start .pre .0 .1 .1, c .if1 .taken)) place
+    full-missing (start .args .words .now) (start .pre .0 .good-items) (start .args .t) results (omega (arith, start .pre .0 .all-types, c .if1 .taken)) place
 
 returns-2 : tie.Need-returns-2
 returns-2 c results held place =
     let type-test = c .before .before in
     let start = type-test .before .before .before .before .before .before in
-    full-few (start .args .words .now) (start .pre .0 .0) (start .args .t) (known type-test) results held (c .if2 .taken) place
+    full-few (start .args .words .now) (start .pre .0 .good-items) (start .args .t) (known type-test) results held (c .if2 .taken) place
 
 slice-aggregate-full-type-required : tie.Need-slice-aggregate-full-type-required
 slice-aggregate-full-type-required c = search needs
@@ -67,9 +69,9 @@ full-type-required-requires c κs =
     let some-there = c .before .before in
     let type-test = some-there .before .before in
     let start = type-test .before .before .before .before .before .before in
-    let (top, rest, same, held) = topped some-there (start .pre .1 .0 .results) (start .pre .1 .0 .held) in (
+    let (top, rest, same, held) = topped some-there (start .pre .1 .holding .results) (start .pre .1 .holding .held) in (
       record { types = types start; known = known type-test },
-      record { result = top-stands held; short = start .pre .1 .0 .few-words; places = refl },
+      record { result = top-stands held; short = start .pre .1 .holding .few-words; places = refl },
     )
 
 enum-known-code-end : tie.Need-enum-known-code-end
@@ -89,14 +91,14 @@ returns-3 c results held place =
     let start = type-test .before .before .before .before .before .before in
     let (top, rest, same, h) = topped some-there results held in
     let none-there = (rw (c .enum-told .given .1) at (at-required .full-type-required .ensures)) (top .paths) (codes (stackPaths rest)) (top-code h) in
-    rw same (full-mismatch (start .args .words .now) (start .pre .0 .0) (start .args .t) (known type-test) h none-there place)
+    rw same (full-mismatch (start .args .words .now) (start .pre .0 .good-items) (start .args .t) (known type-test) h none-there place)
 
 array-share-prefix-pairs : tie.Need-array-share-prefix-pairs
 array-share-prefix-pairs c =
     let at-pairs = c .before .before in
     let some-there = at-pairs .before .before .before .before .before .before in
     let start = some-there .before .before .before .before .before .before .before .before in
-    let (top, rest, same, held) = topped some-there (start .pre .1 .0 .results) (start .pre .1 .0 .held) in
+    let (top, rest, same, held) = topped some-there (start .pre .1 .holding .results) (start .pre .1 .holding .held) in
     (took at-pairs top rest held) .in-pairs
 
 slice-aggregate-is-any-too-deep : tie.Need-slice-aggregate-is-any-too-deep
@@ -105,7 +107,7 @@ slice-aggregate-is-any-too-deep c =
     let at-required = at-pairs .before .before .before in
     let some-there = at-required .before .before .before in
     let start = some-there .before .before .before .before .before .before .before .before in
-    let (top, rest, same, held) = topped some-there (start .pre .1 .0 .results) (start .pre .1 .0 .held) in
+    let (top, rest, same, held) = topped some-there (start .pre .1 .holding .results) (start .pre .1 .holding .held) in
     sym (length-take-le (at-pairs .code-end .given .0 .1 .0) (at-required .full-type-required .last .1 .1 .1 .1 .1 .0) ((took at-pairs top rest held) .in-pairs))
 
 is-any-too-deep-requires : tie.Need-is-any-too-deep-requires
@@ -114,8 +116,8 @@ is-any-too-deep-requires c κs =
     let some-there = at-pairs .before .before .before .before .before .before in
     let type-test = some-there .before .before in
     let start = type-test .before .before .before .before .before .before in
-    let (top, rest, same, held) = topped some-there (start .pre .1 .0 .results) (start .pre .1 .0 .held) in
-    (full-places (start .args .words .now) (start .pre .0 .0) (start .args .t) (known type-test) held (took at-pairs top rest held), start .pre .0 .1 .0 .0)
+    let (top, rest, same, held) = topped some-there (start .pre .1 .holding .results) (start .pre .1 .holding .held) in
+    (full-places (start .args .words .now) (start .pre .0 .good-items) (start .args .t) (known type-test) held (took at-pairs top rest held), start .pre .0 .tabled .0)
 
 same-length-2 : tie.Need-same-length-2
 same-length-2 c = search needs
@@ -129,22 +131,22 @@ returns-4 c results held place =
     let start = type-test .before .before .before .before .before .before in
     let (top, rest, same, h) = topped some-there results held in
     rw same
-    (full-too-deep (start .args .words .now) (start .pre .0 .0) (start .args .t) (known type-test) h (took at-pairs top rest h)
+    (too-deep (full-judging (start .args .words .now) (start .pre .0 .good-items) (start .args .t) (known type-test) h (took at-pairs top rest h))
     ((sym (at-deep .is-any-too-deep .ensures (start .args .words .now) (typesIn (itemsOf (start .args .words .now))) (types start .tabled) (took at-pairs top rest h .all-pairs))) ∙ c .if3 .taken) place)
 
 copy-trie-requires : tie.Need-copy-trie-requires
 copy-trie-requires c κs =
     let some-there = c .before .before .before .before .before .before .before .before .before .before .before .before .before in
     let start = some-there .before .before .before .before .before .before .before .before in
-    let (top, rest, same, held) = topped some-there (start .pre .1 .0 .results) (start .pre .1 .0 .held) in
-    (top-at held, start .pre .1 .1)
+    let (top, rest, same, held) = topped some-there (start .pre .1 .holding .results) (start .pre .1 .holding .held) in
+    (top-at held, start .pre .1 .trie-length)
 
 array-share-prefix-pairs-2 : tie.Need-array-share-prefix-pairs-2
 array-share-prefix-pairs-2 c =
     let at-pairs = c .before .before .before .before .before .before .before .before .before .before .before .before in
     let some-there = at-pairs .before .before .before .before .before .before in
     let start = some-there .before .before .before .before .before .before .before .before in
-    let (top, rest, same, held) = topped some-there (start .pre .1 .0 .results) (start .pre .1 .0 .held) in
+    let (top, rest, same, held) = topped some-there (start .pre .1 .holding .results) (start .pre .1 .holding .held) in
     (took at-pairs top rest held) .in-pairs
 
 slice-aggregate-add-taken : tie.Need-slice-aggregate-add-taken
@@ -153,7 +155,7 @@ slice-aggregate-add-taken c =
     let at-required = at-pairs .before .before .before in
     let some-there = at-required .before .before .before in
     let start = some-there .before .before .before .before .before .before .before .before in
-    let (top, rest, same, held) = topped some-there (start .pre .1 .0 .results) (start .pre .1 .0 .held) in
+    let (top, rest, same, held) = topped some-there (start .pre .1 .holding .results) (start .pre .1 .holding .held) in
     sym (length-take-le (at-pairs .code-end .given .0 .1 .0) (at-required .full-type-required .last .1 .1 .1 .1 .1 .0) ((took at-pairs top rest held) .in-pairs))
 
 add-taken-requires : tie.Need-add-taken-requires
@@ -165,13 +167,13 @@ add-taken-requires c κs =
     let some-there = at-pairs .before .before .before .before .before .before in
     let type-test = some-there .before .before in
     let start = type-test .before .before .before .before .before .before in
-    let (top, rest, same, held) = topped some-there (start .pre .1 .0 .results) (start .pre .1 .0 .held) in
+    let (top, rest, same, held) = topped some-there (start .pre .1 .holding .results) (start .pre .1 .holding .held) in
     let taken = took at-pairs top rest held in
     record {
       types = types start;
       state = at-copy .copy-trie .ensures .0;
       all-pairs = taken .all-pairs;
-      all-paths = full-paths (start .args .words .now) (start .pre .0 .0) (start .args .t) (known type-test) held taken;
+      all-paths = full-paths (start .args .words .now) (start .pre .0 .good-items) (start .args .t) (known type-test) held taken;
       none-deep =
           sym (at-deep .is-any-too-deep .ensures (start .args .words .now) (typesIn (itemsOf (start .args .words .now))) (types start .tabled) (taken .all-pairs))
           ∙ deep-test .if3 .left;
@@ -198,7 +200,7 @@ returns-5 c results held place =
     let start = type-test .before .before .before .before .before .before in
     let (top, rest, same, h) = topped some-there results held in
     rw same
-    (full-rows (start .args .words .now) (start .pre .0 .0) (start .args .t) (known type-test)
+    (full-rows (start .args .words .now) (start .pre .0 .good-items) (start .args .t) (known type-test)
     h
     (took at-pairs top rest h)
     ((sym (at-deep .is-any-too-deep .ensures (start .args .words .now) (typesIn (itemsOf (start .args .words .now))) (types start .tabled) (took at-pairs top rest h .all-pairs))) ∙ deep-test .if3 .left)
@@ -211,7 +213,7 @@ trie-end-requires : tie.Need-trie-end-requires
 trie-end-requires c κs =
     let some-there = c .before .before .before .before .before .before .before .before .before .before .before .before .before .before .before .before .before .before .before .before .before .before .before .before in
     let start = some-there .before .before .before .before .before .before .before .before in
-    let (top, rest, same, held) = topped some-there (start .pre .1 .0 .results) (start .pre .1 .0 .held) in
+    let (top, rest, same, held) = topped some-there (start .pre .1 .holding .results) (start .pre .1 .holding .held) in
     top-at held
 
 replace-requires : tie.Need-replace-requires
@@ -221,10 +223,10 @@ replace-requires c κs =
     let at-pairs = at-add .before .before .before .before .before .before .before .before .before .before .before .before .before .before in
     let some-there = at-pairs .before .before .before .before .before .before in
     let start = some-there .before .before .before .before .before .before .before .before in
-    let (top, rest, same, held) = topped some-there (start .pre .1 .0 .results) (start .pre .1 .0 .held) in
+    let (top, rest, same, held) = topped some-there (start .pre .1 .holding .results) (start .pre .1 .holding .held) in
     let still = at-add .add-taken .ensures .still in
-    let code-room = code-end-room held (start .pre .1 .0 .code-room) ((took at-pairs top rest held) .ends) in
-    let tries-room = tries-end-room held (start .pre .1 .0 .tries-room) (tries-end held (at-end .trie-end .ensures .0)) in (
+    let code-room = code-end-room held (start .pre .1 .holding .code-room) ((took at-pairs top rest held) .ends) in
+    let tries-room = tries-end-room held (start .pre .1 .holding .tries-room) (tries-end held (at-end .trie-end .ensures .0)) in (
       (still, code-room),
       (omega (arith, still .few-rows, tries-room .0), tries-room .1),
     )
@@ -254,7 +256,7 @@ returns-6 c results held =
     let (top, rest, same, h) = topped some-there results held in
     let replace = at-replace .replace in
     rw same
-    (full-done (start .args .words .now) (start .pre .0 .0) (start .args .t) (known type-test)
+    (full-done (start .args .words .now) (start .pre .0 .good-items) (start .args .t) (known type-test)
     h
     (took at-pairs top rest h)
     ((sym (at-deep .is-any-too-deep .ensures (start .args .words .now) (typesIn (itemsOf (start .args .words .now))) (types start .tabled) (took at-pairs top rest h .all-pairs))) ∙ deep-test .if3 .left)
@@ -268,8 +270,8 @@ returns-6 c results held =
     (at-end .trie-end .ensures .0)
     (replace .ensures))
 
-pub full-type-required-spec : {M : Type 1} → statement M
-full-type-required-spec =
+pub full-step-spec : {M : Type 1} → statement M
+full-step-spec =
     tie.close
     (tie.spec
     returns

@@ -1,4 +1,4 @@
--- `steps::EntityManifestAnalysisResult::with_ancestors_required` meets its contract: the right paths, marked, are what stands below each left one.
+-- `steps::with_ancestors_required` meets its contract: the right paths, marked, are what stands below each left one.
 -- Assumes nothing.
 use Prim.Native.Nat.{_+_, _-_}
 use native.Mathlib.Nat.{add-sub-cancel}
@@ -7,26 +7,28 @@ use borrow.Author.Tests.{not-true, not-false}
 use lib.ListN.{drop, getD, length-take}
 use Rattle.wrapped_paths.specs.Code.{pathsAt}
 use Rattle.result_stack.specs.StackLaws.{zero-state}
-use Rattle.steps.specs.StepsLaws.{paths-many, paths-none, ancestors-none, ancestors-over, ancestors-fit, ancestors-done}
+use Rattle.steps.specs.AncestorLaws.{paths-many, paths-none, ancestors-none, ancestors-over, ancestors-fit, ancestors-done}
 use borrow.Author.Needs.{needs}
-use Rattle.steps.proofs.EntityManifestAnalysisResult.with_ancestors_required.Statement.{statement}
-use Rattle.steps.proofs.EntityManifestAnalysisResult.with_ancestors_required.Tie as tie
+use Rattle.steps.proofs.with_ancestors_required.Statement.{statement}
+use Rattle.steps.proofs.with_ancestors_required.Tie as tie
 
 returns : tie.Need-returns
 returns c =
     let start = c .before .before .before .before .before in
-    ancestors-none (pathsAt (start .args .code .now) (start .args .left .now)) (pathsAt (start .args .code .now) (start .args .right .now)) (start .pre .0 .0) (paths-none (start .args .code .now) (start .args .left .now) (c .if1 .taken))
+    ancestors-none (pathsAt (start .args .code .now) (start .args .left .now)) (pathsAt (start .args .code .now) (start .args .right .now)) (start .pre .0 .state) (paths-none (start .args .code .now) (start .args .left .now) (c .if1 .taken))
 
 slice-aggregate-to-ancestor-access-trie : tie.Need-slice-aggregate-to-ancestor-access-trie
 slice-aggregate-to-ancestor-access-trie c = search needs
 
 to-ancestor-access-trie-requires : tie.Need-to-ancestor-access-trie-requires
-to-ancestor-access-trie-requires c κs = (zero-state, c .before .before .before .before .before .before .pre .1 .0)
+to-ancestor-access-trie-requires c κs =
+    let (within, all-paths) = c .before .before .before .before .before .before .pre .1 .0 in
+    record { state = zero-state; within = within; all-paths = all-paths }
 
 returns-2 : tie.Need-returns-2
 returns-2 c =
     let start = c .before .before .before .before .before .before .before .before .before in
-    ancestors-over (pathsAt (start .args .code .now) (start .args .left .now)) (pathsAt (start .args .code .now) (start .args .right .now)) (c .before .before .to-ancestor-access-trie .ensures) (start .pre .0 .0) (omega (arith, paths-many (start .args .code .now) (start .args .left .now), c .before .before .before .before .if1 .left)) (not-true (c .before .before .to-ancestor-access-trie .result) (c .if2 .taken))
+    ancestors-over (pathsAt (start .args .code .now) (start .args .left .now)) (pathsAt (start .args .code .now) (start .args .right .now)) (c .before .before .to-ancestor-access-trie .ensures) (start .pre .0 .state) (omega (arith, paths-many (start .args .code .now) (start .args .left .now), c .before .before .before .before .if1 .left)) (not-true (c .before .before .to-ancestor-access-trie .result) (c .if2 .taken))
 
 array-read-end : tie.Need-array-read-end
 array-read-end c = search needs

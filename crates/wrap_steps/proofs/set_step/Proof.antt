@@ -1,10 +1,10 @@
--- `steps::set_step` meets its contract: the top is wrapped under the head of a set literal.
+-- `wrap_steps::set_step` meets its contract: the top is wrapped under the head of a set literal.
 -- Assumes nothing.
 use native.Mathlib.Omega.{arith}
-use Rattle.steps.specs.StepsLaws.{set-few, set-done}
+use Rattle.wrap_steps.specs.WrapLaws.{set-few, set-done}
 use borrow.Author.Needs.{needs}
-use Rattle.steps.proofs.set_step.Statement.{statement}
-use Rattle.steps.proofs.set_step.Tie as tie
+use Rattle.wrap_steps.proofs.set_step.Statement.{statement}
+use Rattle.wrap_steps.proofs.set_step.Tie as tie
 
 returns : tie.Need-returns
 returns c results held place = set-few results held (c .if1 .taken) place
@@ -18,7 +18,7 @@ slice-aggregate-wrap c = search needs
 wrap-requires : tie.Need-wrap-requires
 wrap-requires c κs =
     let start = c .before .before .before .before .before .before .before .before .before .before in
-    ((start .pre .0, (omega arith, (omega (arith, c .before .before .before .before .before .if1 .left), omega arith))), start .pre .1)
+    (start .pre, (omega arith, (omega (arith, c .before .before .before .before .before .if1 .left), omega arith)))
 
 same-length : tie.Need-same-length
 same-length c = search needs

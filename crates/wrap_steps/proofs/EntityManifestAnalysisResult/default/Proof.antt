@@ -1,11 +1,11 @@
--- `steps::EntityManifestAnalysisResult::default` meets its contract: empty paths are pushed.
+-- `wrap_steps::EntityManifestAnalysisResult::default` meets its contract: empty paths are pushed.
 -- Assumes nothing.
 use mathlib.Core.Path.{refl}
 use Rattle.rules.specs.Paths.{Empty, nodesOf}
 use Rattle.wrapped_paths.specs.Code.{code}
 use borrow.Author.Needs.{needs}
-use Rattle.steps.proofs.EntityManifestAnalysisResult.default.Statement.{statement}
-use Rattle.steps.proofs.EntityManifestAnalysisResult.default.Tie as tie
+use Rattle.wrap_steps.proofs.EntityManifestAnalysisResult.default.Statement.{statement}
+use Rattle.wrap_steps.proofs.EntityManifestAnalysisResult.default.Tie as tie
 
 word-requires : tie.Need-word-requires
 word-requires c κs = search needs

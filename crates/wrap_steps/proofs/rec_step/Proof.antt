@@ -1,4 +1,4 @@
--- `steps::rec_step` meets its contract: the results on top are wrapped under the head of a record literal and its names.
+-- `wrap_steps::rec_step` meets its contract: the results on top are wrapped under the head of a record literal and its names.
 -- Assumes nothing.
 use Prim.Native.Nat.{ℕ, _+_, _*_, _-_, _≤_}
 use mathlib.Core.Path.{_≡_, refl, sym, _∙_}
@@ -8,17 +8,17 @@ use lib.ListN.{length, take, drop, length-take, length-drop, drop-of-length-le}
 use lib.Seq.{length-take-le, take-all}
 use Rattle.rules.specs.Paths.{RecordLiteral, noField, nodesOf, nodesOfFields}
 use Rattle.wrapped_paths.specs.Code.{code, codeFields, countIn, namesIn}
-use Rattle.steps.specs.StepsLaws.{rec-none, rec-few, rec-head, head-room, rec-done}
+use Rattle.wrap_steps.specs.WrapLaws.{rec-none, rec-few, rec-head, head-room, rec-done}
 use borrow.Author.Needs.{needs}
-use Rattle.steps.proofs.rec_step.Statement.{statement}
-use Rattle.steps.proofs.rec_step.Tie as tie
+use Rattle.wrap_steps.proofs.rec_step.Statement.{statement}
+use Rattle.wrap_steps.proofs.rec_step.Tie as tie
 
 -- the names that the step has
 abbrev named : tie.Start → List ℕ
 named c = drop (32 - c .args .count) (c .args .names .now)
 
 as-many : (c : tie.Start) → length (named c) ≡ c .args .count
-as-many c = omega (arith, length-drop (32 - c .args .count) (c .args .names .now), c .pre .0 .1)
+as-many c = omega (arith, length-drop (32 - c .args .count) (c .args .names .now), c .pre .1)
 
 part : (c : tie.Start) → take (length (c .args .names .now) - (32 - c .args .count)) (named c) ≡ named c
 part c = take-all (length (c .args .names .now) - (32 - c .args .count)) (named c) (omega (arith, length-drop (32 - c .args .count) (c .args .names .now)))
@@ -29,7 +29,7 @@ room :
     → (c .copy-words .result ≤ length (c .copy-words .last .1 .0)) × (c .copy-words .result ≡ 1 + length (named (c .before .before .before .before .before .before .before .before .before .before .before)))
 room c =
     let start = c .before .before .before .before .before .before .before .before .before .before .before in
-    head-room (c .before .before .before .word2 .result) (named start) (omega (arith, as-many start, start .pre .0 .1)) (rw (part start) at (c .copy-words .ensures))
+    head-room (c .before .before .before .word2 .result) (named start) (omega (arith, as-many start, start .pre .1)) (rw (part start) at (c .copy-words .ensures))
 
 word-requires : tie.Need-word-requires
 word-requires c κs = search needs
@@ -51,7 +51,7 @@ unfolding code nodesOf countIn namesIn codeFields nodesOfFields
 returns c results held =
     let start = c .before .before .before .before .before .before .before .before .before .before .before .before .before .before in
     let push = c .before .before .before .before .push in
-    let none-named : named start ≡ [] = drop-of-length-le (start .args .names .now) {i = 32 - start .args .count} (omega (arith, start .pre .0 .1 .1, c .before .before .before .before .before .before .before .before .before .if1 .taken)) in
+    let none-named : named start ≡ [] = drop-of-length-le (start .args .names .now) {i = 32 - start .args .count} (omega (arith, start .pre .1 .1, c .before .before .before .before .before .before .before .before .before .if1 .taken)) in
     rec-none results (named start) (push .last .1 .0) (push .last .1 .1 .0) (push .result) none-named
     (push .ensures (RecordLiteral noField) results (rw (c .before .before .before .before .before .before .before .before .word .ensures)) refl held)
 
@@ -98,17 +98,14 @@ wrap-requires : tie.Need-wrap-requires
 wrap-requires c κs =
     let start = c .before .before .before .before .before .before .before .before .before .before .before .before .before .before .before .before in
     let copied = c .before .before .before .before .before in (
+      start .pre .0,
       (
-        start .pre .0 .0,
+        omega (arith, c .before .before .before .before .before .before .before .before .before .before .before .if1 .left),
         (
-          omega (arith, c .before .before .before .before .before .before .before .before .before .before .before .if1 .left),
-          (
-            omega (arith, c .before .before .before .before .before .before .before .before .before .if2 .left),
-            omega (arith, length-take (copied .copy-words .result) (copied .copy-words .last .1 .0), room copied, as-many start),
-          ),
+          omega (arith, c .before .before .before .before .before .before .before .before .before .if2 .left),
+          omega (arith, length-take (copied .copy-words .result) (copied .copy-words .last .1 .0), room copied, as-many start),
         ),
       ),
-      start .pre .1,
     )
 
 same-length-3 : tie.Need-same-length-3
@@ -126,7 +123,7 @@ returns-3 c results held =
     let wrap = c .before .before .before .before .before .before .wrap in
     let written = rw (part start) at (c .before .before .before .before .before .before .before .before .before .before .before .before .copy-words .ensures) in
     let head : take (c .before .before .before .before .before .before .before .before .before .before .before .before .copy-words .result) (c .before .before .before .before .before .before .before .before .before .before .before .before .copy-words .last .1 .0) ≡ (4 + 8 * start .args .count) ∷ named start =
-    rec-head (c .before .before .before .before .before .before .before .before .before .before .before .before .before .before .before .word2 .result) (named start) (omega (arith, as-many start, start .pre .0 .1)) written ∙ rw (c .before .before .before .before .before .before .before .before .before .before .before .before .before .before .before .word2 .ensures) in
+    rec-head (c .before .before .before .before .before .before .before .before .before .before .before .before .before .before .before .word2 .result) (named start) (omega (arith, as-many start, start .pre .1)) written ∙ rw (c .before .before .before .before .before .before .before .before .before .before .before .before .before .before .before .word2 .ensures) in
     let by = rw head at (wrap .ensures) in
     rec-done results held (named start) (start .args .count) (wrap .last .1 .1 .0) (wrap .last .1 .1 .1 .0) (wrap .result) (as-many start) (omega (arith, c .before .before .before .before .before .before .before .before .before .before .before .before .before .before .before .before .if2 .left)) by
 

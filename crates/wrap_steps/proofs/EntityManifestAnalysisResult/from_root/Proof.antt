@@ -1,12 +1,12 @@
--- `steps::EntityManifestAnalysisResult::from_root` meets its contract: a path that is its root is pushed, and its trie is empty.
+-- `wrap_steps::EntityManifestAnalysisResult::from_root` meets its contract: a path that is its root is pushed, and its trie is empty.
 -- Assumes nothing.
 use mathlib.Core.Path.{refl}
 use mathlib.Core.List.{[], _∷_}
 use Rattle.rules.specs.Paths.{AccessPath, nodesOf, toRootAccessTrieWithLeaf}
 use Rattle.wrapped_paths.specs.Code.{code}
 use borrow.Author.Needs.{needs}
-use Rattle.steps.proofs.EntityManifestAnalysisResult.from_root.Statement.{statement}
-use Rattle.steps.proofs.EntityManifestAnalysisResult.from_root.Tie as tie
+use Rattle.wrap_steps.proofs.EntityManifestAnalysisResult.from_root.Statement.{statement}
+use Rattle.wrap_steps.proofs.EntityManifestAnalysisResult.from_root.Tie as tie
 
 word-requires : tie.Need-word-requires
 word-requires c κs = search needs

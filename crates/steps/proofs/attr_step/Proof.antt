@@ -1,4 +1,4 @@
--- `steps::EntityManifestAnalysisResult::get_or_has_attr` meets its contract: the paths that gained the field go into the top's trie.
+-- `steps::attr_step` meets its contract: the paths that gained the field go into the top's trie.
 -- Assumes nothing.
 use mathlib.Core.Path.{_≡_, refl, sym, _∙_}
 use mathlib.Core.List.{List, _∷_}
@@ -8,11 +8,13 @@ use lib.Seq.{length-take-le}
 use Rattle.rules.specs.Steps.{Result}
 use Rattle.wrapped_paths.specs.Code.{codes, Grew}
 use Rattle.result_stack.specs.Stacks.{stackPaths, Held}
-use Rattle.steps.specs.StepsLaws.{held-top, attr-grows, tries-end-room, copied-top, attr-few, attr-set, attr-room, attr-too-deep, attr-paths, attr-rows, attr-done}
+use Rattle.wrap_steps.specs.WrapLaws.{held-top, tries-end-room}
+use Rattle.steps.specs.AttrStepLaws.{attr-grows, attr-few, attr-set, attr-room, attr-judging, attr-paths, attr-rows, attr-done}
+use Rattle.steps.specs.StepsLaws.{too-deep, copied-top}
 use Rattle.result_stack.specs.StackLaws.{top-code, top-standing, top-at, code-end, tries-end}
 use borrow.Author.Needs.{needs}
-use Rattle.steps.proofs.EntityManifestAnalysisResult.get_or_has_attr.Statement.{statement}
-use Rattle.steps.proofs.EntityManifestAnalysisResult.get_or_has_attr.Tie as tie
+use Rattle.steps.proofs.attr_step.Statement.{statement}
+use Rattle.steps.proofs.attr_step.Tie as tie
 
 -- the result on top
 topped :
@@ -45,8 +47,8 @@ slice-aggregate-get-or-has-attr c = search needs
 get-or-has-attr-requires : tie.Need-get-or-has-attr-requires
 get-or-has-attr-requires c κs =
     let start = c .before .before .before .before .before .before .before .before .before in
-    let (top, rest, same, held) = topped (c .before .before .before) (start .pre .0 .results) (start .pre .0 .held) in
-    (attr-grows held (start .args .name) (start .pre .0 .code-room) (start .pre .1 .1 .0), refl)
+    let (top, rest, same, held) = topped (c .before .before .before) (start .pre .0 .holding .results) (start .pre .0 .holding .held) in
+    (attr-grows held (start .args .name) (start .pre .0 .holding .code-room) (start .pre .1 .1), refl)
 
 enum-known-words : tie.Need-enum-known-words
 enum-known-words c = search needs
@@ -70,20 +72,20 @@ returns-2 c results held place =
 array-share-prefix-places : tie.Need-array-share-prefix-places
 array-share-prefix-places c =
     let start = c .before .before .before .before .before .before .before .before .before .before .before .before .before .before .before .before .before in
-    let (top, rest, same, held) = topped (c .before .before .before .before .before .before .before .before .before .before .before) (start .pre .0 .results) (start .pre .0 .held) in
+    let (top, rest, same, held) = topped (c .before .before .before .before .before .before .before .before .before .before .before) (start .pre .0 .holding .results) (start .pre .0 .holding .held) in
     (grew (c .before .before) top rest held) .in-places
 
 slice-aggregate-is-too-deep : tie.Need-slice-aggregate-is-too-deep
 slice-aggregate-is-too-deep c =
     let at-words = c .before .before .before in
     let start = c .before .before .before .before .before .before .before .before .before .before .before .before .before .before .before .before .before .before in
-    let (top, rest, same, held) = topped (c .before .before .before .before .before .before .before .before .before .before .before .before) (start .pre .0 .results) (start .pre .0 .held) in
+    let (top, rest, same, held) = topped (c .before .before .before .before .before .before .before .before .before .before .before .before) (start .pre .0 .holding .results) (start .pre .0 .holding .held) in
     sym (length-take-le (at-words .words .given .0 .1 .0) (c .before .before .before .before .before .before .before .before .get-or-has-attr .last .1 .1 .1 .1 .0) ((grew at-words top rest held) .in-places))
 
 is-too-deep-requires : tie.Need-is-too-deep-requires
 is-too-deep-requires c κs =
     let start = c .before .before .before .before .before .before .before .before .before .before .before .before .before .before .before .before .before .before in
-    let (top, rest, same, held) = topped (c .before .before .before .before .before .before .before .before .before .before .before .before) (start .pre .0 .results) (start .pre .0 .held) in
+    let (top, rest, same, held) = topped (c .before .before .before .before .before .before .before .before .before .before .before .before) (start .pre .0 .holding .results) (start .pre .0 .holding .held) in
     ((grew (c .before .before .before) top rest held) .within, omega arith)
 
 same-length-3 : tie.Need-same-length-3
@@ -96,33 +98,37 @@ returns-3 : tie.Need-returns-3
 returns-3 c results held place =
     let start = c .before .before .before .before .before .before .before .before .before .before .before .before .before .before .before .before .before .before .before .before in
     let (top, rest, same, h) = topped (c .before .before .before .before .before .before .before .before .before .before .before .before .before .before) results held in
-    rw same (attr-too-deep h (start .args .name) (start .pre .1 .0) (grew (c .before .before .before .before .before) top rest h) (sym (c .before .is-too-deep .ensures) ∙ c .if2 .taken) place)
+    rw same (too-deep (attr-judging h (start .args .name) (start .pre .1 .0) (grew (c .before .before .before .before .before) top rest h)) (sym (c .before .is-too-deep .ensures) ∙ c .if2 .taken) place)
 
 copy-trie-requires : tie.Need-copy-trie-requires
 copy-trie-requires c κs =
     let start = c .before .before .before .before .before .before .before .before .before .before .before .before .before .before .before .before .before .before .before .before .before .before in
-    let (top, rest, same, held) = topped (c .before .before .before .before .before .before .before .before .before .before .before .before .before .before .before .before) (start .pre .0 .results) (start .pre .0 .held) in
-    (top-at held, start .pre .1 .1 .1)
+    let (top, rest, same, held) = topped (c .before .before .before .before .before .before .before .before .before .before .before .before .before .before .before .before) (start .pre .0 .holding .results) (start .pre .0 .holding .held) in
+    (top-at held, start .pre .0 .trie-length)
 
 array-share-prefix-places-2 : tie.Need-array-share-prefix-places-2
 array-share-prefix-places-2 c =
     let start = c .before .before .before .before .before .before .before .before .before .before .before .before .before .before .before .before .before .before .before .before .before .before .before .before .before .before .before in
-    let (top, rest, same, held) = topped (c .before .before .before .before .before .before .before .before .before .before .before .before .before .before .before .before .before .before .before .before .before) (start .pre .0 .results) (start .pre .0 .held) in
+    let (top, rest, same, held) = topped (c .before .before .before .before .before .before .before .before .before .before .before .before .before .before .before .before .before .before .before .before .before) (start .pre .0 .holding .results) (start .pre .0 .holding .held) in
     (grew (c .before .before .before .before .before .before .before .before .before .before .before .before) top rest held) .in-places
 
 slice-aggregate-restore-global-trie-invariant : tie.Need-slice-aggregate-restore-global-trie-invariant
 slice-aggregate-restore-global-trie-invariant c =
     let at-words = c .before .before .before .before .before .before .before .before .before .before .before .before .before in
     let start = c .before .before .before .before .before .before .before .before .before .before .before .before .before .before .before .before .before .before .before .before .before .before .before .before .before .before .before .before in
-    let (top, rest, same, held) = topped (c .before .before .before .before .before .before .before .before .before .before .before .before .before .before .before .before .before .before .before .before .before .before) (start .pre .0 .results) (start .pre .0 .held) in
+    let (top, rest, same, held) = topped (c .before .before .before .before .before .before .before .before .before .before .before .before .before .before .before .before .before .before .before .before .before .before) (start .pre .0 .holding .results) (start .pre .0 .holding .held) in
     sym (length-take-le (at-words .words .given .0 .1 .0) (c .before .before .before .before .before .before .before .before .before .before .before .before .before .before .before .before .before .before .get-or-has-attr .last .1 .1 .1 .1 .0) ((grew at-words top rest held) .in-places))
 
 restore-global-trie-invariant-requires : tie.Need-restore-global-trie-invariant-requires
 restore-global-trie-invariant-requires c κs =
     let at-words = c .before .before .before .before .before .before .before .before .before .before .before .before .before in
     let start = c .before .before .before .before .before .before .before .before .before .before .before .before .before .before .before .before .before .before .before .before .before .before .before .before .before .before .before .before in
-    let (top, rest, same, held) = topped (c .before .before .before .before .before .before .before .before .before .before .before .before .before .before .before .before .before .before .before .before .before .before) (start .pre .0 .results) (start .pre .0 .held) in
-    (c .before .before .before .before .before .copy-trie .ensures .0, ((grew at-words top rest held) .within, attr-paths held (start .args .name) (start .pre .1 .0) (grew at-words top rest held) (sym (c .before .before .before .before .before .before .before .before .before .is-too-deep .ensures) ∙ c .before .before .before .before .before .before .before .before .if2 .left)))
+    let (top, rest, same, held) = topped (c .before .before .before .before .before .before .before .before .before .before .before .before .before .before .before .before .before .before .before .before .before .before) (start .pre .0 .holding .results) (start .pre .0 .holding .held) in
+    record {
+      state = c .before .before .before .before .before .copy-trie .ensures .0;
+      within = (grew at-words top rest held) .within;
+      all-paths = attr-paths held (start .args .name) (start .pre .1 .0) (grew at-words top rest held) (sym (c .before .before .before .before .before .before .before .before .before .is-too-deep .ensures) ∙ c .before .before .before .before .before .before .before .before .if2 .left);
+    }
 
 same-length-5 : tie.Need-same-length-5
 same-length-5 c = search needs
@@ -152,40 +158,40 @@ returns-4 c results held place =
 measure-requires : tie.Need-measure-requires
 measure-requires c κs =
     let start = c .before .before .before .before .before .before .before .before .before .before .before .before .before .before .before .before .before .before .before .before .before .before .before .before .before .before .before .before .before .before .before .before .before in
-    let (top, rest, same, held) = topped (c .before .before .before .before .before .before .before .before .before .before .before .before .before .before .before .before .before .before .before .before .before .before .before .before .before .before .before) (start .pre .0 .results) (start .pre .0 .held) in
+    let (top, rest, same, held) = topped (c .before .before .before .before .before .before .before .before .before .before .before .before .before .before .before .before .before .before .before .before .before .before .before .before .before .before .before) (start .pre .0 .holding .results) (start .pre .0 .holding .held) in
     top-standing held
 
 trie-end-requires : tie.Need-trie-end-requires
 trie-end-requires c κs =
     let start = c .before .before .before .before .before .before .before .before .before .before .before .before .before .before .before .before .before .before .before .before .before .before .before .before .before .before .before .before .before .before .before .before .before .before .before in
-    let (top, rest, same, held) = topped (c .before .before .before .before .before .before .before .before .before .before .before .before .before .before .before .before .before .before .before .before .before .before .before .before .before .before .before .before .before) (start .pre .0 .results) (start .pre .0 .held) in
+    let (top, rest, same, held) = topped (c .before .before .before .before .before .before .before .before .before .before .before .before .before .before .before .before .before .before .before .before .before .before .before .before .before .before .before .before .before) (start .pre .0 .holding .results) (start .pre .0 .holding .held) in
     top-at held
 
 slice-reshare-prefix-put-before : tie.Need-slice-reshare-prefix-put-before
 slice-reshare-prefix-put-before c =
     let start = c .before .before .before .before .before .before .before .before .before .before .before .before .before .before .before .before .before .before .before .before .before .before .before .before .before .before .before .before .before .before .before .before .before .before .before .before in
-    let (top, rest, same, held) = topped (c .before .before .before .before .before .before .before .before .before .before .before .before .before .before .before .before .before .before .before .before .before .before .before .before .before .before .before .before .before .before) (start .pre .0 .results) (start .pre .0 .held) in
+    let (top, rest, same, held) = topped (c .before .before .before .before .before .before .before .before .before .before .before .before .before .before .before .before .before .before .before .before .before .before .before .before .before .before .before .before .before .before) (start .pre .0 .holding .results) (start .pre .0 .holding .held) in
     (grew (c .before .before .before .before .before .before .before .before .before .before .before .before .before .before .before .before .before .before .before .before .before) top rest held) .in-out
 
 slice-aggregate-put-before : tie.Need-slice-aggregate-put-before
 slice-aggregate-put-before c =
     let at-words = c .before .before .before .before .before .before .before .before .before .before .before .before .before .before .before .before .before .before .before .before .before .before in
     let start = c .before .before .before .before .before .before .before .before .before .before .before .before .before .before .before .before .before .before .before .before .before .before .before .before .before .before .before .before .before .before .before .before .before .before .before .before .before in
-    let (top, rest, same, held) = topped (c .before .before .before .before .before .before .before .before .before .before .before .before .before .before .before .before .before .before .before .before .before .before .before .before .before .before .before .before .before .before .before) (start .pre .0 .results) (start .pre .0 .held) in
+    let (top, rest, same, held) = topped (c .before .before .before .before .before .before .before .before .before .before .before .before .before .before .before .before .before .before .before .before .before .before .before .before .before .before .before .before .before .before .before) (start .pre .0 .holding .results) (start .pre .0 .holding .held) in
     sym (length-take-le (at-words .words .given .0 .0) (c .before .before .before .before .before .before .before .before .before .before .before .before .before .before .before .before .before .before .before .before .before .before .before .before .before .before .before .get-or-has-attr .last .1 .1 .1 .0) ((grew at-words top rest held) .in-out))
 
 put-before-requires : tie.Need-put-before-requires
 put-before-requires c κs =
     let start = c .before .before .before .before .before .before .before .before .before .before .before .before .before .before .before .before .before .before .before .before .before .before .before .before .before .before .before .before .before .before .before .before .before .before .before .before .before .before in
-    let (top, rest, same, held) = topped (c .before .before .before .before .before .before .before .before .before .before .before .before .before .before .before .before .before .before .before .before .before .before .before .before .before .before .before .before .before .before .before .before) (start .pre .0 .results) (start .pre .0 .held) in
-    attr-room held (start .args .name) (start .pre .1 .0) (grew (c .before .before .before .before .before .before .before .before .before .before .before .before .before .before .before .before .before .before .before .before .before .before .before) top rest held) (start .pre .0 .code-room) (code-end held (c .before .before .before .before .measure .ensures))
+    let (top, rest, same, held) = topped (c .before .before .before .before .before .before .before .before .before .before .before .before .before .before .before .before .before .before .before .before .before .before .before .before .before .before .before .before .before .before .before .before) (start .pre .0 .holding .results) (start .pre .0 .holding .held) in
+    attr-room held (start .args .name) (start .pre .1 .0) (grew (c .before .before .before .before .before .before .before .before .before .before .before .before .before .before .before .before .before .before .before .before .before .before .before) top rest held) (start .pre .0 .holding .code-room) (code-end held (c .before .before .before .before .measure .ensures))
 
 put-trie-requires : tie.Need-put-trie-requires
 put-trie-requires c κs =
     let start = c .before .before .before .before .before .before .before .before .before .before .before .before .before .before .before .before .before .before .before .before .before .before .before .before .before .before .before .before .before .before .before .before .before .before .before .before .before .before .before .before .before .before .before in
-    let (top, rest, same, held) = topped (c .before .before .before .before .before .before .before .before .before .before .before .before .before .before .before .before .before .before .before .before .before .before .before .before .before .before .before .before .before .before .before .before .before .before .before .before .before) (start .pre .0 .results) (start .pre .0 .held) in
+    let (top, rest, same, held) = topped (c .before .before .before .before .before .before .before .before .before .before .before .before .before .before .before .before .before .before .before .before .before .before .before .before .before .before .before .before .before .before .before .before .before .before .before .before .before) (start .pre .0 .holding .results) (start .pre .0 .holding .held) in
     let still = c .before .before .before .before .before .before .before .before .before .before .before .before .before .before .restore-global-trie-invariant .ensures .still in
-    let room = tries-end-room held (start .pre .0 .tries-room) (tries-end held (c .before .before .before .before .before .before .before .trie-end .ensures .0)) in
+    let room = tries-end-room held (start .pre .0 .holding .tries-room) (tries-end held (c .before .before .before .before .before .before .before .trie-end .ensures .0)) in
     (still, (omega (arith, still .few-rows, room .0), room .1))
 
 same-length-9 : tie.Need-same-length-9
@@ -214,8 +220,8 @@ returns-5 c results held =
     (not-false (at-add .restore-global-trie-invariant .result) (c .before .before .before .before .before .before .before .before .before .before .before .before .before .before .if3 .left)) (c .before .before .before .before .before .before .before .before .before .before .before .before .measure .ensures) (c .before .before .before .before .before .before .before .before .before .before .trie-end .ensures .0)
     (c .before .before .before .before .before .before .before .put-before .ensures) (c .before .before .put-trie .ensures))
 
-pub get-or-has-attr-spec : {M : Type 1} → statement M
-get-or-has-attr-spec =
+pub attr-step-spec : {M : Type 1} → statement M
+attr-step-spec =
     tie.close
     (tie.spec
     returns

@@ -1,11 +1,11 @@
--- `steps::EntityManifestAnalysisResult::union` meets its contract: the two results on top are wrapped under the head of a union.
+-- `wrap_steps::EntityManifestAnalysisResult::union` meets its contract: the two results on top are wrapped under the head of a union.
 -- Assumes nothing.
 use native.Mathlib.Omega.{arith}
 use Rattle.rules.specs.Steps.{unionResults}
-use Rattle.steps.specs.StepsLaws.{two-few, union-done}
+use Rattle.wrap_steps.specs.WrapLaws.{two-few, union-done}
 use borrow.Author.Needs.{needs}
-use Rattle.steps.proofs.EntityManifestAnalysisResult.union.Statement.{statement}
-use Rattle.steps.proofs.EntityManifestAnalysisResult.union.Tie as tie
+use Rattle.wrap_steps.proofs.EntityManifestAnalysisResult.union.Statement.{statement}
+use Rattle.wrap_steps.proofs.EntityManifestAnalysisResult.union.Tie as tie
 
 returns : tie.Need-returns
 returns c results held place = two-few results held unionResults (c .if1 .taken) place

@@ -1,0 +1,2 @@
+-- What the steps that wrap results leave on the stack.
+pub mod WrapLaws
