@@ -15,8 +15,8 @@ use Rattle.rules.specs.Listing.{read}
 use Rattle.rules.specs.Tries.{Row}
 use Rattle.rules.specs.TrieLaws.{union-right-length}
 use Rattle.rules.specs.Schema.{Item, fromType, lastType, attributesOf, attributeLine}
-use Rattle.rules.specs.Paths.{deeper, childrenOf, typeBelow, attributesAt, toRootAccessTrieWithLeaf, typeToAccessTrie, addAccessPath, addTaken, Fields, noField, field, fieldOf, isThere, hasAll}
-use Rattle.rules.specs.StepLaws.{Each, IsPath, AllKeys, each-append, or-neither, add-taken-length}
+use Rattle.rules.specs.Paths.{deeper, childrenOf, typeBelow, attributesAt, toRootAccessTrieWithLeaf, typeToAccessTrie, addAccessPath, unionAll, takenTries, addTaken, Fields, noField, field, fieldOf, isThere, hasAll}
+use Rattle.rules.specs.StepLaws.{Each, IsPath, AllKeys, each-append, or-neither, all-length}
 use Rattle.rules.specs.TypeLaws.{deepest, deeper-none, deeper-length, path-length}
 use Rattle.rows.specs.Words.{wordOf, rowIn, depthIn, stepIn, markIn, typeIn}
 use Rattle.rows.specs.States.{rowsOf, rowsIn}
@@ -338,7 +338,7 @@ adding-none items words pairs start state = record { inside = omega arith; state
 module _ {items : List Item} {words pairs start : List ℕ} {i : ℕ} {trie : List ℕ} (adding : AddingTaken items words pairs start i trie) where
   -- no pair is left
   pub adding-all : length pairs ≤ i → Became (addTaken items (rowsIn start) (map (takenAt words) pairs)) trie true
-  unfolding addTaken
+  unfolding unionAll
   adding-all h = record {
     judged = sym (rw (← all) (le-leb _ 1024 few));
     still = adding .state;
@@ -357,7 +357,7 @@ module _ {items : List Item} {words pairs start : List ℕ} {i : ℕ} {trie : Li
         (addAccessPath (rowsIn trie) (pathAt words (getD pairs i 0 / 1024)) (typeToAccessTrie items (getD pairs i 0 % 1024)))
         (map (takenAt words) (drop (i + 1) pairs))
         ≡ addTaken items (rowsIn start) (map (takenAt words) pairs)
-    unfolding addTaken
+    unfolding unionAll
     next-added = rw (pairs-left words pairs i more) at (adding .left)
 
     module _
@@ -381,7 +381,7 @@ module _ {items : List Item} {words pairs start : List ℕ} {i : ℕ} {trie : Li
                 let one : List Row =
                 addAccessPath (rowsIn trie) (pathAt words (getD pairs i 0 / 1024)) (typeToAccessTrie items (getD pairs i 0 % 1024)) in
                 let longer : 1024 < length one = leb-false (length one) 1024 (sym (became .judged) ∙ e) in
-                rw (← next-added) (omega (arith, add-taken-length items one (map (takenAt words) (drop (i + 1) pairs))))
+                rw (← next-added) (omega (arith, all-length one (takenTries items (map (takenAt words) (drop (i + 1) pairs)))))
 
         -- the next fits
         pub adding-next : fits ≡ true → AddingTaken items words pairs start (i + 1) trie′

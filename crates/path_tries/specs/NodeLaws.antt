@@ -18,9 +18,9 @@ use Rattle.rules.specs.Numbers.{accepted, refused, mostSteps}
 use Rattle.rules.specs.Tries.{Row, isStep, isRoot, isRow, contribution, count, entriesIn, nodesIn, union, unionWithin}
 use Rattle.rules.specs.TrieLaws.{union-turns, union-nil-left, union-nil-right, union-sum-length}
 use Rattle.rules.specs.Listing.{read}
-use Rattle.rules.specs.Paths.{Path, deeper, chain, toRootAccessTrieWithLeaf, addAccessPath, addPaths}
+use Rattle.rules.specs.Paths.{Path, deeper, chain, toRootAccessTrieWithLeaf, addAccessPath, unionAll, pathTries, addPaths}
 use Rattle.rules.specs.TypeLaws.{chain-length, deeper-length, isNoTrie, longest}
-use Rattle.rules.specs.StepLaws.{Each, Stepped, IsPath, AllPaths, Plain, each-append, turns-plain, field-step, stepped-some, add-paths-length}
+use Rattle.rules.specs.StepLaws.{Each, Stepped, IsPath, AllPaths, Plain, each-append, turns-plain, field-step, stepped-some, all-length}
 use Rattle.rows.specs.Words.{depthIn, markIn, stepIn, typeFrom, typeIn, rowIn, wordOf, isWord}
 use Rattle.union.specs.Unions.{unionWords, unionInto, Roomy}
 use Rattle.rows.specs.WordLaws.{node-low, all-words-cons, words-rows, row-word}
@@ -511,7 +511,7 @@ module _ {code places below : List ℕ} {mark : Bool} {start trie : List ℕ} {i
     adding-fit = (rw (next-paths code places i h) at (adding .fit)) .0
 
     next-left : addPaths (addAccessPath (rowsIn trie) path (leafOf mark below)) (pathsAt code (drop (suc i) places)) (leafOf mark below) ≡ all-added
-    unfolding addPaths
+    unfolding unionAll
     next-left = rw (next-paths code places i h) at (adding .left)
 
     -- it was added
@@ -529,7 +529,7 @@ module _ {code places below : List ℕ} {mark : Bool} {start trie : List ℕ} {i
     pub adding-over : {trie′ : List ℕ} → Became (addAccessPath (rowsIn trie) path (leafOf mark below)) trie′ false → Became all-added trie′ false
     adding-over {trie′} became =
         let over = leb-false (length (addAccessPath (rowsIn trie) path (leafOf mark below))) 1024 (sym (became .judged)) in
-        let longer = add-paths-length (addAccessPath (rowsIn trie) path (leafOf mark below)) (pathsAt code (drop (suc i) places)) (leafOf mark below) in
+        let longer = all-length (addAccessPath (rowsIn trie) path (leafOf mark below)) (pathTries (pathsAt code (drop (suc i) places)) (leafOf mark below)) in
         record {
           judged = sym (lt-leb (length all-added) 1024 (omega (arith, over, longer, ap length next-left)));
           still = became .still;
@@ -538,7 +538,7 @@ module _ {code places below : List ℕ} {mark : Bool} {start trie : List ℕ} {i
 
   -- all were added
   pub adding-all : length places ≤ i → Became all-added trie true
-  unfolding addPaths pathsAt
+  unfolding unionAll pathsAt
   adding-all h = let all : rowsIn trie ≡ all-added = rw (drop-of-length-le places h) at (adding .left) in rw (← all) (as-it-was (adding .still))
 
 -- ---- how deep and how long paths are

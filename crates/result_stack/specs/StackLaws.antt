@@ -12,10 +12,10 @@ use lib.ListN.{length, take, drop, getD, set, replicate, length-map, length-appe
 use lib.Seq.{sets-eq, length-sets, drop-drop, drop-cons, drop-at, take-at, drop-append-seam, length-take-le, set-split}
 use Rattle.rules.specs.Numbers.{accepted, refused}
 use Rattle.rules.specs.Tries.{Row, at, union}
-use Rattle.rules.specs.TrieLaws.{Ordered, ordered-true, union-left-length, union-sum-length}
-use Rattle.rules.specs.Paths.{Paths, nodesOf}
+use Rattle.rules.specs.TrieLaws.{Ordered, ordered-true, union-sum-length}
+use Rattle.rules.specs.Paths.{Paths, nodesOf, unionAll}
 use Rattle.rules.specs.Steps.{Result, result, judged, isTooDeep}
-use Rattle.rules.specs.StepLaws.{Each, Plain, IsTrie, GoodResult, AllGood, union-trie}
+use Rattle.rules.specs.StepLaws.{Each, Plain, IsTrie, GoodResult, AllGood, all-length}
 use Rattle.rows.specs.Words.{rowIn, wordOf}
 use Rattle.rows.specs.WordLaws.{words-rows, row-word}
 use Rattle.rows.specs.States.{rowsOf, rowsIn, holding}
@@ -26,7 +26,7 @@ use Rattle.wrapped_paths.specs.CodeLaws.{first-word, behind-word}
 use Rattle.wrapped_paths.specs.AttrLaws.{words-most}
 use Rattle.path_tries.specs.Nodes.{nodeWord, allNodes, IsState, Became}
 use Rattle.path_tries.specs.NodeLaws.{plain-node, all-nodes-plain, held-words}
-use Rattle.result_stack.specs.Stacks.{stackPaths, stackTries, trieWords, stacked, Layout, Held, Reached, Placed, TrieAt, TriesAt, CopiedFrom, merged, Merges, MergedFrom}
+use Rattle.result_stack.specs.Stacks.{stackPaths, stackTries, trieWords, stacked, Layout, Held, Reached, Placed, TrieAt, TriesAt, CopiedFrom, Merges, MergedFrom}
 use Rattle.result_stack.specs.declared.Stack.{Stack}
 
 -- ---- what is judged of a result
@@ -373,16 +373,6 @@ pushed {tries} {stack} {results} paths held some-room few nodes p = record {
 
 -- ---- tries that are merged
 
-merged-length : (trie : List Row) (tries : List (List Row)) → length trie ≤ length (merged trie tries)
-unfolding merged
-merged-length trie [] = omega arith
-merged-length trie (next ∷ tries) = omega (arith, union-left-length trie next, merged-length (union trie next) tries)
-
-pub merged-trie : (trie : List Row) (tries : List (List Row)) → IsTrie trie → Each IsTrie tries → IsTrie (merged trie tries)
-unfolding merged Each
-merged-trie trie [] t good = t
-merged-trie trie (next ∷ tries) t good = merged-trie (union trie next) tries (union-trie trie next t (good .0)) (good .1)
-
 -- so many tries stand from a place on
 pub record Ready (words : List ℕ) (end left : ℕ) : Type 0 where
   pub tries : List (List Row)
@@ -398,7 +388,7 @@ pub record Left (words rest state : List ℕ) (tries : List (List Row)) (end lef
   pub as-many : length ahead ≡ left
   pub there : drop end words ≡ stacked ahead ++ rest
   pub good : Each IsTrie ahead
-  pub same : merged (rowsIn state) ahead ≡ merged [] tries
+  pub same : unionAll (rowsIn state) ahead ≡ unionAll [] tries
 
 abbrev pub Merging : List ℕ → ℕ → ℕ → List ℕ → ℕ → ℕ → Type 0
 Merging words place count state end i =
@@ -480,7 +470,7 @@ going-first words place count state t long zero = record {
     as-many = omega arith;
     there = there;
     good = good;
-    same = ap (λ (trie : List Row). merged trie tries) (ap rowsOf (no-words state zero));
+    same = ap (λ (trie : List Row). unionAll trie tries) (ap rowsOf (no-words state zero));
   };
 }
   where
@@ -511,7 +501,7 @@ module _ {words rest state state′ : List ℕ} {tries : List (List Row)} {end l
       → e ≡ end + 1 + getD words end 0
       → Became (union (rowsIn state) (rowsOf (take (getD words end 0) (drop (end + 1) words)))) state′ true
       → Left words rest state′ tries e (left - 1)
-  unfolding stacked Each merged
+  unfolding stacked Each unionAll
   left-next {e} ends b = go (l .ahead) (l .as-many) (l .there) (l .good) (l .same)
     where
       go :
@@ -519,7 +509,7 @@ module _ {words rest state state′ : List ℕ} {tries : List (List Row)} {end l
           → length ahead ≡ left
           → drop end words ≡ stacked ahead ++ rest
           → Each IsTrie ahead
-          → merged (rowsIn state) ahead ≡ merged [] tries
+          → unionAll (rowsIn state) ahead ≡ unionAll [] tries
           → Left words rest state′ tries e (left - 1)
       go [] many there good same = absurd (omega arith)
       go (trie ∷ ahead) many there good same =
@@ -537,8 +527,8 @@ module _ {words rest state state′ : List ℕ} {tries : List (List Row)} {end l
 
   left-over :
       Became (union (rowsIn state) (rowsOf (take (getD words end 0) (drop (end + 1) words)))) state′ false
-      → 1024 < length (merged [] tries)
-  unfolding stacked Each merged
+      → 1024 < length (unionAll [] tries)
+  unfolding stacked Each unionAll
   left-over b = go (l .ahead) (l .as-many) (l .there) (l .good) (l .same)
     where
       go :
@@ -546,8 +536,8 @@ module _ {words rest state state′ : List ℕ} {tries : List (List Row)} {end l
           → length ahead ≡ left
           → drop end words ≡ stacked ahead ++ rest
           → Each IsTrie ahead
-          → merged (rowsIn state) ahead ≡ merged [] tries
-          → 1024 < length (merged [] tries)
+          → unionAll (rowsIn state) ahead ≡ unionAll [] tries
+          → 1024 < length (unionAll [] tries)
       go [] many there good same = absurd (omega arith)
       go (trie ∷ ahead) many there good same =
           let here = there ∙ append-assoc (trieWords trie) (stacked ahead) rest in
@@ -558,7 +548,7 @@ module _ {words rest state state′ : List ℕ} {tries : List (List Row)} {end l
             arith,
             leb-false (length (union (rowsIn state) (rowsOf run))) 1024 (sym (b .judged)),
             ap length rows,
-            merged-length (union (rowsIn state) trie) ahead,
+            all-length (union (rowsIn state) trie) ahead,
             ap length same,
           )
 
@@ -614,7 +604,7 @@ pub going-done :
     → count ≤ i
     → Placed (trieWords (rowsIn state)) words end words′ start
     → MergedFrom words place count words′ start
-unfolding merged stacked
+unfolding unionAll stacked
 going-done {words} {state} {words′} {place} {count} {end} {i} {start} going all p tries rest many good there =
     let l = going .merging tries rest many good there in
     go (l .ahead) (l .as-many) (l .there) (l .same)
@@ -623,8 +613,8 @@ going-done {words} {state} {words′} {place} {count} {end} {i} {start} going al
         (ahead : List (List Row))
         → length ahead ≡ count - i
         → drop end words ≡ stacked ahead ++ rest
-        → merged (rowsIn state) ahead ≡ merged [] tries
-        → ((start ≡ length words) × (1024 < length (merged [] tries))) ⊎ Merges tries rest words words′ start
+        → unionAll (rowsIn state) ahead ≡ unionAll [] tries
+        → ((start ≡ length words) × (1024 < length (unionAll [] tries))) ⊎ Merges tries rest words words′ start
     go [] many there same = inr (record {
       fits = omega (arith, ap length same, state-count (going .is), going .is .few-rows);
       inside = omega (arith, p .starts, going .inside);

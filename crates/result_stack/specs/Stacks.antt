@@ -6,8 +6,8 @@ use mathlib.Core.Bool.{false}
 use mathlib.Core.List.{List, [], _∷_, _++_, map}
 use lib.ListN.{length, drop}
 use Rattle.rules.specs.Numbers.{Answer, accepted, refused}
-use Rattle.rules.specs.Tries.{Row, union}
-use Rattle.rules.specs.Paths.{Path, Paths, Empty, nodesOf, addPaths}
+use Rattle.rules.specs.Tries.{Row}
+use Rattle.rules.specs.Paths.{Path, Paths, Empty, nodesOf, unionAll, addPaths}
 use Rattle.rules.specs.Steps.{Result, result, judged}
 use Rattle.rules.specs.StepLaws.{Each, AllGood, IsTrie}
 use Rattle.rules.specs.TypeLaws.{markedLeaf}
@@ -93,11 +93,6 @@ abbrev pub CopiedFrom : List ℕ → ℕ → List ℕ → Type 0
 CopiedFrom words at state =
     IsState state × ((trie : List Row) (rest : List ℕ) → IsTrie trie → drop at words ≡ trieWords trie ++ rest → rowsIn state ≡ trie)
 
--- tries merged, one after the other
-unfoldable pub merged : List Row → List (List Row) → List Row
-merged trie [] = trie
-merged trie (next ∷ tries) = merged (union trie next) tries
-
 -- a result with an empty trie was pushed
 abbrev pub Pushed : List ℕ → List ℕ → List ℕ → Stack → List ℕ → List ℕ → Stepped → Type 0
 Pushed words code tries stack code′ tries′ r =
@@ -119,10 +114,10 @@ pub record TriesAt (words : List ℕ) (at count : ℕ) : Type 0 where
 
 -- they were merged into one that ends where they ended, or it has too many nodes
 pub record Merges (tries : List (List Row)) (rest words words′ : List ℕ) (start : ℕ) : Type 0 where
-  pub fits : length (merged [] tries) ≤ 1024
+  pub fits : length (unionAll [] tries) ≤ 1024
   pub inside : start < length words
   pub same-length : length words′ ≡ length words
-  pub there : drop start words′ ≡ trieWords (merged [] tries) ++ rest
+  pub there : drop start words′ ≡ trieWords (unionAll [] tries) ++ rest
 
 abbrev pub MergedFrom : List ℕ → ℕ → ℕ → List ℕ → ℕ → Type 0
 MergedFrom words at count words′ start =
@@ -130,13 +125,13 @@ MergedFrom words at count words′ start =
     → length tries ≡ count
     → Each IsTrie tries
     → drop at words ≡ stacked tries ++ rest
-    → ((start ≡ length words) × (1024 < length (merged [] tries))) ⊎ Merges tries rest words words′ start
+    → ((start ≡ length words) × (1024 < length (unionAll [] tries))) ⊎ Merges tries rest words words′ start
 
 -- the top results were wrapped under a head
 pub record Wraps (head : List ℕ) (taken : List Result) (wrapping : Result) : Type 0 where
   pub coded : codeOf (wrapping .paths) ≡ head ++ codes (stackPaths taken)
   pub nodes : nodesOf (wrapping .paths) ≡ suc (nodesOfAll (stackPaths taken))
-  pub tries : wrapping .trie ≡ merged [] (stackTries taken)
+  pub tries : wrapping .trie ≡ unionAll [] (stackTries taken)
 
 abbrev pub WrapsBy : List ℕ → ℕ → List ℕ → List ℕ → Stack → List ℕ → List ℕ → Stepped → Type 0
 WrapsBy head count code tries stack code′ tries′ r =

@@ -85,14 +85,7 @@ pub capped-min : (most n : ℕ) → capped most n ≡ min most n
 unfolding capped
 capped-min most n = compared n most (λ h. simp (lt-ltb, min-eq-right, le-of-lt h)) (λ h. simp (le-ltb, min-eq-left))
 
--- a number is above a limit exactly where its count, stopped past the limit, is
-pub capped-above : (most n : ℕ) → ltb most (capped (suc most) n) ≡ ltb most n
-capped-above most n =
-    compared most n
-    (λ h. rw (capped-min, lt-ltb most n) (lt-ltb most (min (suc most) n) (omega arith)))
-    (λ h. rw (capped-min, le-ltb most n) (le-ltb most (min (suc most) n) (omega arith)))
-
--- and so with something added
+-- a sum is above a limit exactly where it is with a count that stops past the limit
 pub capped-sum-above : (most a n : ℕ) → ltb most (a + capped (suc most) n) ≡ ltb most (a + n)
 capped-sum-above most a n =
     compared most (a + n)

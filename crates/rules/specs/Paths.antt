@@ -2,7 +2,7 @@
 -- A trie here is a run of nodes, without an entry in front.
 use Prim.Native.Nat.{ℕ, zero, suc, _+_}
 use mathlib.Core.Bool.{Bool, true, false, cond, not, _&&_}
-use mathlib.Core.List.{List, [], _∷_, _++_}
+use mathlib.Core.List.{List, [], _∷_, _++_, map}
 use mathlib.Core.Option.{Option, none, some}
 use lib.Dec.{eqb}
 use lib.ListN.{length}
@@ -106,10 +106,17 @@ toRootAccessTrieWithLeaf path leaf =
 abbrev pub addAccessPath : List Row → Path → Leaf → List Row
 addAccessPath trie path leaf = union trie (toRootAccessTrieWithLeaf path leaf)
 
--- `add_wrapped_access_paths`, over the paths in it
-unfoldable pub addPaths : List Row → List Path → Leaf → List Row
-addPaths trie [] leaf = trie
-addPaths trie (path ∷ paths) leaf = addPaths (addAccessPath trie path leaf) paths leaf
+-- tries that are added to one, one after the other
+unfoldable pub unionAll : List Row → List (List Row) → List Row
+unionAll trie [] = trie
+unionAll trie (more ∷ tries) = unionAll (union trie more) tries
+
+-- `add_wrapped_access_paths`, over the paths in it: the trie of each with the leaf is added
+abbrev pub pathTries : List Path → Leaf → List (List Row)
+pathTries paths leaf = map (λ path. toRootAccessTrieWithLeaf path leaf) paths
+
+abbrev pub addPaths : List Row → List Path → Leaf → List Row
+addPaths trie paths leaf = unionAll trie (pathTries paths leaf)
 
 -- `to_ancestor_access_trie`: 'each leaf marked'
 abbrev pub toAncestorAccessTrie : Paths → List Row
@@ -183,6 +190,8 @@ unfoldable mutual
       ]
 
 -- 'A path takes the trie of t as leaf'
-unfoldable pub addTaken : List Item → List Row → List Taken → List Row
-addTaken items trie [] = trie
-addTaken items trie (taken ∷ more) = addTaken items (addAccessPath trie (taken .path) (typeToAccessTrie items (taken .type))) more
+abbrev pub takenTries : List Item → List Taken → List (List Row)
+takenTries items taken = map (λ one. toRootAccessTrieWithLeaf (one .path) (typeToAccessTrie items (one .type))) taken
+
+abbrev pub addTaken : List Item → List Row → List Taken → List Row
+addTaken items trie taken = unionAll trie (takenTries items taken)

@@ -23,7 +23,7 @@ use Rattle.rules.specs.Paths.{
   deeper,
   chain,
   toRootAccessTrieWithLeaf,
-  addPaths,
+  unionAll,
 }
 use Rattle.rules.specs.Lines.{Folded, foldLines}
 use Rattle.rules.specs.Steps.{Result, result, stepFrom, wrapped, isTooDeep, apply, run, analyse}
@@ -121,5 +121,5 @@ cases =
 
 -- Every case comes out as the table says.
 pub starred : map (λ case. outcome (case .texts)) cases ≡ cases
-unfolding parted numberFrom decimalUpTo decimalIn sameList union unionOnto next ordered count listing lineOf placeIn build ascending pathsIn nodesOf fieldOf getOrHasAttr deeper chain toRootAccessTrieWithLeaf addPaths stepFrom wrapped isTooDeep apply foldLines
+unfolding parted numberFrom decimalUpTo decimalIn sameList union unionOnto next ordered count listing lineOf placeIn build ascending pathsIn nodesOf fieldOf getOrHasAttr deeper chain toRootAccessTrieWithLeaf unionAll stepFrom wrapped isTooDeep apply foldLines
 starred = refl

@@ -75,6 +75,8 @@ use Rattle.rules.specs.Paths.{
   chain,
   isEmptyLeaf,
   toRootAccessTrieWithLeaf,
+  unionAll,
+  pathTries,
   addPaths,
   toAncestorAccessTrie,
   attributesAt,
@@ -88,6 +90,7 @@ use Rattle.rules.specs.Paths.{
   hasAll,
   fullTypeRequired,
   fieldsRequired,
+  takenTries,
   addTaken,
 }
 use Rattle.rules.specs.Steps.{
@@ -204,18 +207,6 @@ Below least s (row ∷ rows) =
 -- a leaf whose rows may stand below any node
 pub record GoodLeaf (leaf : Leaf) : Type 0 where
   pub in-order : Below 1 (0 ∷ []) (leaf .below)
-
--- the tries of paths with a leaf, and those of paths with the types that they take
-abbrev pub triesOf : List Path → Leaf → List (List Row)
-triesOf paths leaf = map (λ path. toRootAccessTrieWithLeaf path leaf) paths
-
-abbrev pub triesOfTaken : List Item → List Taken → List (List Row)
-triesOfTaken items taken = map (λ one. toRootAccessTrieWithLeaf (one .path) (typeToAccessTrie items (one .type))) taken
-
--- tries that are added one after the other to one
-unfoldable pub unionAll : List Row → List (List Row) → List Row
-unionAll trie [] = trie
-unionAll trie (more ∷ tries) = unionAll (union trie more) tries
 
 -- whether one of some tries is too deep
 unfoldable pub anyTooDeep : List (List Row) → Bool
@@ -343,48 +334,17 @@ step-good (word ∷ name ∷ more ∷ names) step e =
 
 -- What is too deep.
 
--- paths that go into a trie are tries that are added to it
-pub add-paths-all : (trie : List Row) (paths : List Path) (leaf : Leaf) → addPaths trie paths leaf ≡ unionAll trie (triesOf paths leaf)
-unfolding addPaths unionAll
-add-paths-all trie [] leaf = refl
-add-paths-all trie (path ∷ paths) leaf = add-paths-all (union trie (toRootAccessTrieWithLeaf path leaf)) paths leaf
-
-pub add-taken-all :
-    (items : List Item) (trie : List Row) (taken : List Taken) → addTaken items trie taken ≡ unionAll trie (triesOfTaken items taken)
-unfolding addTaken unionAll
-add-taken-all items trie [] = refl
-add-taken-all items trie (one ∷ taken) =
-    add-taken-all items (union trie (toRootAccessTrieWithLeaf (one .path) (typeToAccessTrie items (one .type)))) taken
-
--- tries that are added take no row away, and are too deep exactly where one of them is
-all-length : (trie : List Row) (tries : List (List Row)) → length trie ≤ length (unionAll trie tries)
+-- Tries that are added to one take no row from it, and what comes of it is too deep exactly where one of them is.
+pub all-length : (trie : List Row) (tries : List (List Row)) → length trie ≤ length (unionAll trie tries)
 unfolding unionAll
 all-length trie [] = omega arith
 all-length trie (more ∷ tries) = omega (arith, union-left-length trie more, all-length (union trie more) tries)
 
-all-deep : (trie : List Row) (tries : List (List Row)) → isTooDeep (unionAll trie tries) ≡ (isTooDeep trie || anyTooDeep tries)
+pub all-deep : (trie : List Row) (tries : List (List Row)) → isTooDeep (unionAll trie tries) ≡ (isTooDeep trie || anyTooDeep tries)
 unfolding unionAll anyTooDeep
 all-deep trie [] = rw or-false
 all-deep trie (more ∷ tries) =
     rw (all-deep (union trie more) tries, union-too-deep trie more) (or-assoc (isTooDeep trie) (isTooDeep more) (anyTooDeep tries))
-
--- Paths that go into a trie take no row from it.
-pub add-paths-length : (trie : List Row) (paths : List Path) (leaf : Leaf) → length trie ≤ length (addPaths trie paths leaf)
-add-paths-length trie paths leaf = rw (add-paths-all trie paths leaf) (all-length trie (triesOf paths leaf))
-
-pub add-taken-length : (items : List Item) (trie : List Row) (taken : List Taken) → length trie ≤ length (addTaken items trie taken)
-add-taken-length items trie taken = rw (add-taken-all items trie taken) (all-length trie (triesOfTaken items taken))
-
--- What comes of it is too deep exactly where the trie is, or that of one of the paths with its leaf.
-pub add-paths-deep :
-    (trie : List Row) (paths : List Path) (leaf : Leaf)
-    → isTooDeep (addPaths trie paths leaf) ≡ (isTooDeep trie || anyTooDeep (triesOf paths leaf))
-add-paths-deep trie paths leaf = rw (add-paths-all trie paths leaf) (all-deep trie (triesOf paths leaf))
-
-pub add-taken-deep :
-    (items : List Item) (trie : List Row) (taken : List Taken)
-    → isTooDeep (addTaken items trie taken) ≡ (isTooDeep trie || anyTooDeep (triesOfTaken items taken))
-add-taken-deep items trie taken = rw (add-taken-all items trie taken) (all-deep trie (triesOfTaken items taken))
 
 -- Unions of tries.
 
@@ -786,15 +746,15 @@ type-leaf items good t = record { in-order = type-below items good (suc t) t }
 -- Paths that go into a trie.
 
 -- the tries of paths
-short-tries : (paths : List Path) (mark : Bool) → AllPaths paths → Each IsTrie (triesOf paths (record { mark = mark; below = [] }))
+short-tries : (paths : List Path) (mark : Bool) → AllPaths paths → Each IsTrie (pathTries paths (record { mark = mark; below = [] }))
 short-tries paths mark ps =
     each-map IsPath IsTrie (λ path. toRootAccessTrieWithLeaf path (record { mark = mark; below = [] })) (λ path p. short-trie path mark p) paths ps
 
 -- tries that are added to one give a trie
-tries-trie : (tries : List (List Row)) (trie : List Row) → IsTrie trie → Each IsTrie tries → IsTrie (unionAll trie tries)
+pub tries-trie : (trie : List Row) (tries : List (List Row)) → IsTrie trie → Each IsTrie tries → IsTrie (unionAll trie tries)
 unfolding unionAll Each
-tries-trie [] trie t ts = t
-tries-trie (more ∷ tries) trie t ts = tries-trie tries (union trie more) (union-trie trie more t (ts .0)) (ts .1)
+tries-trie trie [] t ts = t
+tries-trie trie (more ∷ tries) t ts = tries-trie (union trie more) tries (union-trie trie more t (ts .0)) (ts .1)
 
 -- Paths that go into a trie with nothing below their last nodes give a trie.
 pub paths-trie :
@@ -802,8 +762,7 @@ pub paths-trie :
     → IsTrie trie
     → AllPaths paths
     → IsTrie (addPaths trie paths (record { mark = mark; below = [] }))
-paths-trie trie paths mark t ps =
-    rw (add-paths-all trie paths (record { mark = mark; below = [] })) (tries-trie _ trie t (short-tries paths mark ps))
+paths-trie trie paths mark t ps = tries-trie trie _ t (short-tries paths mark ps)
 
 -- So do those with a good leaf, if that is not too deep.
 pub leaves-trie :
@@ -814,10 +773,9 @@ pub leaves-trie :
     → isTooDeep (addPaths trie paths leaf) ≡ false
     → IsTrie (addPaths trie paths leaf)
 leaves-trie trie paths leaf t ps good shallow =
-    rw (add-paths-all trie paths leaf)
-    (all-trie (triesOf paths leaf) trie t
+    all-trie (pathTries paths leaf) trie t
     (each-map IsPath _ (λ path. toRootAccessTrieWithLeaf path leaf) (λ path p. path-trie path leaf (p .steps) good) paths ps)
-    (rw (add-paths-all trie paths leaf) at shallow))
+    shallow
 
 -- And so do those with the types that they take.
 pub taken-trie :
@@ -828,17 +786,16 @@ pub taken-trie :
     → isTooDeep (addTaken items trie taken) ≡ false
     → IsTrie (addTaken items trie taken)
 taken-trie items trie taken good t ps shallow =
-    rw (add-taken-all items trie taken)
-    (all-trie (triesOfTaken items taken) trie t
+    all-trie (takenTries items taken) trie t
     (each-map (λ one. IsPath (one .path)) _ (λ one. toRootAccessTrieWithLeaf (one .path) (typeToAccessTrie items (one .type)))
     (λ one p. path-trie (one .path) (typeToAccessTrie items (one .type)) (p .steps) (type-leaf items good (one .type))) taken ps)
-    (rw (add-taken-all items trie taken) at shallow))
+    shallow
 
 -- paths that are absorbed add nothing
 pub add-absorbed : (trie : List Row) (paths : List Path) → AllAbsorbed trie paths → addPaths trie paths emptyLeaf ≡ trie
-unfolding addPaths Each
+unfolding unionAll Each
 add-absorbed trie [] h = refl
-add-absorbed trie (path ∷ paths) h = rw (h .0) (add-absorbed trie paths (h .1))
+add-absorbed trie (path ∷ paths) h = ap (λ (rows : List Row). addPaths rows paths emptyLeaf) (h .0) ∙ add-absorbed trie paths (h .1)
 
 -- a trie that keeps what another has taken in absorbs the paths that the other absorbs
 absorbed-by :
@@ -862,20 +819,18 @@ pub still-absorbed :
     → AllAbsorbed trie paths
     → AllAbsorbed (addPaths trie more emptyLeaf) paths
 still-absorbed trie more paths t ms ps h =
-    rw (add-paths-all trie more emptyLeaf)
-    (absorbed-by trie _ (λ added a e. keeps-all (triesOf more emptyLeaf) trie added t a (short-tries more false ms) e) paths ps h)
+    absorbed-by trie _ (λ added a e. keeps-all (pathTries more emptyLeaf) trie added t a (short-tries more false ms) e) paths ps h
 
 -- and it absorbs them too
 pub added-absorbed :
     (paths : List Path) (trie : List Row) → IsTrie trie → AllPaths paths → AllAbsorbed (addPaths trie paths emptyLeaf) paths
-unfolding addPaths Each
+unfolding unionAll Each
 added-absorbed [] trie t ps = tt
 added-absorbed (path ∷ paths) trie t ps =
     let own : List Row = toRootAccessTrieWithLeaf path emptyLeaf in
     let o : IsTrie own = short-trie path false (ps .0) in
     let with-own : IsTrie (union trie own) = union-trie trie own t o in (
-      rw (add-paths-all (union trie own) paths emptyLeaf)
-          (keeps-all (triesOf paths emptyLeaf) (union trie own) own with-own o (short-tries paths false (ps .1)) (takes-added trie own t o)),
+      keeps-all (pathTries paths emptyLeaf) (union trie own) own with-own o (short-tries paths false (ps .1)) (takes-added trie own t o),
       added-absorbed paths (union trie own) with-own (ps .1),
     )
 
@@ -937,7 +892,7 @@ grown-stepped (first ∷ fields) f small h = (h .0, each-append (λ f. f < 65536
 -- paths that are added after others
 pub add-append :
     (xs ys : List Path) (trie : List Row) (leaf : Leaf) → addPaths trie (xs ++ ys) leaf ≡ addPaths (addPaths trie xs leaf) ys leaf
-unfolding addPaths
+unfolding unionAll
 add-append [] ys trie leaf = refl
 add-append (x ∷ xs) ys trie leaf = add-append xs ys (union trie (toRootAccessTrieWithLeaf x leaf)) leaf
 
@@ -950,7 +905,7 @@ grown-added :
     → AllPaths (grownIn f paths)
     → getOrHasAttr f paths ≡ some after
     → addPaths trie (pathsIn after) emptyLeaf ≡ addPaths trie (grownIn f paths) emptyLeaf
-unfolding getOrHasAttr pathsIn grownIn addPaths
+unfolding getOrHasAttr pathsIn grownIn unionAll
 grown-added f Empty after trie t ps absorbed gs e = rw (← Option·some-injective Empty after e)
 grown-added f (AccessPath path) after trie t ps absorbed gs e =
     rw (← Option·some-injective (AccessPath (path ++ (f ∷ []))) after e)
@@ -1007,15 +962,15 @@ grown-paths f (RecordLiteral fields) small ps short = tt
 grown-paths f (SetLiteral elements) small ps short = tt
 
 -- one of two lists of tries has one that is too deep
-any-append : (xs ys : List Path) (leaf : Leaf) → anyTooDeep (triesOf (xs ++ ys) leaf) ≡ (anyTooDeep (triesOf xs leaf) || anyTooDeep (triesOf ys leaf))
+any-append : (xs ys : List Path) (leaf : Leaf) → anyTooDeep (pathTries (xs ++ ys) leaf) ≡ (anyTooDeep (pathTries xs leaf) || anyTooDeep (pathTries ys leaf))
 unfolding anyTooDeep
 any-append [] ys leaf = refl
 any-append (x ∷ xs) ys leaf =
     rw (any-append xs ys leaf)
-    (sym (or-assoc (isTooDeep (toRootAccessTrieWithLeaf x leaf)) (anyTooDeep (triesOf xs leaf)) (anyTooDeep (triesOf ys leaf))))
+    (sym (or-assoc (isTooDeep (toRootAccessTrieWithLeaf x leaf)) (anyTooDeep (pathTries xs leaf)) (anyTooDeep (pathTries ys leaf))))
 
 -- the trie of a path of at most 24 steps is not too deep
-none-deep : (paths : List Path) → AllPaths paths → anyTooDeep (triesOf paths emptyLeaf) ≡ false
+none-deep : (paths : List Path) → AllPaths paths → anyTooDeep (pathTries paths emptyLeaf) ≡ false
 unfolding anyTooDeep Each
 none-deep [] ps = refl
 none-deep (path ∷ paths) ps = rw (trie-shallow _ (short-trie path false (ps .0))) (none-deep paths (ps .1))
@@ -1025,7 +980,7 @@ grown-deep :
     (f : ℕ) (paths after : Paths)
     → AllPaths (pathsIn paths)
     → getOrHasAttr f paths ≡ some after
-    → anyTooDeep (triesOf (pathsIn after) emptyLeaf) ≡ anyTooDeep (triesOf (grownIn f paths) emptyLeaf)
+    → anyTooDeep (pathTries (pathsIn after) emptyLeaf) ≡ anyTooDeep (pathTries (grownIn f paths) emptyLeaf)
 unfolding getOrHasAttr pathsIn grownIn anyTooDeep
 grown-deep f Empty after ps e = rw (← Option·some-injective Empty after e)
 grown-deep f (AccessPath path) after ps e = rw (← Option·some-injective (AccessPath (path ++ (f ∷ []))) after e)
@@ -1050,9 +1005,9 @@ pub attr-deep :
     (r : Result) (f : ℕ) (after : Paths)
     → GoodResult r
     → getOrHasAttr f (r .paths) ≡ some after
-    → isTooDeep (addPaths (r .trie) (pathsIn after) emptyLeaf) ≡ anyTooDeep (triesOf (grownIn f (r .paths)) emptyLeaf)
+    → isTooDeep (addPaths (r .trie) (pathsIn after) emptyLeaf) ≡ anyTooDeep (pathTries (grownIn f (r .paths)) emptyLeaf)
 attr-deep r f after good e =
-    add-paths-deep (r .trie) (pathsIn after) emptyLeaf
+    all-deep (r .trie) (pathTries (pathsIn after) emptyLeaf)
     ∙ rw (trie-shallow (r .trie) (good .good-trie)) (grown-deep f (r .paths) after (good .good-paths) e)
 
 -- Types that paths take.
@@ -1172,7 +1127,7 @@ root-good r h j =
     }
 
 -- paths whose tries are not too deep
-short-paths : (paths : List Path) (leaf : Leaf) → Each Stepped paths → anyTooDeep (triesOf paths leaf) ≡ false → AllPaths paths
+short-paths : (paths : List Path) (leaf : Leaf) → Each Stepped paths → anyTooDeep (pathTries paths leaf) ≡ false → AllPaths paths
 unfolding Each anyTooDeep
 short-paths [] leaf steps shallow = tt
 short-paths (path ∷ paths) leaf steps shallow =
@@ -1191,7 +1146,7 @@ attr-good top f paths good small e j =
     let steps : Each Stepped (pathsIn paths) =
     attr-each IsPath Stepped f (λ path p. grown-stepped path f small (p .steps)) (λ path p. p .steps) (top .paths) paths (good .good-paths) e
     in
-    let shallow = or-neither (isTooDeep (top .trie)) _ (sym (add-paths-deep (top .trie) (pathsIn paths) emptyLeaf) ∙ j .shallow) .1 in
+    let shallow = or-neither (isTooDeep (top .trie)) _ (sym (all-deep (top .trie) (pathTries (pathsIn paths) emptyLeaf)) ∙ j .shallow) .1 in
     let ps : AllPaths (pathsIn paths) = short-paths (pathsIn paths) emptyLeaf steps shallow in
     record {
       few-nodes = j .few-nodes;

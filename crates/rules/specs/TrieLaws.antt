@@ -611,7 +611,7 @@ isNode row = not (isEntry row)
 local-node : Local isNode
 local-node x y d e = rw d
 
--- A union has at least the rows, the entries and the nodes of each of the two, and at most those of both together.
+-- A union has at least the rows of each of the two, and at most the rows, the entries and the nodes of both together.
 module _ (a b : List Row) where
   lengths : Bounds (length a) (length b) (length (union a b))
   lengths = simp count-all at (union-count always local-always a b)
@@ -625,20 +625,8 @@ module _ (a b : List Row) where
   pub union-sum-length : length (union a b) ≤ length a + length b
   union-sum-length = lengths .sum-bound
 
-  pub union-left-entries : entriesIn a ≤ entriesIn (union a b)
-  union-left-entries = union-count isEntry local-entry a b .left-bound
-
-  pub union-right-entries : entriesIn b ≤ entriesIn (union a b)
-  union-right-entries = union-count isEntry local-entry a b .right-bound
-
   pub union-sum-entries : entriesIn (union a b) ≤ entriesIn a + entriesIn b
   union-sum-entries = union-count isEntry local-entry a b .sum-bound
-
-  pub union-left-nodes : nodesIn a ≤ nodesIn (union a b)
-  union-left-nodes = union-count isNode local-node a b .left-bound
-
-  pub union-right-nodes : nodesIn b ≤ nodesIn (union a b)
-  union-right-nodes = union-count isNode local-node a b .right-bound
 
   pub union-sum-nodes : nodesIn (union a b) ≤ nodesIn a + nodesIn b
   union-sum-nodes = union-count isNode local-node a b .sum-bound

@@ -2,19 +2,17 @@
 -- and the types of fields.
 use Prim.Native.Nat.{ℕ, zero, suc, _+_, _≤_, _<_}
 use native.Mathlib.Omega.{arith}
-use native.Mathlib.Nat.{le-refl}
 use mathlib.Core.Path.{_≡_, refl, sym, ap, _∙_}
 use mathlib.Core.Bool.{Bool, true, false, cond, not, _&&_, _||_, and-eq-true-iff}
 use mathlib.Core.Option.{none, some, Option·none-ne-some}
 use mathlib.Core.Logic.{inl, inr}
-use mathlib.Core.List.{List, [], _∷_, _++_, append-assoc, append-nil, List·Memᴰ as Member, List·Memᴰ·not-nil as none-in-empty, List·Memᴰ·cases-cons as here-or-later}
+use mathlib.Core.List.{List, [], _∷_, _++_, append-assoc, List·Memᴰ as Member, List·Memᴰ·not-nil as none-in-empty, List·Memᴰ·cases-cons as here-or-later}
 use lib.Dec.{leb, ltb, eqb}
 use lib.ListN.{length, take, length-append}
 use borrow.Author.Tests.{ltb-true, leb-true, eqb-true, eqb-false, le-ltb, le-leb, lt-leb, eq-eqb, ne-eqb}
 use Rattle.rules.specs.Facts.{by-test, compared, cond-true, larger, capped, larger-max, capped-min, larger-above}
 use Rattle.rules.specs.Tries.{Row, union}
 use Rattle.rules.specs.TrieLaws.{Turns, no-left, no-right, left, right, both, union-turns}
-use Rattle.rules.specs.Listing.{read}
 use Rattle.rules.specs.Schema.{
   Item,
   setType,
@@ -42,6 +40,7 @@ use Rattle.rules.specs.Paths.{
   chain,
   toRootAccessTrieWithLeaf,
   addAccessPath,
+  unionAll,
   addPaths,
   childrenOf,
   typeBelow,
@@ -91,13 +90,6 @@ unfolding childrenOf
 children-append g [] ys = refl
 children-append g (a ∷ xs) ys = rw (children-append g xs ys, append-assoc)
 
--- an attribute gives its node, and below it the rows of its type
-pub children-cons :
-    (g : ℕ → List Row) (a : Item) (more : List Item)
-    → childrenOf g (a ∷ more) ≡ read 1 (a .key) false ∷ (deeper 1 (g (a .value)) ++ childrenOf g more)
-unfolding childrenOf
-children-cons g a more = refl
-
 -- How deep rows go.
 
 -- the depth of the deepest, and 0 where there is none
@@ -116,20 +108,11 @@ unfolding deepest
 deepest-append [] ys = simp larger-max (omega arith)
 deepest-append (row ∷ xs) ys = rw (deepest-append xs ys) (simp larger-max (omega arith))
 
--- rows that go deeper are so much deeper, if there are any, and never more than that
+-- rows that go deeper are so much deeper, if there are any
 first-deeper : (n : ℕ) (row : Row) (rows : List Row) → deepest (deeper n (row ∷ rows)) ≡ n + deepest (row ∷ rows)
 unfolding deepest deeper
 first-deeper n row [] = simp larger-max (omega arith)
 first-deeper n row (next ∷ rows) = rw (first-deeper n next rows) (simp larger-max (omega arith))
-
-pub deepest-deeper : (n : ℕ) (rows : List Row) → 0 < length rows → deepest (deeper n rows) ≡ n + deepest rows
-deepest-deeper n [] some-row = absurd (omega arith)
-deepest-deeper n (row ∷ rows) some-row = first-deeper n row rows
-
-pub deepest-deeper-most : (n : ℕ) (rows : List Row) → deepest (deeper n rows) ≤ n + deepest rows
-unfolding deepest deeper
-deepest-deeper-most n [] = omega arith
-deepest-deeper-most n (row ∷ rows) = omega (arith, first-deeper n row rows)
 
 -- below something that is as deep as the step to them, rows go as deep as they go, with that step
 pub deepest-below : (n : ℕ) (rows : List Row) → larger n (deepest (deeper n rows)) ≡ n + deepest rows
@@ -510,11 +493,6 @@ module _ (items : List Item) (lawful : lawfulItems unknown items ≡ true) where
   pub type-missing : (t : ℕ) → typesIn items ≤ t → fromType t items ≡ none
   type-missing t h = missing unknown items t sound-unknown lawful (omega arith)
 
-  -- so what is found of a number is a type's line and what follows it
-  pub type-known : (t : ℕ) (lines : List Item) → fromType t items ≡ some lines → t < typesIn items
-  type-known t lines found =
-      compared t (typesIn items) (λ h. h) (λ h. absurd (Option·none-ne-some lines (sym (type-missing t h) ∙ found)))
-
 -- A type's line and its attributes.
 
 -- attributes with strictly ascending fields, the first at least `least`
@@ -772,7 +750,7 @@ marked-deepest (step ∷ steps) =
 pub added-deepest :
     (trie : List Row) (paths : List Path)
     → deepest (addPaths trie paths markedLeaf) ≡ larger (deepest trie) (longest paths)
-unfolding addPaths longest
+unfolding unionAll longest
 added-deepest trie [] = simp larger-max (omega arith)
 added-deepest trie (path ∷ paths) =
     rw (added-deepest (addAccessPath trie path markedLeaf) paths, union-deepest, marked-deepest path)
@@ -784,83 +762,13 @@ ancestor-deep paths = rw (added-deepest [] paths) (simp larger-max (omega arith)
 
 -- Literals against types.
 
--- attributes that ascend from a number ascend from a smaller one, and so do those behind others
-pub ascends-from : (least less : ℕ) (attributes : List Item) → less ≤ least → Ascends least attributes → Ascends less attributes
-unfolding Ascends
-ascends-from least less [] h ascends = tt
-ascends-from least less (a ∷ more) h ascends = (omega arith, ascends .1)
-
-pub ascends-rest :
-    (least : ℕ) (front : List Item) (a : Item) (rest : List Item)
-    → Ascends least (front ++ (a ∷ rest))
-    → (least ≤ a .key) × Ascends (a .key + 1) rest
-unfolding Ascends
-ascends-rest least [] a rest ascends = ascends
-ascends-rest least (x ∷ front) a rest ascends =
-    let (above, more) = ascends-rest (x .key + 1) front a rest (ascends .1) in
-    (omega arith, more)
-
--- attributes all of fields below f
-unfoldable pub FieldsBelow : ℕ → List Item → Type 0
-FieldsBelow f [] = Unit
-FieldsBelow f (a ∷ more) = (a .key < f) × FieldsBelow f more
-
--- those before one that ascend with it
-pub fields-before :
-    (least : ℕ) (front : List Item) (a : Item) (rest : List Item)
-    → Ascends least (front ++ (a ∷ rest))
-    → FieldsBelow (a .key) front
-unfolding Ascends FieldsBelow
-fields-before least [] a rest ascends = tt
-fields-before least (x ∷ front) a rest ascends =
-    (omega (arith, ascends-rest (x .key + 1) front a rest (ascends .1) .0), fields-before (x .key + 1) front a rest (ascends .1))
-
--- attributes of fields below f do not give f
-pub attribute-later :
-    (f : ℕ) (front rest : List Item) → FieldsBelow f front → attributeType f (front ++ rest) ≡ attributeType f rest
-unfolding attributeType FieldsBelow
-attribute-later f [] rest below = refl
-attribute-later f (x ∷ front) rest below =
-    let other : x .key ≡ f → ⊥ = λ e. omega arith in
-    rw (ne-eqb (x .key) f other) (attribute-later f front rest (below .1))
-
--- nor do those that ascend from past f
+-- attributes that ascend from past f do not give f
 pub attribute-past : (f least : ℕ) (attributes : List Item) → f < least → Ascends least attributes → attributeType f attributes ≡ none
 unfolding attributeType Ascends
 attribute-past f least [] past ascends = refl
 attribute-past f least (a ∷ more) past ascends =
     let other : a .key ≡ f → ⊥ = λ e. omega arith in
     rw (ne-eqb (a .key) f other) (attribute-past f (a .key + 1) more (omega arith) (ascends .1))
-
--- an attribute of field f gives its type
-pub attribute-here : (f : ℕ) (a : Item) (rest : List Item) → a .key ≡ f → attributeType f (a ∷ rest) ≡ some (a .value)
-unfolding attributeType
-attribute-here f a rest e = rw (eq-eqb (a .key) f e)
-
--- so among ascending attributes the one of field f gives its type, wherever it stands
-pub attribute-found :
-    (f least : ℕ) (front : List Item) (a : Item) (rest : List Item)
-    → Ascends least (front ++ (a ∷ rest))
-    → a .key ≡ f
-    → attributeType f (front ++ (a ∷ rest)) ≡ some (a .value)
-attribute-found f least front a rest ascends e =
-    attribute-later f front (a ∷ rest) (rw e at (fields-before least front a rest ascends)) ∙ attribute-here f a rest e
-
--- and none does where the first that is not below f is past it, or there is no such
-pub attribute-missing :
-    (f least : ℕ) (front : List Item) (a : Item) (rest : List Item)
-    → Ascends least (front ++ (a ∷ rest))
-    → FieldsBelow f front
-    → f < a .key
-    → attributeType f (front ++ (a ∷ rest)) ≡ none
-unfolding Ascends
-attribute-missing f least front a rest ascends below past =
-    attribute-later f front (a ∷ rest) below
-    ∙ attribute-past f (a .key) (a ∷ rest) past (le-refl (a .key), ascends-rest least front a rest ascends .1)
-
-pub attribute-none : (f : ℕ) (attributes : List Item) → FieldsBelow f attributes → attributeType f attributes ≡ none
-unfolding attributeType
-attribute-none f attributes below = rw (← append-nil attributes) (attribute-later f attributes [] below)
 
 -- where attributes give field f the type v: at one of that field and type
 pub record AttributeAt (f v : ℕ) (attributes : List Item) : Type 0 where

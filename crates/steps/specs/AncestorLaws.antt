@@ -11,9 +11,9 @@ use Rattle.rules.specs.Facts.{by-test, larger-max}
 use Rattle.rules.specs.Numbers.{refused}
 use Rattle.rules.specs.Tries.{isStep, union}
 use Rattle.rules.specs.TrieLaws.{node-step, union-left-length, union-right-length}
-use Rattle.rules.specs.Paths.{Path, Leaf, pathsIn, nodesOf, toRootAccessTrieWithLeaf, addPaths}
+use Rattle.rules.specs.Paths.{Path, Leaf, pathsIn, nodesOf, toRootAccessTrieWithLeaf, unionAll, pathTries, addPaths}
 use Rattle.rules.specs.Steps.{Result, twoStep, inResult}
-use Rattle.rules.specs.StepLaws.{add-paths-length, add-paths-deep, Each, AllPaths, trie-shallow}
+use Rattle.rules.specs.StepLaws.{all-length, all-deep, Each, AllPaths, trie-shallow}
 use Rattle.rules.specs.TypeLaws.{deepest, union-too-deep, path-length, longest, markedLeaf, ancestor-deep, isNoTrie}
 use Rattle.rows.specs.Words.{depthIn, stepIn, rowIn, isWord}
 use Rattle.rows.specs.WordLaws.{is-row}
@@ -84,7 +84,7 @@ pub ancestors-none :
     → IsState state
     → left ≡ []
     → Became (ancestorsRequired (rowsIn state) left right) state true
-unfolding addPaths
+unfolding unionAll
 ancestors-none left right is e = rw e (as-it-was is)
 
 module _ (left right : List Path) {ancestors : List ℕ} {fits : Bool} (b : Became (addPaths (rowsIn (replicate 1026 0)) right markedLeaf) ancestors fits) where
@@ -95,7 +95,7 @@ module _ (left right : List Path) {ancestors : List ℕ} {fits : Bool} (b : Beca
       → 0 < length left
       → fits ≡ false
       → Became (ancestorsRequired (rowsIn state) left right) state false
-  unfolding addPaths
+  unfolding unionAll
   ancestors-over {state} is some-left over = record {
     judged = sym (lt-leb (length (ancestorsRequired (rowsIn state) left right)) 1024 (go left some-left));
     still = is;
@@ -119,7 +119,7 @@ module _ (left right : List Path) {ancestors : List ℕ} {fits : Bool} (b : Beca
             many,
             rows,
             union-right-length (rowsIn state) (toRootAccessTrieWithLeaf path (ancestorsLeaf right)),
-            add-paths-length (union (rowsIn state) (toRootAccessTrieWithLeaf path (ancestorsLeaf right))) more (ancestorsLeaf right),
+            all-length (union (rowsIn state) (toRootAccessTrieWithLeaf path (ancestorsLeaf right))) (pathTries more (ancestorsLeaf right)),
           )
 
   -- they fit below paths that are not too deep with them
@@ -159,7 +159,7 @@ module _ {codeRun tries : List ℕ} {stack : Stack} {right left : Result} {rest 
           ∙ rw (
             trie-shallow (right .trie) (top-good held .good-trie),
             or-false,
-            add-paths-deep (left .trie) (pathsIn (left .paths)) (ancestorsLeaf (pathsIn (right .paths))),
+            all-deep (left .trie) (pathTries (pathsIn (left .paths)) (ancestorsLeaf (pathsIn (right .paths)))),
             trie-shallow (left .trie) (top-good (below-held held) .good-trie),
           )
           (any-deep (pathsIn (left .paths)) (ancestorsLeaf (pathsIn (right .paths))) (all-some (pathsIn (left .paths)) (top-good (below-held held) .good-paths))

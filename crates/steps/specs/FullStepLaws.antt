@@ -7,9 +7,9 @@ use mathlib.Core.List.{List, [], _∷_, map}
 use mathlib.Core.Option.{none}
 use lib.ListN.{take, getD}
 use Rattle.rules.specs.Numbers.{refused}
-use Rattle.rules.specs.Paths.{nodesOf, typeToAccessTrie, Taken, fullTypeRequired, addTaken}
+use Rattle.rules.specs.Paths.{nodesOf, typeToAccessTrie, Taken, fullTypeRequired, addTaken, takenTries}
 use Rattle.rules.specs.Steps.{Result, emptyPaths, fullStep}
-use Rattle.rules.specs.StepLaws.{triesOfTaken, anyTooDeep, stepped-some, add-taken-deep, taken-each, Each, IsPath, trie-shallow}
+use Rattle.rules.specs.StepLaws.{anyTooDeep, stepped-some, all-deep, taken-each, Each, IsPath, trie-shallow}
 use Rattle.rules.specs.TypeLaws.{path-deep, typesIn, types-few, TypeAt, type-there, type-missing}
 use Rattle.rows.specs.States.{rowsIn}
 use Rattle.schema.specs.Items.{itemsOf, goodItems}
@@ -34,7 +34,7 @@ all-taken (one ∷ more) paths = (paths .0, all-taken more (paths .1))
 taken-deep :
     (words : List ℕ) (taken : List Taken)
     → AllTakenPaths taken
-    → anyTooDeep (triesOfTaken (itemsOf words) taken) ≡ anyTakenDeep words taken
+    → anyTooDeep (takenTries (itemsOf words) taken) ≡ anyTakenDeep words taken
 unfolding anyTooDeep anyTakenDeep AllTakenPaths
 taken-deep words [] good = refl
 taken-deep words (one ∷ more) good =
@@ -95,7 +95,7 @@ module _ (words : List ℕ) (good : goodItems words ≡ true) where
           few = top-few held;
           few-nodes = omega arith;
           depth =
-              add-taken-deep (itemsOf words) (top .trie) taken
+              all-deep (top .trie) (takenTries (itemsOf words) taken)
               ∙ rw (trie-shallow (top .trie) (top-good held .good-trie)) (taken-deep words taken full-paths);
         }
 

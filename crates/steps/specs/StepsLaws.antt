@@ -10,10 +10,10 @@ use lib.Dec.{ltb}
 use lib.ListN.{length, take, drop, getD}
 use Rattle.rules.specs.Numbers.{Answer, refused}
 use Rattle.rules.specs.Tries.{Row}
-use Rattle.rules.specs.Paths.{Path, Leaf, nodesOf}
+use Rattle.rules.specs.Paths.{Path, Leaf, nodesOf, pathTries}
 use Rattle.rules.specs.Schema.{Item}
 use Rattle.rules.specs.Steps.{Result, judged, isTooDeep, emptyPaths, stepped}
-use Rattle.rules.specs.StepLaws.{triesOf as pathTries, anyTooDeep, stepped-some, each-then, or-neither, Each, IsPath, AllPaths}
+use Rattle.rules.specs.StepLaws.{anyTooDeep, stepped-some, each-then, or-neither, Each, IsPath, AllPaths}
 use Rattle.rules.specs.TypeLaws.{deepest, path-deep}
 use Rattle.rows.specs.Words.{wordOf}
 use Rattle.rows.specs.States.{rowsOf, rowsIn}

@@ -11,16 +11,16 @@ use lib.Seq.{sets-eq, length-sets, take-at, length-take-le}
 use Rattle.rules.specs.Numbers.{refused}
 use Rattle.rules.specs.Tries.{Row, union}
 use Rattle.rules.specs.TrieLaws.{union-nil-left, union-nil-right}
-use Rattle.rules.specs.Paths.{RecordLiteral, SetLiteral, noField, field, nodesOf, nodesOfFields}
+use Rattle.rules.specs.Paths.{RecordLiteral, SetLiteral, noField, field, nodesOf, nodesOfFields, unionAll}
 use Rattle.rules.specs.Steps.{Result, result, judged, isTooDeep, unionResults, twoStep, setStep, dropStep, emptyPaths, Wrapped, wrapped, recStep}
-use Rattle.rules.specs.StepLaws.{Each, IsTrie, GoodResult, AllGood, each-split, each-map, empty-trie, union-trie, trie-commutative, trie-associative, trie-shallow}
+use Rattle.rules.specs.StepLaws.{Each, IsTrie, GoodResult, AllGood, each-split, each-map, empty-trie, union-trie, trie-commutative, trie-associative, trie-shallow, tries-trie}
 use Rattle.words.specs.Runs.{Wrote}
 use Rattle.wrapped_paths.specs.Code.{countIn, namesIn, code, codeFields, codes, nodesOfAll, Standing, Measures}
 use Rattle.wrapped_paths.specs.CodeLaws.{codes-append}
-use Rattle.result_stack.specs.Stacks.{stackPaths, stackTries, trieWords, stacked, Held, Reached, Outcomes, Placed, TriesAt, merged, Merges, MergedFrom, Wraps, WrapsBy}
+use Rattle.result_stack.specs.Stacks.{stackPaths, stackTries, trieWords, stacked, Held, Reached, Outcomes, Placed, TriesAt, Merges, MergedFrom, Wraps, WrapsBy}
 use Rattle.result_stack.specs.declared.Stack.{Stack}
 use Rattle.result_stack.specs.declared.Stepped.{Stepped}
-use Rattle.result_stack.specs.StackLaws.{merged-trie, judged-nodes, judged-rows, judged-good, top-good, below, below-held, code-end}
+use Rattle.result_stack.specs.StackLaws.{judged-nodes, judged-rows, judged-good, top-good, below, below-held, code-end}
 
 -- ---- results that are wrapped
 
@@ -100,14 +100,14 @@ module _ {codeRun tries : List ℕ} {stack : Stack} (taken left : List Result) {
         wrapped-nodes = omega (arith, w .nodes)
 
         wrapped-shallow : isTooDeep (wrapping .trie) ≡ false
-        wrapped-shallow = rw (w .tries) (trie-shallow _ (merged-trie [] (stackTries taken) empty-trie tries-good))
+        wrapped-shallow = rw (w .tries) (trie-shallow _ (tries-trie [] (stackTries taken) empty-trie tries-good))
 
         pub wrap-rows : start ≡ length tries → (place : ℕ) → judged place wrapping left ≡ refused 4 place
         wrap-rows none-there place =
             go (m (stackTries taken) (stacked (stackTries left)) (length-map taken (λ r. r .trie) ∙ many) tries-good tries-there)
           where
             go :
-                ((start ≡ length tries) × (1024 < length (merged [] (stackTries taken)))) ⊎ Merges (stackTries taken) (stacked (stackTries left)) tries tries′ start
+                ((start ≡ length tries) × (1024 < length (unionAll [] (stackTries taken)))) ⊎ Merges (stackTries taken) (stacked (stackTries left)) tries tries′ start
                 → judged place wrapping left ≡ refused 4 place
             go (inl h) = judged-rows place wrapping left wrap-few wrapped-nodes wrapped-shallow (omega (arith, h .1, ap length (w .tries)))
             go (inr h) = absurd (omega (arith, h .inside))
@@ -123,7 +123,7 @@ module _ {codeRun tries : List ℕ} {stack : Stack} (taken left : List Result) {
             go (m (stackTries taken) (stacked (stackTries left)) (length-map taken (λ r. r .trie) ∙ many) tries-good tries-there)
           where
             go :
-                ((start ≡ length tries) × (1024 < length (merged [] (stackTries taken)))) ⊎ Merges (stackTries taken) (stacked (stackTries left)) tries tries′ start
+                ((start ≡ length tries) × (1024 < length (unionAll [] (stackTries taken)))) ⊎ Merges (stackTries taken) (stacked (stackTries left)) tries tries′ start
                 → Reached (λ place. judged place wrapping left) codeRun′ tries′
                 (record { code = first; tries = start; results = stack .results - count + 1 })
             go (inl h) = absurd (there (h .0))
@@ -148,7 +148,7 @@ pub union-wraps :
     → IsTrie (left .trie)
     → IsTrie (right .trie)
     → Wraps (2 ∷ []) (right ∷ left ∷ []) (unionResults left right)
-unfolding code codes nodesOf nodesOfAll merged
+unfolding code codes nodesOf nodesOfAll unionAll
 union-wraps left right tl tr = record {
   coded = rw append-nil;
   nodes = omega arith;
@@ -156,7 +156,7 @@ union-wraps left right tl tr = record {
 }
 
 pub set-wraps : (top : Result) → Wraps (3 ∷ []) (top ∷ []) (result (top .trie) (SetLiteral (top .paths)))
-unfolding code codes nodesOf nodesOfAll merged
+unfolding code codes nodesOf nodesOfAll unionAll
 set-wraps top = record { coded = rw append-nil; nodes = omega arith; tries = sym (union-nil-left (top .trie)) }
 
 module _ {codeRun tries : List ℕ} {stack : Stack} (results : List Result) (held : Held codeRun tries stack results) where
@@ -215,14 +215,14 @@ record Wrapping (names : List ℕ) (taken left : List Result) (w : Wrapped) : Ty
   coded : codeFields (w .fields) ≡ codes (stackPaths taken)
   nodes : nodesOfFields (w .fields) ≡ nodesOfAll (stackPaths taken)
   good : IsTrie (w .trie)
-  tries : (trie : List Row) → IsTrie trie → merged trie (stackTries taken) ≡ union trie (w .trie)
+  tries : (trie : List Row) → IsTrie trie → unionAll trie (stackTries taken) ≡ union trie (w .trie)
 
 names-wrapped :
     (names : List ℕ) (taken left : List Result)
     → length taken ≡ length names
     → AllGood taken
     → (w : Wrapped) × (wrapped names (taken ++ left) ≡ some w) × Wrapping names taken left w
-unfolding wrapped Each merged namesIn countIn codeFields codes nodesOfFields nodesOfAll
+unfolding wrapped Each unionAll namesIn countIn codeFields codes nodesOfFields nodesOfAll
 names-wrapped [] [] left many good = (
   record { trie = []; fields = noField; left = left },
   refl,
