@@ -2,7 +2,6 @@
 -- Assumes nothing.
 use mathlib.Core.Path.{_∙_}
 use native.Mathlib.Omega.{arith}
-use borrow.Author.Needs.{needs}
 use lib.ListN.{length-set}
 use Rattle.path_tries.specs.NodeLaws.{filled, filled-over}
 use Rattle.path_tries.proofs.fill.Statement.{statement}

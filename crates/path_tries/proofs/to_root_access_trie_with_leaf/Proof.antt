@@ -1,6 +1,6 @@
 -- `path_tries::to_root_access_trie_with_leaf` meets its contract: what is written is the chain of the path and what is below it.
 -- Assumes nothing.
-use mathlib.Core.Path.{_≡_, sym, _∙_}
+use mathlib.Core.Path.{sym, _∙_}
 use borrow.Author.Needs.{needs}
 use Rattle.path_tries.specs.NodeLaws.{no-trie-test, no-run, leaf-room, run-within, run-written, run-packs}
 use Rattle.path_tries.proofs.to_root_access_trie_with_leaf.Statement.{statement}
