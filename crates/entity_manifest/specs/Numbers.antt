@@ -1,6 +1,9 @@
 -- What the C names answer: a refusal's number, or 0; and beside it the refusal's place, or what the operation says.
 use Prim.Native.Nat.{ℕ}
+use mathlib.Core.Path.{_≡_}
 use mathlib.Core.Bool.{cond}
+use mathlib.Core.List.{List}
+use Rattle.words.specs.Runs.{Outcome}
 use Rattle.words.specs.declared.Reply.{Reply}
 use Rattle.words.specs.declared.Reply.the-variants.{Done, Refused}
 use Rattle.rows.specs.declared.place.Held.{Held}
@@ -15,6 +18,20 @@ replyNumber (Refused number place) = number
 abbrev pub replyPlace : Reply → ℕ
 replyPlace Done = 0
 replyPlace (Refused number place) = place
+
+-- what an operation answers and leaves, told: its number, the value beside it, and the lent buffer
+pub record Told (outcome : Outcome) (number value : ℕ) (buffer : List ℕ) : Type 0 where
+  pub as-number : number ≡ replyNumber (outcome .reply)
+  pub beside : value ≡ replyPlace (outcome .reply)
+  pub left : buffer ≡ outcome .buffer
+
+-- a reply that is told tells the outcome
+pub told :
+    {outcome : Outcome} {reply : Reply} {buffer : List ℕ} {number value : ℕ}
+    → (reply ≡ outcome .reply) × (buffer ≡ outcome .buffer)
+    → (number ≡ replyNumber reply) × (value ≡ replyPlace reply)
+    → Told outcome number value buffer
+told said spoken = record { as-number = rw (said .0) at (spoken .0); beside = rw (said .0) at (spoken .1); left = said .1 }
 
 -- of writing the count of bytes
 abbrev pub writtenNumber : Written → ℕ

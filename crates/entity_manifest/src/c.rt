@@ -7,7 +7,7 @@ ghost use Rattle.manifest.specs.Outcomes.{emptyIn, addIn, readListingIn, writeI
 ghost use Rattle.schema.specs.Items.{readSchemaIn};
 ghost use Rattle.analysis.specs.Outcomes.{analyseIn};
 ghost use Rattle.rows.specs.declared.Kind.the-variants.{Contribution, Manifest};
-ghost use Rattle.entity_manifest.specs.Numbers.{replyNumber, replyPlace, writtenNumber, writtenValue, heldNumber, heldValue};
+ghost use Rattle.entity_manifest.specs.Numbers.{replyNumber, replyPlace, Told, writtenNumber, writtenValue, heldNumber, heldValue};
 use manifest::Written;
 use rows::Held;
 use rows::Kind;
@@ -68,7 +68,7 @@ fn tell_held(held: Held, value: &mut u64) -> u64
 // Makes a lent state the empty manifest.
 #[no_mangle]
 pub extern "C" fn terbagyl_empty_manifest(out: &mut [u64], value: &mut u64) -> u64
-    ensures { λ r. ⌜ (r ≡ replyNumber (emptyIn (now (out .entry)) .reply)) × ((now (value .exit) ≡ replyPlace (emptyIn (now (out .entry)) .reply)) × (now (out .exit) ≡ emptyIn (now (out .entry)) .buffer)) ⌝ }
+    ensures { λ r. ⌜ Told (emptyIn (now (out .entry))) r (now (value .exit)) (now (out .exit)) ⌝ }
 {
     tell(crate::empty_manifest(out), value)
 }
@@ -76,7 +76,7 @@ pub extern "C" fn terbagyl_empty_manifest(out: &mut [u64], value: &mut u64) -> u
 // Adds a contribution to a manifest.
 #[no_mangle]
 pub extern "C" fn terbagyl_add(manifest: &mut [u64], contribution: &[u64], value: &mut u64) -> u64
-    ensures { λ r. ⌜ (r ≡ replyNumber (addIn (now (manifest .entry)) (now (contribution .entry)) .reply)) × ((now (value .exit) ≡ replyPlace (addIn (now (manifest .entry)) (now (contribution .entry)) .reply)) × (now (manifest .exit) ≡ addIn (now (manifest .entry)) (now (contribution .entry)) .buffer)) ⌝ }
+    ensures { λ r. ⌜ Told (addIn (now (manifest .entry)) (now (contribution .entry))) r (now (value .exit)) (now (manifest .exit)) ⌝ }
 {
     tell(crate::add(manifest, contribution), value)
 }
@@ -89,7 +89,7 @@ pub extern "C" fn terbagyl_union_manifests(
     out: &mut [u64],
     value: &mut u64,
 ) -> u64
-    ensures { λ r. ⌜ (r ≡ replyNumber (unionOf Manifest (now (a .entry)) (now (b .entry)) (now (out .entry)) .reply)) × ((now (value .exit) ≡ replyPlace (unionOf Manifest (now (a .entry)) (now (b .entry)) (now (out .entry)) .reply)) × (now (out .exit) ≡ unionOf Manifest (now (a .entry)) (now (b .entry)) (now (out .entry)) .buffer)) ⌝ }
+    ensures { λ r. ⌜ Told (unionOf Manifest (now (a .entry)) (now (b .entry)) (now (out .entry))) r (now (value .exit)) (now (out .exit)) ⌝ }
 {
     tell(crate::union(Kind::Manifest, a, b, out), value)
 }
@@ -102,7 +102,7 @@ pub extern "C" fn terbagyl_union_contributions(
     out: &mut [u64],
     value: &mut u64,
 ) -> u64
-    ensures { λ r. ⌜ (r ≡ replyNumber (unionOf Contribution (now (a .entry)) (now (b .entry)) (now (out .entry)) .reply)) × ((now (value .exit) ≡ replyPlace (unionOf Contribution (now (a .entry)) (now (b .entry)) (now (out .entry)) .reply)) × (now (out .exit) ≡ unionOf Contribution (now (a .entry)) (now (b .entry)) (now (out .entry)) .buffer)) ⌝ }
+    ensures { λ r. ⌜ Told (unionOf Contribution (now (a .entry)) (now (b .entry)) (now (out .entry))) r (now (value .exit)) (now (out .exit)) ⌝ }
 {
     tell(crate::union(Kind::Contribution, a, b, out), value)
 }
@@ -126,7 +126,7 @@ pub extern "C" fn terbagyl_has_in_contribution(state: &[u64], place: &[u64], val
 // Reads the listing of a manifest into a state.
 #[no_mangle]
 pub extern "C" fn terbagyl_read_manifest(text: &[u8], out: &mut [u64], value: &mut u64) -> u64
-    ensures { λ r. ⌜ (r ≡ replyNumber (readListingIn Manifest (now (text .entry)) (now (out .entry)) .reply)) × ((now (value .exit) ≡ replyPlace (readListingIn Manifest (now (text .entry)) (now (out .entry)) .reply)) × (now (out .exit) ≡ readListingIn Manifest (now (text .entry)) (now (out .entry)) .buffer)) ⌝ }
+    ensures { λ r. ⌜ Told (readListingIn Manifest (now (text .entry)) (now (out .entry))) r (now (value .exit)) (now (out .exit)) ⌝ }
 {
     tell(crate::read_listing(Kind::Manifest, text, out), value)
 }
@@ -134,7 +134,7 @@ pub extern "C" fn terbagyl_read_manifest(text: &[u8], out: &mut [u64], value: &m
 // Reads the listing of a contribution into a state.
 #[no_mangle]
 pub extern "C" fn terbagyl_read_contribution(text: &[u8], out: &mut [u64], value: &mut u64) -> u64
-    ensures { λ r. ⌜ (r ≡ replyNumber (readListingIn Contribution (now (text .entry)) (now (out .entry)) .reply)) × ((now (value .exit) ≡ replyPlace (readListingIn Contribution (now (text .entry)) (now (out .entry)) .reply)) × (now (out .exit) ≡ readListingIn Contribution (now (text .entry)) (now (out .entry)) .buffer)) ⌝ }
+    ensures { λ r. ⌜ Told (readListingIn Contribution (now (text .entry)) (now (out .entry))) r (now (value .exit)) (now (out .exit)) ⌝ }
 {
     tell(crate::read_listing(Kind::Contribution, text, out), value)
 }
@@ -158,7 +158,7 @@ pub extern "C" fn terbagyl_write_contribution(state: &[u64], out: &mut [u8], val
 // Reads a schema's text into a state.
 #[no_mangle]
 pub extern "C" fn terbagyl_read_schema(text: &[u8], out: &mut [u64], value: &mut u64) -> u64
-    ensures { λ r. ⌜ (r ≡ replyNumber (readSchemaIn (now (text .entry)) (now (out .entry)) .reply)) × ((now (value .exit) ≡ replyPlace (readSchemaIn (now (text .entry)) (now (out .entry)) .reply)) × (now (out .exit) ≡ readSchemaIn (now (text .entry)) (now (out .entry)) .buffer)) ⌝ }
+    ensures { λ r. ⌜ Told (readSchemaIn (now (text .entry)) (now (out .entry))) r (now (value .exit)) (now (out .exit)) ⌝ }
 {
     tell(crate::read_schema(text, out), value)
 }
@@ -172,7 +172,7 @@ pub extern "C" fn terbagyl_analyse(
     out: &mut [u64],
     value: &mut u64,
 ) -> u64
-    ensures { λ r. ⌜ (r ≡ replyNumber (analyseIn (now (schema .entry)) request (now (text .entry)) (now (out .entry)) .reply)) × ((now (value .exit) ≡ replyPlace (analyseIn (now (schema .entry)) request (now (text .entry)) (now (out .entry)) .reply)) × (now (out .exit) ≡ analyseIn (now (schema .entry)) request (now (text .entry)) (now (out .entry)) .buffer)) ⌝ }
+    ensures { λ r. ⌜ Told (analyseIn (now (schema .entry)) request (now (text .entry)) (now (out .entry))) r (now (value .exit)) (now (out .exit)) ⌝ }
 {
     tell(crate::analyse(schema, request, text, out), value)
 }

@@ -1,6 +1,7 @@
 -- `entity_manifest::c::terbagyl_read_schema` meets its contract: what the front answers is told as a number and a value.
 -- Assumes nothing.
 use borrow.Author.Needs.{needs}
+use Rattle.entity_manifest.specs.Numbers.{told}
 use Rattle.entity_manifest.proofs.c.terbagyl_read_schema.Statement.{statement}
 use Rattle.entity_manifest.proofs.c.terbagyl_read_schema.Tie as tie
 
@@ -14,9 +15,7 @@ same-length : tie.Need-same-length
 same-length c = search needs
 
 returns : tie.Need-returns
-returns c =
-    let said = c .before .before .before .before .read-schema .ensures in
-    rw (← (said .0)) (c .tell .ensures .0, (c .tell .ensures .1, said .1))
+returns c = told (c .before .before .before .before .read-schema .ensures) (c .tell .ensures)
 
 pub terbagyl-read-schema-spec : {M : Type 1} → statement M
 terbagyl-read-schema-spec =
