@@ -1,128 +1,32 @@
-// The program: arguments, files, and one call of the front for each thing that is asked.
+// The program: arguments, and one call of the front for each thing that is asked.
 ghost use Prim.Native.Nat.{ℕ, _+_, _≤_};
 ghost use lib.ListN.{length};
 ghost use mathlib.Core.Path.{_≡_};
 ghost use Rattle.text.specs.declared.Decimal.the-variants.{Value};
-ghost use Rattle.terbagyl.specs.Files.{LoadedWithin};
 use entity_manifest::Kind;
 use entity_manifest::Reply;
-use entity_manifest::Written;
-use libc::STDERR_FILENO;
 use libc::STDOUT_FILENO;
+use rows::Row;
+use shell::Loaded;
+use shell::all_usable;
+use shell::load;
+use shell::load_schema;
+use shell::print_listing;
+use shell::refuse;
+use shell::say_cannot;
 use text::Decimal;
 use text::Line;
 
-// The longest text that is read, and the longest listing.
-const TEXT: usize = 65_536;
-
+// The words of a manifest, and of a schema.
 const WORDS: usize = 4_161;
 
-const LISTING: usize = 62_720;
-
 const SCHEMA: usize = 142_337;
-
-// What came of reading a file: how many bytes it has, or that it was reported as unusable.
-enum Loaded {
-    Bytes(usize),
-    Failed,
-}
-
-fn say(word: &[u8]) {
-    io::write_all(STDERR_FILENO, word);
-}
-
-// A number's reason, in words.
-fn say_reason(number: u64) {
-    match number {
-        1 => say(b"a line or field is not of the stated form"),
-        2 => say(b"listing order, or depth more than one above the line before"),
-        3 => say(b"a position would exceed 24 steps"),
-        4 => say(b"too many nodes"),
-        5 => say(b"a request type too many"),
-        6 => say(b"too few results, over 32, or not one at the end"),
-        7 => say(b"a set is dereferenced"),
-        8 => say(b"a literal against its type"),
-        15 => say(b"over 256 path nodes, or over 65,536 input bytes"),
-        31 => say(b"a lent buffer is too short"),
-        _ => say(b"refused"),
-    }
-}
-
-// `terbagyl: FILE: refused N at P: reason`
-fn say_refused(path: &[u8], number: u64, place: u64) {
-    say(b"terbagyl: ");
-    say(path);
-    say(b": refused ");
-    io::print_decimal(STDERR_FILENO, number);
-    say(b" at ");
-    io::print_decimal(STDERR_FILENO, place);
-    say(b": ");
-    say_reason(number);
-    say(b"\n");
-}
-
-// `terbagyl: cannot: reason`
-fn say_cannot(reason: &[u8], about: &[u8]) {
-    say(b"terbagyl: cannot: ");
-    say(reason);
-    say(about);
-    say(b"\n");
-}
 
 fn say_help() {
     io::write_all(
         STDOUT_FILENO,
         b"terbagyl build SCHEMA FILE...       analyses each FILE, a policy text, and writes the listing of the manifest\nterbagyl steps P A R SCHEMA FILE    analyses FILE, a step text, under request type (P, A, R) and writes the contribution\nterbagyl list FILE                  reads a listing and writes it again\nterbagyl merge FILE...              adds each FILE, a contribution's text, to an empty manifest and writes its listing\nterbagyl help                       this text\n",
     );
-}
-
-// Reads the file that an argument names into `text`, which is a byte longer than the longest text.
-fn load(i: usize, text: &mut [u8]) -> Loaded
-    ensures { λ r. ⌜ LoadedWithin r (now (text .exit)) ⌝ }
-{
-    let mut path = io::buffer();
-    let n = os::arg(i, &mut path);
-    let fd = os::open_read(&path[..n]);
-    if fd < 0 {
-        say_cannot(b"read the file ", &path[..n]);
-        return Loaded::Failed;
-    }
-    let got = libc::read(fd, text);
-    if got < 0 {
-        libc::close(fd);
-        say_cannot(b"read the file ", &path[..n]);
-        return Loaded::Failed;
-    }
-    let first = io::count(got, text);
-    let more = io::read_full(fd, &mut text[first..]);
-    libc::close(fd);
-    let bytes = first + more;
-    if TEXT < bytes {
-        say_refused(&path[..n], 15, 0);
-        return Loaded::Failed;
-    }
-    Loaded::Bytes(bytes)
-}
-
-// Reports a refusal of the file that an argument names.
-fn refuse(i: usize, number: u64, place: u64) {
-    let mut path = io::buffer();
-    let n = os::arg(i, &mut path);
-    say_refused(&path[..n], number, place);
-}
-
-// Writes the listing of a manifest, or of a contribution, to standard output.
-fn print_listing(i: usize, kind: Kind, state: &[u64]) {
-    let mut out = [0u8; LISTING];
-    let written = entity_manifest::write_listing(kind, state, &mut out);
-    match written {
-        Written::Bytes(n) => {
-            if n <= LISTING {
-                io::write_all(STDOUT_FILENO, &out[..n]);
-            }
-        }
-        Written::Refused(number, place) => refuse(i, number, place),
-    }
 }
 
 // `list FILE`: reads a listing and writes it again.
@@ -137,27 +41,6 @@ fn list() {
         Reply::Done => print_listing(2, Kind::Manifest, &manifest),
         Reply::Refused(number, place) => refuse(2, number, place),
     }
-}
-
-// Whether the file that an argument names can be read and is not too long.
-fn is_usable(i: usize) -> bool {
-    let mut text = [0u8; 65_537];
-    let Loaded::Bytes(_) = load(i, &mut text) else {
-        return false;
-    };
-    true
-}
-
-// Whether all files from an argument on can be read: judged for all of them before anything else.
-fn all_usable(first: usize, count: usize) -> bool {
-    let mut i = first;
-    while i < count {
-        if !is_usable(i) {
-            return false;
-        }
-        i += 1;
-    }
-    true
 }
 
 // Adds the contribution of one file to a manifest, and answers whether it was accepted.
@@ -221,7 +104,7 @@ fn request_of(line: &[u8]) -> Opened {
     let Reply::Done = reply else {
         return Opened::Other;
     };
-    Opened::Request(entry[1] / 64)
+    Opened::Request(Row { word: entry[1] }.step())
 }
 
 // The lines from a place on up to the next `A` line, or to the end.
@@ -246,20 +129,6 @@ fn part_of(text: &[u8], at: usize) -> Part
         lines += 1;
     }
     Part { end, lines }
-}
-
-// Reads the schema that an argument names, and answers whether it was accepted.
-fn load_schema(i: usize, schema: &mut [u64]) -> bool {
-    let mut text = [0u8; 65_537];
-    let Loaded::Bytes(n) = load(i, &mut text) else {
-        return false;
-    };
-    let reply = entity_manifest::read_schema(&text[..n], schema);
-    if let Reply::Refused(number, place) = reply {
-        refuse(i, number, place);
-        return false;
-    }
-    true
 }
 
 // The line of a refusal at a place behind so many other lines; a refusal's place is never larger than the number of lines.

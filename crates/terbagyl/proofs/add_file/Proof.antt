@@ -2,7 +2,7 @@
 use mathlib.Core.Path.{sym}
 use borrow.Author.Needs.{needs}
 use lib.Seq.{length-take-le}
-use Rattle.terbagyl.specs.Files.{bytes-within}
+use Rattle.shell.specs.Files.{bytes-within}
 use Rattle.terbagyl.proofs.add_file.Statement.{statement}
 use Rattle.terbagyl.proofs.add_file.Tie as tie
 

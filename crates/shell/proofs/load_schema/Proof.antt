@@ -1,10 +1,10 @@
--- `terbagyl::load_schema` is safe: what was read lies within the buffer.
+-- `shell::load_schema` is safe: what was read lies within the buffer.
 use mathlib.Core.Path.{sym}
 use borrow.Author.Needs.{needs}
 use lib.Seq.{length-take-le}
-use Rattle.terbagyl.specs.Files.{bytes-within}
-use Rattle.terbagyl.proofs.load_schema.Statement.{statement}
-use Rattle.terbagyl.proofs.load_schema.Tie as tie
+use Rattle.shell.specs.Files.{bytes-within}
+use Rattle.shell.proofs.load_schema.Statement.{statement}
+use Rattle.shell.proofs.load_schema.Tie as tie
 
 slice-aggregate-load : tie.Need-slice-aggregate-load
 slice-aggregate-load c = search needs

@@ -3,8 +3,8 @@ use Prim.Native.Nat.{ℕ, _≤_}
 use mathlib.Core.List.{List}
 use mathlib.Core.Path.{_≡_, subst}
 use lib.ListN.{length}
-use Rattle.terbagyl.specs.declared.Loaded.{Loaded}
-use Rattle.terbagyl.specs.declared.Loaded.the-variants.{Bytes, Failed}
+use Rattle.shell.specs.declared.Loaded.{Loaded}
+use Rattle.shell.specs.declared.Loaded.the-variants.{Bytes, Failed}
 
 abbrev pub LoadedWithin : Loaded → List ℕ → Type 0
 LoadedWithin (Bytes n) text = n ≤ length text

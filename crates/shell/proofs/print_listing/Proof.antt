@@ -1,9 +1,9 @@
--- `terbagyl::print_listing` is safe: no more is written than there is room for.
+-- `shell::print_listing` is safe: no more is written than there is room for.
 use mathlib.Core.Path.{sym}
 use borrow.Author.Needs.{needs}
 use lib.Seq.{length-take-le}
-use Rattle.terbagyl.proofs.print_listing.Statement.{statement}
-use Rattle.terbagyl.proofs.print_listing.Tie as tie
+use Rattle.shell.proofs.print_listing.Statement.{statement}
+use Rattle.shell.proofs.print_listing.Tie as tie
 
 slice-aggregate-write-listing : tie.Need-slice-aggregate-write-listing
 slice-aggregate-write-listing c = search needs

@@ -1,8 +1,8 @@
--- `terbagyl::all_usable` ends: the arguments left fall.
+-- `shell::all_usable` ends: the arguments left fall.
 use Prim.Native.Nat.{_-_}
 use borrow.Author.Needs.{needs}
-use Rattle.terbagyl.proofs.all_usable.Statement.{statement}
-use Rattle.terbagyl.proofs.all_usable.Tie as tie
+use Rattle.shell.proofs.all_usable.Statement.{statement}
+use Rattle.shell.proofs.all_usable.Tie as tie
 
 abbrev Inv-loop : tie.InvT-loop
 Inv-loop first count i₀ i = Unit

@@ -1,2 +1,0 @@
--- What the program's own functions say of what they read.
-pub mod Files
