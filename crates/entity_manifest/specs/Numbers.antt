@@ -8,8 +8,8 @@ use Rattle.words.specs.declared.Reply.{Reply}
 use Rattle.words.specs.declared.Reply.the-variants.{Done, Refused}
 use Rattle.rows.specs.declared.place.Held.{Held}
 use Rattle.rows.specs.declared.place.Held.the-variants.{Missing, There, Unheld}
-use Rattle.manifest.specs.declared.listing.Written.{Written}
-use Rattle.manifest.specs.declared.listing.Written.the-variants.{Bytes, Refused as Unwritten}
+use Rattle.listing.specs.declared.whole.Written.{Written}
+use Rattle.listing.specs.declared.whole.Written.the-variants.{Bytes, Refused as Unwritten}
 
 abbrev pub replyNumber : Reply → ℕ
 replyNumber Done = 0

@@ -3,12 +3,13 @@
 ghost use mathlib.Core.Path.{_≡_};
 ghost use Rattle.union.specs.Unions.{unionOf};
 ghost use Rattle.rows.specs.States.{hasOf};
-ghost use Rattle.manifest.specs.Outcomes.{emptyIn, addIn, readListingIn, writeIn};
+ghost use Rattle.listing.specs.Outcomes.{readListingIn, writeIn};
+ghost use Rattle.manifest.specs.Outcomes.{emptyIn, addIn};
 ghost use Rattle.schema.specs.Items.{readSchemaIn};
 ghost use Rattle.analysis.specs.Outcomes.{analyseIn};
 ghost use Rattle.rows.specs.declared.Kind.the-variants.{Contribution, Manifest};
 ghost use Rattle.entity_manifest.specs.Numbers.{replyNumber, replyPlace, Told, writtenNumber, writtenValue, heldNumber, heldValue};
-use manifest::Written;
+use listing::Written;
 use rows::Held;
 use rows::Kind;
 use words::Reply;

@@ -5,11 +5,12 @@ mod c;
 ghost use mathlib.Core.Path.{_≡_};
 ghost use Rattle.union.specs.Unions.{unionOf};
 ghost use Rattle.rows.specs.States.{hasOf};
-ghost use Rattle.manifest.specs.Outcomes.{emptyIn, addIn, readListingIn, writeIn};
+ghost use Rattle.listing.specs.Outcomes.{readListingIn, writeIn};
+ghost use Rattle.manifest.specs.Outcomes.{emptyIn, addIn};
 ghost use Rattle.schema.specs.Items.{readSchemaIn};
 ghost use Rattle.analysis.specs.Outcomes.{analyseIn};
+pub use listing::Written;
 use manifest::EntityManifest;
-pub use manifest::Written;
 pub use rows::Held;
 pub use rows::Kind;
 use schema::Schema;
@@ -47,14 +48,14 @@ pub fn has(kind: Kind, state: &[u64], place: &[u64]) -> Held
 pub fn read_listing(kind: Kind, text: &[u8], out: &mut [u64]) -> Reply
     ensures { λ r. ⌜ (r ≡ readListingIn kind (now (text .entry)) (now (out .entry)) .reply) × (now (out .exit) ≡ readListingIn kind (now (text .entry)) (now (out .entry)) .buffer) ⌝ }
 {
-    manifest::read_listing(kind, text, out)
+    listing::read_listing(kind, text, out)
 }
 
 // Writes the listing of a manifest or of a contribution.
 pub fn write_listing(kind: Kind, state: &[u64], out: &mut [u8]) -> Written
     ensures { λ r. ⌜ (r ≡ writeIn kind (now (state .entry)) (now (out .entry)) .reply) × (now (out .exit) ≡ writeIn kind (now (state .entry)) (now (out .entry)) .buffer) ⌝ }
 {
-    manifest::write_listing(kind, state, out)
+    listing::write_listing(kind, state, out)
 }
 
 // Reads a schema's text into a state.

@@ -1,7 +1,3 @@
--- What the answers of `manifest` mean, and what its operations answer and leave, in the words of `rules`.
-pub mod Lines
+-- What the operations of `manifest` answer and leave, in the words of `rules`.
 pub mod Outcomes
 pub mod AddLaws
-pub mod WriteLaws
-pub mod Reads
-pub mod ReadLaws

@@ -2,8 +2,8 @@
 ghost use Prim.Native.Nat.{_≤_};
 ghost use lib.ListN.{length};
 use libc::STDOUT_FILENO;
+use listing::Written;
 use manifest::EntityManifest;
-use manifest::Written;
 use rows::Kind;
 use text::Line;
 use words::Reply;
@@ -87,7 +87,7 @@ fn ask_text(line: &[u8]) {
     let mut text = [0u8; TEXT];
     let n = text_of(line, &mut text);
     let mut state = [0u64; 4_161];
-    let reply = manifest::read_listing(kind_of(line), &text[..n], &mut state);
+    let reply = listing::read_listing(kind_of(line), &text[..n], &mut state);
     match reply {
         Reply::Refused(number, place) => say_refused(number, place),
         Reply::Done => ask_written(line, &state, &text[..n]),
@@ -96,7 +96,7 @@ fn ask_text(line: &[u8]) {
 
 fn ask_written(line: &[u8], state: &[u64], text: &[u8]) {
     let mut out = [0u8; TEXT];
-    let written = manifest::write_listing(kind_of(line), state, &mut out);
+    let written = listing::write_listing(kind_of(line), state, &mut out);
     match written {
         Written::Refused(number, place) => say_refused(number, place),
         Written::Bytes(n) => {
@@ -120,7 +120,7 @@ fn keep(line: &[u8], kept: &mut [u64]) -> Reply {
     if kept.len() < end {
         return Reply::Refused(1, 0);
     }
-    manifest::read_listing(Kind::Contribution, &text[..n], &mut kept[from..end])
+    listing::read_listing(Kind::Contribution, &text[..n], &mut kept[from..end])
 }
 
 // Keeps a contribution and says so.
@@ -163,7 +163,7 @@ fn add_kept(state: &mut [u64], kept: &[u64], number: u64) {
 // Writes the listing of a manifest, or, where a field of the line has the published Rust's, says whether it is that.
 fn tell_listing(line: &[u8], field: usize, state: &[u64]) {
     let mut out = [0u8; TEXT];
-    let written = manifest::write_listing(Kind::Manifest, state, &mut out);
+    let written = listing::write_listing(Kind::Manifest, state, &mut out);
     match written {
         Written::Refused(number, place) => say_refused(number, place),
         Written::Bytes(n) => {

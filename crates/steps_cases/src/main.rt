@@ -1,6 +1,6 @@
 // Replays the vectors of data/: step texts under request type (10, 500, 20) with their schema, in data/oracle also with the Rust's answer.
 use libc::STDOUT_FILENO;
-use manifest::Written;
+use listing::Written;
 use rows::Kind;
 use schema::Schema;
 use text::Line;
@@ -33,7 +33,7 @@ fn tell_refused(line: &[u8], number: u64, place: u64) {
 
 fn tell_contribution(line: &[u8], state: &[u64]) {
     let mut out = [0u8; TEXT];
-    let written = manifest::write_listing(Kind::Contribution, state, &mut out);
+    let written = listing::write_listing(Kind::Contribution, state, &mut out);
     match written {
         Written::Refused(number, place) => tell_refused(line, number, place),
         Written::Bytes(n) => {

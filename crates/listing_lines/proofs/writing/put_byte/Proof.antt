@@ -1,0 +1,30 @@
+-- `listing_lines::writing::put_byte` meets its contract: the two stores are the two bytes.
+use mathlib.Core.Path.{refl}
+use native.Mathlib.Numerals.{add-one}
+use native.Mathlib.Omega.{arith}
+use lib.ListN.{length-set}
+use borrow.Author.Needs.{needs}
+use Rattle.listing_lines.proofs.writing.put_byte.Statement.{statement}
+use Rattle.listing_lines.proofs.writing.put_byte.Tie as tie
+
+slice-write-out : tie.Need-slice-write-out
+slice-write-out c = search needs
+
+add-out : tie.Need-add-out
+add-out c = search needs
+
+slice-write-out-2 : tie.Need-slice-write-out-2
+slice-write-out-2 c = simp length-set (omega arith)
+
+add-result : tie.Need-add-result
+add-result c = search needs
+
+same-length : tie.Need-same-length
+same-length c = search needs
+
+returns : tie.Need-returns
+returns c = record { after = refl; text = rw add-one }
+
+pub put-byte-spec : {M : Type 1} → statement M
+put-byte-spec =
+    tie.close (tie.spec slice-write-out add-out slice-write-out-2 add-result same-length returns)

@@ -1,0 +1,7 @@
+// A line of the listing: read as a row, and rows written as lines.
+mod line;
+mod writing;
+
+pub use line::Parsed;
+pub use line::parse;
+pub use writing::write_rows;
