@@ -1,22 +1,22 @@
 -- Laws of `before`, of the parts of a text by it, of a run of stores that gets one more, and of letters. No contract cites this file.
-use Prim.Native.Nat.{ℕ, zero, suc, _+_, _-_, _*_, _≤_, _<_}
+use Prim.Native.Nat.{ℕ, suc, _+_, _-_, _*_, _≤_, _<_}
 use native.Mathlib.Nat.{add-zero, zero-add, add-suc, suc-add, add-assoc, add-sub-cancel-left}
 use native.Mathlib.Numerals.{add-one}
 use native.Mathlib.Omega.{arith}
 use mathlib.Core.Bool.{Bool, true, false, cond}
-use mathlib.Core.List.{List, [], _∷_, _++_, nil≢cons}
+use mathlib.Core.List.{List, [], _∷_, _++_, nil≢cons, tail-eq-of-cons-eq}
 use mathlib.Core.Logic.{_≢_, _⊎_, inl, inr, ⊎-elim}
 use mathlib.Core.Option.{Option, none, some}
 use mathlib.Core.Path.{_≡_, refl, sym, ap, _∙_}
-use borrow.Author.Tests.{eqb-true, eqb-false, eq-eqb, ne-eqb, le-leb, lt-leb, lt-ltb, le-ltb}
+use borrow.Author.Tests.{eqb-true, eqb-false, eq-eqb, ne-eqb, lt-ltb, le-ltb}
 use lib.Dec.{eqb, ltb}
 use lib.ListN.{length, getD, take, drop, drop-of-length-le, length-append, length-drop}
 use lib.Seq.{drop-cons, drop-drop, take-append-seam, drop-append-add}
 use Rattle.rules.specs.Text.{parted, onto, linesOf, fieldsOf, numberFrom, decimalUpTo, decimalOf, decimal, LF, TAB}
-use Rattle.rules.specs.TextLaws.{Free, free-empty, free-more, parted-free, parted-first, parted-some, parted-split, numberFrom-digit, numberFrom-none, decimalUpTo-one, decimalUpTo-more, decimal-written, joinedBy, joined-parted}
+use Rattle.rules.specs.TextLaws.{Free, free-empty, free-more, parted-free, parted-first, parted-some, parted-split, free-decimal, numberFrom-digit, numberFrom-none, decimalUpTo-one, decimalUpTo-more, decimal-written, joinedBy, joined-parted}
 use Rattle.rules.specs.Facts.{by-test, by-option, compared}
 use Rattle.rules.specs.Listing.{isLetter}
-use Rattle.text.specs.Answers.{lineAt, firstLine, fieldAt, firstField, numberOf, digitsFrom, firstNumber, numberAt, ending}
+use Rattle.text.specs.Answers.{lineAt, firstLine, fieldAt, firstField, numberOf, numberTo, firstNumber, numberAt, ending}
 use Rattle.text.specs.Before.{before}
 use Rattle.text.specs.declared.Line.{Line}
 use Rattle.text.specs.declared.Line.the-variants.{End, Whole, Cut}
@@ -224,156 +224,138 @@ module _ (reads : List ℕ → Option ℕ) (b i : ℕ) (s : List ℕ) where
           go (part ∷ []) = refl
           go (part ∷ next ∷ more) = refl
 
--- ---- the digits in front of some bytes
+-- ---- the digits from a place to the next b
 
-module _ (n at d : ℕ) (ds : List ℕ) where
-  -- a byte that is no digit is behind them
-  pub digits-end : (48 ≤ d → d ≤ 57 → ⊥) → digitsFrom n at (d ∷ ds) ≡ Of n at
-  unfolding digitsFrom
-  digits-end h =
-      compared d 48
-      (λ low. rw (lt-leb 48 d low))
-      (λ low. compared 57 d (λ high. rw (le-leb 48 d low, lt-leb d 57 high)) (λ high. absurd (h low high)))
+module _ (b n i : ℕ) (s : List ℕ) where
+  -- nothing is left
+  pub to-past : length s ≤ i → numberTo b s n i ≡ Of n i
+  unfolding numberFrom
+  to-past h = rw (before-past b i s h, add-zero)
 
-  -- a digit goes on with the number, where that stays at most 65,535
-  pub digits-more : 48 ≤ d → d ≤ 57 → n * 10 + (d - 48) ≤ 65535 → digitsFrom n at (d ∷ ds) ≡ digitsFrom (n * 10 + (d - 48)) (at + 1) ds
-  unfolding digitsFrom
-  digits-more low high fits = rw (le-leb 48 d low, le-leb d 57 high, le-leb (n * 10 + (d - 48)) 65535 fits)
+  module _ (inside : i < length s) where
+    -- a b ends them
+    pub to-found : getD s i 0 ≡ b → numberTo b s n i ≡ Of n i
+    unfolding numberFrom
+    to-found e = rw (before-found b i s inside e, add-zero)
 
-  pub digits-over : 48 ≤ d → d ≤ 57 → 65535 < n * 10 + (d - 48) → digitsFrom n at (d ∷ ds) ≡ BadNumber
-  unfolding digitsFrom
-  digits-over low high over = rw (le-leb 48 d low, le-leb d 57 high, lt-leb (n * 10 + (d - 48)) 65535 over)
+    module _ (other : getD s i 0 ≢ b) where
+      -- another byte is no digit, or makes the number too large
+      pub to-bad : (48 ≤ getD s i 0 → getD s i 0 ≤ 57 → n * 10 + (getD s i 0 - 48) ≤ 65535 → ⊥) → numberTo b s n i ≡ BadNumber
+      to-bad h = rw (before-passed b i s inside other, numberFrom-none 65535 n (getD s i 0) (before b (drop (i + 1) s)) h)
 
--- a byte is no digit, a digit with which the number is over 65,535, or one with which it is not
-by-digit : {A : Type 0} (n d : ℕ) → ((48 ≤ d → d ≤ 57 → ⊥) → A) → (48 ≤ d → d ≤ 57 → 65535 < n * 10 + (d - 48) → A) →
-    (48 ≤ d → d ≤ 57 → n * 10 + (d - 48) ≤ 65535 → A) → A
-by-digit n d other too-large fits =
-    compared d 48 (λ low. other (λ l h. omega arith))
-    (λ low. compared 57 d (λ high. other (λ l h. omega arith))
-    (λ high. compared 65535 (n * 10 + (d - 48)) (too-large low high) (fits low high)))
+      -- or the number goes on with it
+      pub to-more :
+          48 ≤ getD s i 0
+          → getD s i 0 ≤ 57
+          → n * 10 + (getD s i 0 - 48) ≤ 65535
+          → numberTo b s n i ≡ numberTo b s (n * 10 + (getD s i 0 - 48)) (i + 1)
+      to-more low high fits =
+          let place : i + suc (length (before b (drop (i + 1) s))) ≡ i + 1 + length (before b (drop (i + 1) s)) = omega arith in
+          rw (before-passed b i s inside other, numberFrom-digit 65535 n (getD s i 0) (before b (drop (i + 1) s)) low high fits, place)
 
 -- a number that ends at a place, if it does
 abbrev pub endingAt : ℕ → Number → Option ℕ
 endingAt end BadNumber = none
 endingAt end (Of n place) = cond (eqb place end) (some n) none
 
--- bytes write a number where the digits in front of them are all of them
-pub digits-whole : (n at : ℕ) (xs : List ℕ) → numberFrom 65535 n xs ≡ endingAt (at + length xs) (digitsFrom n at xs)
-unfolding numberFrom digitsFrom
-digits-whole n at [] = rw (eq-eqb at (at + 0) (omega arith))
-digits-whole n at (d ∷ ds) =
-    by-digit n d
-    (λ other.
-    let more : eqb at (at + length (d ∷ ds)) ≡ false = ne-eqb at (at + length (d ∷ ds)) (λ e. omega arith) in
-    numberFrom-none 65535 n d ds (λ low high fits. other low high) ∙ sym (ap (endingAt (at + length (d ∷ ds))) (digits-end n at d ds other) ∙ rw more))
-    (λ low high over.
-    numberFrom-none 65535 n d ds (λ l h fits. omega arith) ∙ sym (ap (endingAt (at + length (d ∷ ds))) (digits-over n at d ds low high over)))
-    (λ low high fits.
-    let same : at + length (d ∷ ds) ≡ at + 1 + length ds = omega arith in
-    numberFrom-digit 65535 n d ds low high fits
-    ∙ digits-whole (n * 10 + (d - 48)) (at + 1) ds
-    ∙ sym (ap (endingAt (at + length (d ∷ ds))) (digits-more n at d ds low high fits) ∙ rw same))
+-- a field that has no 0 in front of another digit is a decimal where no b ends its digits
+pub decimal-to :
+    (b : ℕ) (field : List ℕ)
+    → b < 48
+    → 0 < length field
+    → (1 < length field → getD field 0 0 ≢ 48)
+    → decimalOf field ≡ endingAt (length field) (numberTo b field 0 0)
+decimal-to b field small some-byte leads =
+    ⊎-elim
+    (λ (all : before b (drop 0 field) ≡ field). by-number ∙ sym (rw (all, zero-add) (whole (numberFrom 65535 0 field))))
+    (λ (rest, cut).
+    let shorter : 0 + length (before b field) ≢ length field =
+    λ e. omega (arith, ap length cut ∙ length-append (before b field) (b ∷ rest)) in
+    by-option (decimalOf field)
+    (λ q. q ∙ sym (other (0 + length (before b field)) shorter (numberFrom 65535 0 (before b field))))
+    (λ n q.
+    let free : Free b field = rw (decimal-written field n q .0) (free-decimal b n small) in
+    let alone : before b field ∷ parted b rest ≡ field ∷ [] = sym (ap (parted b) cut ∙ parted-first (before-free b field) rest) ∙ parted-free free in
+    absurd (nil≢cons (sym (sym (parted-some b rest .2) ∙ tail-eq-of-cons-eq alone)))))
+    (before-split b field)
+  where
+    by-number : decimalOf field ≡ numberFrom 65535 0 field
+    by-number = compared 1 (length field) (λ more. decimalUpTo-more 65535 field some-byte (leads more)) (λ one. decimalUpTo-one 65535 field (omega arith))
 
--- they end where they begin or behind it, and inside the bytes
-pub digits-within : (n at : ℕ) (xs : List ℕ) {m end : ℕ} → digitsFrom n at xs ≡ Of m end → (at ≤ end) × (end ≤ at + length xs)
-unfolding digitsFrom
-digits-within n at [] {end = end} e = let same : at ≡ end = cc in omega arith
-digits-within n at (d ∷ ds) {m} {end} e =
-    by-digit n d
-    (λ other. let same : Of n at ≡ Of m end = sym (digits-end n at d ds other) ∙ e in let place : at ≡ end = cc in omega arith)
-    (λ low high over. let none-read : BadNumber ≡ Of m end = sym (digits-over n at d ds low high over) ∙ e in absurd (let z : _≡_ {A = ℕ} 0 1 = cc in omega arith))
-    (λ low high fits. let rest = digits-within (n * 10 + (d - 48)) (at + 1) ds (sym (digits-more n at d ds low high fits) ∙ e) in omega arith)
+    whole : (o : Option ℕ) → endingAt (length field) (ending (length field) o) ≡ o
+    whole none = refl
+    whole (some n) = rw (eq-eqb (length field) (length field) refl)
 
--- a field that has no 0 in front of another digit is a decimal where it is all digits
-pub decimal-digits : (field : List ℕ) → 0 < length field → (1 < length field → getD field 0 0 ≢ 48) →
-    decimalOf field ≡ endingAt (length field) (digitsFrom 0 0 field)
-decimal-digits field some-byte leads =
-    compared 1 (length field) (λ more. decimalUpTo-more 65535 field some-byte (leads more)) (λ one. decimalUpTo-one 65535 field (omega arith))
-    ∙ digits-whole 0 0 field
-    ∙ rw zero-add
+    other : (end : ℕ) → end ≢ length field → (o : Option ℕ) → endingAt (length field) (ending end o) ≡ none
+    other end e none = refl
+    other end e (some n) = rw (ne-eqb end (length field) e)
 
--- a number that a byte b ends, if one does
-abbrev pub endingBy : ℕ → List ℕ → Number → Number
-endingBy b s BadNumber = BadNumber
-endingBy b s (Of n end) = cond (ltb end (length s)) (cond (eqb (getD s end 0) b) (Of n end) BadNumber) BadNumber
-
--- a number that ends behind the place where it begins
-abbrev pub begunAt : ℕ → Number → Number
-begunAt at BadNumber = BadNumber
-begunAt at (Of n end) = cond (eqb end at) BadNumber (Of n end)
-
-pub number-unbegun : (b : ℕ) (s : List ℕ) (at n end : ℕ) → end ≡ at → begunAt at (endingBy b s (Of n end)) ≡ BadNumber
-number-unbegun b s at n end e =
-    by-test (ltb end (length s)) (λ t. rw t (by-test (eqb (getD s end 0) b) (λ u. rw (u, eq-eqb end at e)) (λ u. rw u))) (λ t. rw t)
+-- a number that ends before a place, if it does
+abbrev pub endingBefore : ℕ → Number → Number
+endingBefore length BadNumber = BadNumber
+endingBefore length (Of n end) = cond (ltb end length) (Of n end) BadNumber
 
 module _ (b : ℕ) (s : List ℕ) (small : b < 48) where
-  -- the digits up to the next b write a number where that b stands behind them
-  pub digits-ended : (k n i : ℕ) → i + k ≡ length s → firstNumber (numberFrom 65535 n) i (parted b (drop i s)) ≡ endingBy b s (digitsFrom n i (drop i s))
-  unfolding numberFrom digitsFrom
-  digits-ended zero n i e =
-      let past : length s ≤ i = omega arith in
-      number-past (numberFrom 65535 n) b i s past ∙ sym (rw (drop-of-length-le s past, le-ltb i (length s) past))
-  digits-ended (suc k) n i e =
-      let inside : i < length s = omega arith in
-      let first = getD s i 0 in
-      let here : drop i s ≡ first ∷ drop (i + 1) s = rw (add-one, drop-cons s i 0 inside) in
-      let ended : digitsFrom n i (first ∷ drop (i + 1) s) ≡ Of n i → endingBy b s (digitsFrom n i (drop i s)) ≡ cond (eqb first b) (Of n i) BadNumber =
-      λ q. rw (here, q, lt-ltb i (length s) inside) in
-      by-test (eqb first b)
-      (λ t.
-      let found = eqb-true first b t in
-      number-found (numberFrom 65535 n) b i s inside found ∙ sym (ended (digits-end n i first (drop (i + 1) s) (λ low high. omega arith)) ∙ rw t))
-      (λ t.
-      let other = eqb-false first b t in
-      by-digit n first
-      (λ no.
-      number-bad (numberFrom 65535 n) b i s inside other (λ part. numberFrom-none 65535 n first part (λ low high fits. no low high))
-      ∙ sym (ended (digits-end n i first (drop (i + 1) s) no) ∙ rw t))
-      (λ low high over.
-      number-bad (numberFrom 65535 n) b i s inside other (λ part. numberFrom-none 65535 n first part (λ l h fits. omega arith))
-      ∙ sym (rw (here, digits-over n i first (drop (i + 1) s) low high over)))
-      (λ low high fits.
-      number-passed (numberFrom 65535 n) b i s inside other (numberFrom 65535 (n * 10 + (first - 48))) (λ part. numberFrom-digit 65535 n first part low high fits)
-      ∙ digits-ended k (n * 10 + (first - 48)) (i + 1) (omega arith)
-      ∙ sym (rw (here, digits-more n i first (drop (i + 1) s) low high fits))))
-
-  -- so does a field without a 0 in front that has a digit
-  pub number-digits : (at : ℕ) → at < length s → getD s at 0 ≢ 48 → numberAt b s at ≡ begunAt at (endingBy b s (digitsFrom 0 at (drop at s)))
-  unfolding decimalUpTo
-  number-digits at inside leads =
-      let first = getD s at 0 in
-      let here : drop at s ≡ first ∷ drop (at + 1) s = rw (add-one, drop-cons s at 0 inside) in
-      let unbegun : (48 ≤ first → first ≤ 57 → ⊥) → begunAt at (endingBy b s (digitsFrom 0 at (drop at s))) ≡ BadNumber =
-      λ no. rw (here, digits-end 0 at first (drop (at + 1) s) no) (number-unbegun b s at 0 at refl) in
-      by-test (eqb first b)
-      (λ t.
-      let found = eqb-true first b t in
-      number-found decimalOf b at s inside found ∙ sym (unbegun (λ low high. omega arith)))
-      (λ t.
-      let other = eqb-false first b t in
-      by-digit 0 first
-      (λ no.
-      number-bad decimalOf b at s inside other (λ part. decimalUpTo-more 65535 (first ∷ part) (omega arith) leads ∙ numberFrom-none 65535 0 first part (λ low high fits. no low high))
-      ∙ sym (unbegun no))
-      (λ low high over. absurd (omega arith))
-      (λ low high fits.
-      let more = digits-more 0 at first (drop (at + 1) s) low high fits in
-      number-passed decimalOf b at s inside other (numberFrom 65535 (0 * 10 + (first - 48)))
-      (λ part. decimalUpTo-more 65535 (first ∷ part) (omega arith) leads ∙ numberFrom-digit 65535 0 first part low high fits)
-      ∙ digits-ended (length s - (at + 1)) (0 * 10 + (first - 48)) (at + 1) (omega arith)
-      ∙ sym (rw (here, more) (begun (digitsFrom (0 * 10 + (first - 48)) (at + 1) (drop (at + 1) s)) refl))))
+  -- what is read up to the next b, where there is one
+  first-to :
+      (reads : List ℕ → Option ℕ) (i : ℕ)
+      → firstNumber reads i (parted b (drop i s))
+      ≡ endingBefore (length s) (ending (i + length (before b (drop i s))) (reads (before b (drop i s))))
+  first-to reads i =
+      compared (i + length (before b (drop i s))) (length s)
+      (λ inside. rw (parted-cut b i s inside .2) (within inside (reads (before b (drop i s)))))
+      (λ past. rw (parted-whole b i s past) (sym (beyond past (reads (before b (drop i s))))))
     where
-      begun : (r : Number) → digitsFrom (0 * 10 + (getD s at 0 - 48)) (at + 1) (drop (at + 1) s) ≡ r → begunAt at (endingBy b s r) ≡ endingBy b s r
-      begun BadNumber q = refl
-      begun (Of n end) q =
-          let behind = digits-within (0 * 10 + (getD s at 0 - 48)) (at + 1) (drop (at + 1) s) q in
-          let later : eqb end at ≡ false = ne-eqb end at (λ e. omega arith) in
-          by-test (ltb end (length s)) (λ t. rw t (by-test (eqb (getD s end 0) b) (λ u. rw (u, later)) (λ u. rw u))) (λ t. rw t)
+      within : i + length (before b (drop i s)) < length s → (o : Option ℕ) →
+          ending (i + length (before b (drop i s))) o ≡ endingBefore (length s) (ending (i + length (before b (drop i s))) o)
+      within h none = refl
+      within h (some n) = rw (lt-ltb (i + length (before b (drop i s))) (length s) h)
+
+      beyond : length s ≤ i + length (before b (drop i s)) → (o : Option ℕ) →
+          endingBefore (length s) (ending (i + length (before b (drop i s))) o) ≡ BadNumber
+      beyond h none = refl
+      beyond h (some n) = rw (le-ltb (i + length (before b (drop i s))) (length s) h)
+
+  module _ (at : ℕ) (inside : at < length s) where
+    -- a number begins with a digit
+    pub number-undigit : (48 ≤ getD s at 0 → getD s at 0 ≤ 57 → ⊥) → numberAt b s at ≡ BadNumber
+    unfolding decimalUpTo
+    number-undigit none-there =
+        by-test (eqb (getD s at 0) b)
+        (λ t. number-found decimalOf b at s inside (eqb-true (getD s at 0) b t))
+        (λ t.
+        number-bad decimalOf b at s inside (eqb-false (getD s at 0) b t)
+        (λ part.
+        decimalUpTo-more 65535 (getD s at 0 ∷ part) (omega arith) (λ e. none-there (omega (arith, e)) (omega (arith, e)))
+        ∙ numberFrom-none 65535 0 (getD s at 0) part (λ low high fits. none-there low high)))
+
+    -- and, where that is no 0, goes on up to the next b
+    pub number-to :
+        48 < getD s at 0
+        → getD s at 0 ≤ 57
+        → numberAt b s at ≡ endingBefore (length s) (numberTo b s (getD s at 0 - 48) (at + 1))
+    number-to low high =
+        let first : 0 * 10 + (getD s at 0 - 48) ≡ getD s at 0 - 48 = omega arith in
+        number-passed decimalOf b at s inside (λ e. omega arith) (numberFrom 65535 (getD s at 0 - 48))
+        (λ part.
+        decimalUpTo-more 65535 (getD s at 0 ∷ part) (omega arith) (λ e. omega (arith, e))
+        ∙ numberFrom-digit 65535 0 (getD s at 0) part (omega arith) high (omega arith)
+        ∙ rw first)
+        ∙ first-to (numberFrom 65535 (getD s at 0 - 48)) (at + 1)
 
 -- what a number is, by the answer
 ending-of : (place : ℕ) (o : Option ℕ) {n end : ℕ} → ending place o ≡ Of n end → (o ≡ some n) × (place ≡ end)
 ending-of place none e = absurd (let z : _≡_ {A = ℕ} 0 1 = cc in omega arith)
 ending-of place (some m) e = (cc, cc)
+
+-- they end inside the bytes
+pub to-within : (b n i : ℕ) (s : List ℕ) {m end : ℕ} → i ≤ length s → numberTo b s n i ≡ Of m end → end ≤ length s
+to-within b n i s {m} {end} inside e =
+    let (_, place) = ending-of (i + length (before b (drop i s))) (numberFrom 65535 n (before b (drop i s))) e in
+    ⊎-elim
+    (λ all. omega (arith, place, ap length all, length-drop i s))
+    (λ w. omega (arith, place, length-drop i s, ap length (w .1) ∙ length-append (before b (drop i s)) (b ∷ w .0)))
+    (before-split b (drop i s))
 
 -- what is known of a number that a b ends: it is what would be written, and the b stands behind it
 abbrev pub NumberEnds : ℕ → List ℕ → ℕ → ℕ → ℕ → Type 0

@@ -1,13 +1,14 @@
 -- What each answer of `text` means, by the definitions of document 01's texts (`rules`, Text).
-use Prim.Native.Nat.{ℕ, _+_, _-_, _*_}
+use Prim.Native.Nat.{ℕ, _+_, _-_}
 use mathlib.Core.Bool.{cond}
 use mathlib.Core.List.{List, [], _∷_}
 use mathlib.Core.Option.{Option, none, some}
-use lib.Dec.{leb, eqb}
+use lib.Dec.{eqb}
 use mathlib.Core.Path.{_≡_}
 use lib.ListN.{length, take, drop}
-use Rattle.rules.specs.Text.{parted, linesOf, fieldsOf, isDigit, decimalOf}
+use Rattle.rules.specs.Text.{parted, linesOf, fieldsOf, numberFrom, decimalOf}
 use Rattle.rules.specs.Steps.{reversed}
+use Rattle.text.specs.Before.{before}
 use Rattle.text.specs.declared.Line.{Line}
 use Rattle.text.specs.declared.Line.the-variants.{End, Whole, Cut}
 use Rattle.text.specs.declared.Field.{Field}
@@ -44,17 +45,14 @@ abbrev pub numberOf : Decimal → Option ℕ
 numberOf (Value n) = some n
 numberOf Bad = none
 
--- the number that the digits in front of some bytes write after n, and the place behind them, or that it is over 65,535
-unfoldable pub digitsFrom : ℕ → ℕ → List ℕ → Number
-digitsFrom n at [] = Of n at
-digitsFrom n at (d ∷ ds) =
-    let next : ℕ = n * 10 + (d - 48) in
-    cond (isDigit d) (cond (leb next 65535) (digitsFrom next (at + 1) ds) BadNumber) (Of n at)
-
 -- a number that was read, if any, with the place where it ends
 abbrev pub ending : ℕ → Option ℕ → Number
 ending end none = BadNumber
 ending end (some n) = Of n end
+
+-- the number that the bytes from a place to the next byte b, or to the end, write after n, and the place where they end
+abbrev pub numberTo : ℕ → List ℕ → ℕ → ℕ → Number
+numberTo b s n at = ending (at + length (before b (drop at s))) (numberFrom 65535 n (before b (drop at s)))
 
 -- of the parts of what is left from a place on, the first by a way to read it, where another follows
 abbrev pub firstNumber : (List ℕ → Option ℕ) → ℕ → List (List ℕ) → Number

@@ -7,7 +7,7 @@ ghost use mathlib.Core.List.{_∷_};
 ghost use Rattle.rules.specs.Text.{decimalOf, decimal, parted, fieldsOf};
 ghost use Rattle.rules.specs.Listing.{isLetter};
 ghost use Rattle.rules.specs.Schema.{ascending};
-ghost use Rattle.text.specs.Answers.{lineAt, fieldAt, numberOf, digitsFrom, firstNumber, numberAt, NamesRead};
+ghost use Rattle.text.specs.Answers.{lineAt, fieldAt, numberOf, numberTo, firstNumber, numberAt, NamesRead};
 ghost use Rattle.text.specs.Before.{before};
 
 pub const LF: u8 = 10;
@@ -117,7 +117,7 @@ impl Decimal {
         if 1 < n && field[0] == 48 {
             return Decimal::Bad;
         }
-        let Number::Of(value, end) = Number::digits(field, 0) else {
+        let Number::Of(value, end) = Number::digits(field, 0, TAB, 0) else {
             return Decimal::Bad;
         };
         if end < n {
@@ -142,16 +142,21 @@ impl Decimal {
 }
 
 impl Number {
-    // The number that the digits from a place on write, 0 for none, and the place of the first byte behind them; or that it is over MOST.
-    fn digits(s: &[u8], at: usize) -> Number
-        ensures { λ r. ⌜ r ≡ digitsFrom 0 at (drop at (now (s .entry))) ⌝ }
+    // The number that the digits from a place to the next byte `b`, or to the end, write after the number `n` in front of them, and the
+    // place where they end; or that they write none.
+    fn digits(s: &[u8], at: usize, b: u8, n: u64) -> Number
+        requires { ⌜ n ≤ 65535 ⌝ }
+        ensures { λ r. ⌜ r ≡ numberTo b (now (s .entry)) n at ⌝ }
     {
-        let mut value: u64 = 0;
+        let mut value = n;
         let mut i = at;
         while i < s.len() {
             let digit = s[i];
-            if digit < 48 || 57 < digit {
+            if digit == b {
                 return Number::Of(value, i);
+            }
+            if digit < 48 || 57 < digit {
+                return Number::Bad;
             }
             value = value * 10 + (digit - 48) as u64;
             if Decimal::MOST < value {
@@ -170,19 +175,17 @@ impl Number {
         if s.len() <= at {
             return Number::Bad;
         }
-        if s[at] == 48 {
+        let first = s[at];
+        if first == 48 {
             return Number::zero(s, at + 1, b);
         }
-        let Number::Of(value, end) = Number::digits(s, at) else {
+        if first < 48 || 57 < first {
+            return Number::Bad;
+        }
+        let Number::Of(value, end) = Number::digits(s, at + 1, b, (first - 48) as u64) else {
             return Number::Bad;
         };
-        if end == at {
-            return Number::Bad;
-        }
         if s.len() <= end {
-            return Number::Bad;
-        }
-        if s[end] != b {
             return Number::Bad;
         }
         Number::Of(value, end)

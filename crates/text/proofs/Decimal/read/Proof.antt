@@ -11,7 +11,7 @@ use mathlib.Core.Path.{_≡_, sym, ap, _∙_}
 use lib.ListN.{length, getD}
 use Rattle.rules.specs.Text.{decimalOf}
 use Rattle.rules.specs.TextLaws.{decimalUpTo-empty, decimalUpTo-zero}
-use Rattle.text.proofs.Laws.{endingAt, decimal-digits, digits-within}
+use Rattle.text.proofs.Laws.{endingAt, decimal-to, to-within}
 use Rattle.text.proofs.Decimal.read.Statement.{statement}
 use Rattle.text.proofs.Decimal.read.Tie as tie
 
@@ -37,7 +37,7 @@ enum-told c = search needs
 by-digits : (c : tie.After-digits) → decimalOf (c .before .before .before .before .args .field .now) ≡ endingAt (length (c .before .before .before .before .args .field .now)) (c .digits .result)
 by-digits c =
     let field = c .before .before .before .before .args .field .now in
-    decimal-digits field (omega arith) (λ more. ⊎-elim (λ w. eqb-false (getD field 0 0) 48 (w .2 .left)) (λ w. absurd (omega arith)) (c .before .if2 .came))
+    decimal-to 9 field (omega arith) (omega arith) (λ more. ⊎-elim (λ w. eqb-false (getD field 0 0) 48 (w .2 .left)) (λ w. absurd (omega arith)) (c .before .if2 .came))
     ∙ ap (endingAt (length field)) (sym (c .digits .ensures))
 
 returns-3 : tie.Need-returns-3
@@ -47,7 +47,7 @@ returns-3 c = sym (by-digits (c .before .before) ∙ rw (c .enum-told .given .1)
 within : (c : tie.After-value) → c .value .given .0 .1 .0 ≤ length (c .before .before .before .before .before .before .args .field .now)
 within c =
     let field = c .before .before .before .before .before .before .args .field .now in
-    omega (arith, digits-within 0 0 field (sym (c .before .before .digits .ensures) ∙ c .value .given .1))
+    to-within 9 0 0 field (omega arith) (sym (c .before .before .digits .ensures) ∙ c .value .given .1)
 
 returns-4 : tie.Need-returns-4
 returns-4 c =
