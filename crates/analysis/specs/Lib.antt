@@ -1,4 +1,4 @@
 -- What `analysis` answers and leaves.
 pub mod Outcomes
-pub mod RunLaws
+pub mod ContributionLaws
 pub mod AnswerLaws

@@ -5,20 +5,15 @@ use mathlib.Core.Bool.{cond, _&&_}
 use mathlib.Core.List.{List}
 use lib.Dec.{leb, ltb}
 use lib.ListN.{length}
-use Rattle.rules.specs.Numbers.{accepted, refused}
-use Rattle.rules.specs.Lines.{folded}
 use Rattle.rules.specs.Schema.{Item}
-use Rattle.rules.specs.Steps.{Result, run, analyse}
+use Rattle.rules.specs.Steps.{analyse}
+use Rattle.step_runs.specs.StepRuns.{NotLarge}
 use Rattle.words.specs.Runs.{Outcome, refusing}
 use Rattle.rows.specs.States.{storing}
 use Rattle.words.specs.declared.Reply.{Reply}
 use Rattle.schema.specs.Items.{schemaWords, lawfulSchema, itemsIn}
-use Rattle.result_stack.specs.Stacks.{Held}
-use Rattle.analysis.specs.declared.Ran.{Ran}
-use Rattle.analysis.specs.declared.Ran.the-variants.{Stack as Stacked, Refused, Full}
 use Rattle.analysis.specs.declared.Answered.{Answered}
 use Rattle.analysis.specs.declared.Answered.the-variants.{Reply as Replied, Full as Filled}
-use Rattle.result_stack.specs.declared.Stack.{Stack}
 
 -- analysing steps: 31, then 1 at 0 for a schema that is not lawful or a number that is no request type, then what the text gives by line
 unfoldable pub analyseIn : List ℕ → ℕ → List ℕ → List ℕ → Outcome
@@ -26,21 +21,6 @@ analyseIn schema request text out =
     cond (leb schemaWords (length schema) && leb 1026 (length out))
     (cond (lawfulSchema schema && ltb request (2 ^ 48)) (storing out (analyse (itemsIn schema) request text)) (refusing 1 0 out))
     (refusing 31 0 out)
-
--- a text was run to its end, and the stack holds the results
-pub record Finished (items : List Item) (text code tries : List ℕ) (stack : Stack) (lines : ℕ) : Type 0 where
-  pub results : List Result
-  pub ran : run items text ≡ accepted (folded lines results)
-  pub held : Held code tries stack results
-
--- the runs are not the large ones, which no text fills
-abbrev pub NotLarge : List ℕ → List ℕ → Type 0
-NotLarge code tries = length code ≡ 212448 → length tries ≡ 33825 → ⊥
-
-abbrev pub RanBy : List Item → List ℕ → List ℕ → List ℕ → Ran → Type 0
-RanBy items text code tries (Stacked stack lines) = Finished items text code tries stack lines
-RanBy items text code tries (Refused number place) = run items text ≡ refused number place
-RanBy items text code tries Full = NotLarge code tries
 
 -- a reply, and what the buffer then holds
 abbrev pub AnswerStored : List Item → ℕ → List ℕ → List ℕ → List ℕ → Reply → Type 0

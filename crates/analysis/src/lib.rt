@@ -1,111 +1,28 @@
 // A step text under a request type as a contribution's rows.
 ghost use mathlib.Core.Path.{_≡_};
-ghost use mathlib.Core.Bool.{true, false};
-ghost use mathlib.Core.List.{List, _∷_, _++_};
-ghost use Prim.Native.Nat.{ℕ, _^_, _<_, _≤_};
-ghost use lib.ListN.{length, drop};
-ghost use Rattle.rules.specs.Tries.{Row as RowOf};
-ghost use Rattle.rules.specs.Listing.{read};
+ghost use mathlib.Core.Bool.{true};
+ghost use Prim.Native.Nat.{_^_, _<_, _≤_};
+ghost use lib.ListN.{length};
 ghost use Rattle.rules.specs.Steps.{analyse as analyseSteps};
-ghost use Rattle.rows.specs.States.{holding, storing};
+ghost use Rattle.rows.specs.States.{storing};
 ghost use Rattle.schema.specs.Items.{itemsOf, goodItems};
 ghost use Rattle.type_table.specs.Tables.{GoodTypes};
-ghost use Rattle.result_stack.specs.Stacks.{TrieAt, trieWords, Scratch};
-ghost use Rattle.analysis.specs.Outcomes.{analyseIn, RanBy, AnsweredBy, FullBy};
-use path_tries::TRIE;
+ghost use Rattle.result_stack.specs.Stacks.{Scratch};
+ghost use Rattle.analysis.specs.Outcomes.{analyseIn, AnsweredBy, FullBy};
 use result_stack::Stack;
-use result_stack::Stepped;
 use rows::Kind;
-use rows::Row;
-use step_lines::Step;
-use step_lines::parse;
-use steps::apply;
-use text::Line;
+use step_runs::Ran;
+use step_runs::run;
+use step_runs::write_contribution;
 use type_table::TypeSize;
 use type_table::fill_table;
 use words::Reply;
 use wrapped_paths::WrappedAccessPaths;
 
-// What a text gives: the stack after so many lines, or a refusal's number and line, or that the runs of the stack are full.
-enum Ran {
-    Stack(Stack, u64),
-    Refused(u64, u64),
-    Full,
-}
-
 // The reply to a text, or that the runs of the stack are full.
 enum Answered {
     Reply(Reply),
     Full,
-}
-
-// Runs all lines of a text; `paths` is scratch.
-fn run(
-    words: &[u64],
-    table: &[u64],
-    types: u64,
-    text: &[u8],
-    code: &mut [u64],
-    tries: &mut [u64],
-    paths: &mut [u64],
-) -> Ran
-    requires { ⌜ GoodTypes (now words) (now table) types ⌝ }
-    requires { ⌜ (length (now code) < 2 ^ 53) × Scratch (now code) (now paths) ⌝ }
-    ensures { λ r. ⌜ RanBy (itemsOf (now (words .entry))) (now (text .entry)) (now (code .exit)) (now (tries .exit)) r ⌝ }
-{
-    let mut names = [0u64; Step::NAMES];
-    let mut trie = [0u64; TRIE];
-    let mut stack = Stack::new(code.len(), tries.len());
-    let mut at = 0;
-    let mut line: u64 = 0;
-    while at < text.len() {
-        if stack.code < Stack::CODE_ROOM {
-            return Ran::Full;
-        }
-        if stack.tries < Stack::TRIES_ROOM {
-            return Ran::Full;
-        }
-        let Line::Whole(end) = Line::at(text, at) else {
-            return Ran::Refused(1, line);
-        };
-        let step = parse(&text[at..end], &mut names);
-        let stepped = apply(
-            step,
-            &names,
-            words,
-            table,
-            types,
-            code,
-            tries,
-            paths,
-            &mut trie,
-            stack,
-        );
-        match stepped {
-            Stepped::Next(next) => {
-                stack = next;
-            }
-            Stepped::Refused(number) => {
-                return Ran::Refused(number, line);
-            }
-        }
-        at = end + 1;
-        line += 1;
-    }
-    Ran::Stack(stack, line)
-}
-
-// Writes the contribution of the one result on a stack.
-fn write_contribution(request: u64, tries: &[u64], at: usize, out: &mut [u64])
-    requires { ⌜ TrieAt (now tries) at × ((request < 2 ^ 48) × (1026 ≤ length (now out))) ⌝ }
-    ensures { λ _. ⌜ ((trie : List RowOf) (rest : List ℕ) → drop at (now (tries .entry)) ≡ trieWords trie ++ rest → now (out .exit) ≡ holding (now (out .entry)) (read 0 request false ∷ trie)) ⌝ }
-{
-    let count = tries[at];
-    out[0] = count + 1;
-    out[1] = Row::entry(request).word;
-    let first = at + 1;
-    let end = first + count as usize;
-    words::copy_words(&tries[first..end], out, 2);
 }
 
 // The answer to a step text by a stack in two runs of any length; `paths` is scratch.

@@ -3,8 +3,8 @@
 use mathlib.Core.Path.{refl, _∙_}
 use borrow.Author.Needs.{needs}
 use Rattle.schema.specs.Items.{itemsOf}
-use Rattle.analysis.specs.Outcomes.{Finished}
-use Rattle.analysis.specs.RunLaws.{answered-refused, answered-many, only-trie, answered-one}
+use Rattle.step_runs.specs.StepRuns.{Finished}
+use Rattle.analysis.specs.ContributionLaws.{answered-refused, answered-many, only-trie, answered-one}
 use Rattle.analysis.proofs.answer_in.Statement.{statement}
 use Rattle.analysis.proofs.answer_in.Tie as tie
 

@@ -1,13 +1,13 @@
--- Laws of running a step text line by line (Outcomes), and of what its stack comes to. No contract cites this file.
-use Prim.Native.Nat.{ℕ, suc, _+_, _-_, _^_, _≤_, _<_}
+-- Laws of a step line on the stack, of running a step text line by line, and of the contribution of a result. No contract cites this file.
+use Prim.Native.Nat.{ℕ, suc, _+_, _-_, _≤_, _<_}
 use native.Mathlib.Nat.{add-sub-cancel-left}
 use native.Mathlib.Numerals.{add-one}
 use native.Mathlib.Omega.{arith}
-use mathlib.Core.Path.{_≡_, refl, sym, _∙_, subst}
+use mathlib.Core.Path.{_≡_, sym, _∙_, subst}
 use mathlib.Core.Bool.{true, false}
 use mathlib.Core.List.{List, [], _∷_, _++_}
 use mathlib.Core.Option.{Option}
-use mathlib.Core.Logic.{_≢_, _⊎_, inl, inr}
+use mathlib.Core.Logic.{_⊎_, inl, inr}
 use borrow.Author.Tests.{lt-ltb}
 use lib.ListN.{length, take, drop, getD, set, length-drop, length-set, drop-of-length-le}
 use lib.Seq.{length-take-le}
@@ -19,37 +19,7 @@ use Rattle.rules.specs.Listing.{read}
 use Rattle.rules.specs.ListingLaws.{refused-not}
 use Rattle.rules.specs.Schema.{Item, fromType}
 use Rattle.rules.specs.Paths.{getOrHasAttr, fullTypeRequired, addTaken, RecordLiteral, SetLiteral}
-use Rattle.rules.specs.Steps.{
-  Result,
-  result,
-  fromRoot,
-  defaultResult,
-  restored,
-  unionResults,
-  emptyPaths,
-  inResult,
-  wrapped,
-  Step,
-  root,
-  nothing,
-  attr,
-  both,
-  dropped,
-  full,
-  inside,
-  set as setOf,
-  rec,
-  stepFrom,
-  judged,
-  attrStep,
-  recStep,
-  fullStep,
-  apply,
-  stepped,
-  stepLine,
-  run,
-  ended,
-}
+use Rattle.rules.specs.Steps.{Result, result, fromRoot, defaultResult, restored, unionResults, emptyPaths, inResult, wrapped, Step, root, nothing, attr, both, dropped, full, inside, set as setOf, rec, stepFrom, judged, attrStep, recStep, fullStep, apply, stepped, stepLine, run}
 use Rattle.rules.specs.StepLaws.{Each, AllGood, GoodSchema, judged-accepted, step-good, apply-good}
 use Rattle.text.specs.Answers.{lineAt}
 use Rattle.text.proofs.Laws.{whole-line, cut-line}
@@ -57,8 +27,7 @@ use Rattle.text.proofs.FoldLaws.{CameTo, came-start, came-end, came-cut, came-r
 use Rattle.text.specs.declared.Line.{Line}
 use Rattle.text.specs.declared.Line.the-variants.{Whole}
 use Rattle.rows.specs.Words.{wordOf}
-use Rattle.rows.specs.States.{holding, storing}
-use Rattle.words.specs.declared.Reply.the-variants.{Done, Refused}
+use Rattle.rows.specs.States.{holding}
 use Rattle.words.specs.Runs.{Wrote}
 use Rattle.schema.specs.Items.{itemsOf, goodItems}
 use Rattle.wrapped_paths.specs.Code.{codes}
@@ -66,8 +35,8 @@ use Rattle.step_lines.specs.Lines.{stepRead, GoodRead}
 use Rattle.result_stack.specs.Stacks.{trieWords, stacked, Held, Holding, Reached, TrieAt}
 use Rattle.type_table.specs.TypeTableLaws.{good-all, good-lawful}
 use Rattle.full_types.specs.FullLaws.{item-keys}
-use Rattle.result_stack.specs.StackLaws.{trie-count, trie-rows, at-within, at-few, code-left, tries-left, top-trie, top-at}
-use Rattle.analysis.specs.Outcomes.{Finished, NotLarge, AnswerStored}
+use Rattle.result_stack.specs.StackLaws.{trie-count, trie-rows, at-within, at-few, code-left, tries-left}
+use Rattle.step_runs.specs.StepRuns.{Ready, NotLarge, TookLine, Finished}
 use Rattle.step_lines.specs.declared.Step.{Step as StepRead}
 use Rattle.step_lines.specs.declared.Step.the-variants.{Root, None, Attr, Union, Drop, Full, In, Set, Rec, Bad}
 use Rattle.result_stack.specs.declared.Stack.{Stack}
@@ -152,6 +121,63 @@ stepped-held words place fields stack after good all e =
       apply-good (itemsOf words) (schema-good words good) place step (step-good fields step q) stack after all applied,
     ))
 
+-- ---- a step line on the stack
+
+-- before the first line there is no result
+pub held-none :
+    (code tries : List ℕ) (stack : Stack)
+    → (stack .code ≡ length code) × ((stack .tries ≡ length tries) × (stack .results ≡ 0))
+    → Held code tries stack []
+unfolding Each codes stacked
+held-none code tries stack (at-code, (at-tries, no-result)) = record {
+  layout = record {
+    in-code = omega arith;
+    in-tries = omega arith;
+    code-there = drop-of-length-le code {i = stack .code} (omega arith);
+    tries-there = drop-of-length-le tries {i = stack .tries} (omega arith);
+    as-many = no-result;
+  };
+  few = omega arith;
+  good = tt;
+}
+
+-- a step may take the results where there is room
+pub ready-holds :
+    {code tries names paths trie : List ℕ} {stack : Stack}
+    → Ready code tries names paths trie stack
+    → 256 ≤ stack .code
+    → 1025 ≤ stack .tries
+    → Holding code tries stack
+ready-holds ready code-room tries-room = record {
+  results = ready .results;
+  held = ready .held;
+  code-room = code-room;
+  tries-room = tries-room;
+  few-words = ready .few-words;
+}
+
+-- there always is in the large runs
+pub held-full :
+    {code tries : List ℕ} {stack : Stack} {results : List Result}
+    → Held code tries stack results
+    → (stack .code < 256) ⊎ (stack .tries < 1025)
+    → NotLarge code tries
+held-full held (inl little) code-length tries-length = omega (arith, code-left held, held .few)
+held-full held (inr little) code-length tries-length = omega (arith, tries-left held, held .few)
+
+-- a step that is reached is the line's, and leaves results that a step may take
+pub line-took :
+    (words line : List ℕ) {code tries code′ tries′ : List ℕ} {stack next : Stack} {step : Option Step} {results : List Result}
+    → goodItems words ≡ true
+    → step ≡ stepFrom (fieldsOf line)
+    → Held code tries stack results
+    → Reached (λ place. stepped (itemsOf words) place step results) code′ tries′ next
+    → TookLine (itemsOf words) line results code′ tries′ next
+line-took words line {results = results} good given held reached =
+    let accepts : (place : ℕ) → stepLine (itemsOf words) place line results ≡ accepted (reached .after) = λ place. rw given at (reached .reached place) in
+    let (few, all-good) = stepped-held words 0 (fieldsOf line) results (reached .after) good (held .good) (accepts 0) in
+    record { after = reached .after; steps = accepts; held = record { layout = reached .layout; few = few; good = all-good } }
+
 -- ---- running from line to line
 
 -- the lines that were passed came to the results that the stack holds
@@ -160,44 +186,14 @@ pub record Running (words text code tries : List ℕ) (stack : Stack) (at line :
   pub held : Held code tries stack results
   pub came : CameTo (stepLine (itemsOf words)) [] text at line results
 
--- before the first line there is no result
 pub running-none :
     (words text code tries : List ℕ) (stack : Stack)
     → (stack .code ≡ length code) × ((stack .tries ≡ length tries) × (stack .results ≡ 0))
     → Running words text code tries stack 0 0
-unfolding Each codes stacked
-running-none words text code tries stack (at-code, (at-tries, no-result)) = record {
-  results = [];
-  held = record {
-    layout = record {
-      in-code = omega arith;
-      in-tries = omega arith;
-      code-there = drop-of-length-le code {i = stack .code} (omega arith);
-      tries-there = drop-of-length-le tries {i = stack .tries} (omega arith);
-      as-many = no-result;
-    };
-    few = omega arith;
-    good = tt;
-  };
-  came = came-start (stepLine (itemsOf words)) [] text;
-}
+running-none words text code tries stack new =
+    record { results = []; held = held-none code tries stack new; came = came-start (stepLine (itemsOf words)) [] text }
 
 module _ {words text code tries : List ℕ} {stack : Stack} {at line : ℕ} (running : Running words text code tries stack at line) where
-  -- a step may take the results where there is room
-  pub running-holds : 256 ≤ stack .code → 1025 ≤ stack .tries → length code < 2 ^ 53 → Holding code tries stack
-  running-holds code-room tries-room few-words = record {
-    results = running .results;
-    held = running .held;
-    code-room = code-room;
-    tries-room = tries-room;
-    few-words = few-words;
-  }
-
-  -- there always is in the large runs
-  pub running-full : (stack .code < 256) ⊎ (stack .tries < 1025) → NotLarge code tries
-  running-full (inl little) code-length tries-length = omega (arith, code-left (running .held), running .held .few)
-  running-full (inr little) code-length tries-length = omega (arith, tries-left (running .held), running .held .few)
-
   -- no line is left
   pub running-all : length text ≤ at → Finished (itemsOf words) text code tries stack line
   running-all h = record { results = running .results; ran = came-end (running .came) h; held = running .held }
@@ -211,35 +207,25 @@ module _ {words text code tries : List ℕ} {stack : Stack} {at line : ℕ} (run
       → run (itemsOf words) text ≡ refused 1 line
   running-cut {r} ensured unended more = came-cut (running .came) more (cut-line text at r ensured unended)
 
-  module _
-      {end : ℕ} {r : Line} {step : Option Step}
-      (ensured : r ≡ lineAt text at)
-      (e : r ≡ Whole end)
-      (given : step ≡ stepFrom (fieldsOf (take (end - at) (drop at text)))) where
+  module _ {end : ℕ} {r : Line} (ensured : r ≡ lineAt text at) (e : r ≡ Whole end) where
     -- the next line is refused
     pub running-stopped :
         {number : ℕ}
-        → ((results : List Result) → Held code tries stack results → (place : ℕ) → stepped (itemsOf words) place step results ≡ refused number place)
+        → ((results : List Result)
+        → Held code tries stack results
+        → (place : ℕ)
+        → stepLine (itemsOf words) place (take (end - at) (drop at text)) results ≡ refused number place)
         → run (itemsOf words) text ≡ refused number line
-    running-stopped steps =
-        came-refused (running .came) (whole-line text at end r ensured e) (rw given at (steps (running .results) (running .held) line))
+    running-stopped steps = came-refused (running .came) (whole-line text at end r ensured e) (steps (running .results) (running .held) line)
 
     -- the next line is taken
     pub running-next :
         {code′ tries′ : List ℕ} {next : Stack}
-        → goodItems words ≡ true
-        → ((results : List Result) → Held code tries stack results → Reached (λ place. stepped (itemsOf words) place step results) code′ tries′ next)
+        → ((results : List Result) → Held code tries stack results → TookLine (itemsOf words) (take (end - at) (drop at text)) results code′ tries′ next)
         → Running words text code′ tries′ next (end + 1) (line + 1)
-    running-next good steps =
-        let reached = steps (running .results) (running .held) in
-        let accepts : stepped (itemsOf words) line (stepFrom (fieldsOf (take (end - at) (drop at text)))) (running .results) ≡ accepted (reached .after) =
-        rw given at (reached .reached line) in
-        let (few, all-good) = stepped-held words line _ (running .results) (reached .after) good (running .held .good) accepts in
-        record {
-          results = reached .after;
-          held = record { layout = reached .layout; few = few; good = all-good };
-          came = came-next (running .came) (whole-line text at end r ensured e) accepts;
-        }
+    running-next steps =
+        let took = steps (running .results) (running .held) in
+        record { results = took .after; held = took .held; came = came-next (running .came) (whole-line text at end r ensured e) (took .steps line) }
 
 -- ---- the contribution of a result
 
@@ -269,52 +255,3 @@ module _ (words : List ℕ) (at : ℕ) where
       → out′ ≡ holding out (read 0 request false ∷ trie)
   trie-written out request e wrote trie rest there =
       wrote .text ∙ rw (e, add-sub-cancel-left, trie-rows words rest at trie there, trie-count words rest at trie there, add-one (length trie))
-
--- ---- what analysing answers, by what the text gives
-
-pub answered-refused :
-    (items : List Item) (request : ℕ) (text out : List ℕ) {number place : ℕ}
-    → run items text ≡ refused number place
-    → AnswerStored items request text out out (Refused number place)
-answered-refused items request text out e = rw e (refl, refl)
-
-module _ {items : List Item} {text code tries : List ℕ} {stack : Stack} {lines : ℕ} (finished : Finished items text code tries stack lines) where
-  -- not one result is left
-  pub answered-many : (request : ℕ) (out : List ℕ) → stack .results ≢ 1 → AnswerStored items request text out out (Refused 6 lines)
-  answered-many request out many = rw (finished .ran) (go (finished .results) (finished .held .layout .as-many))
-    where
-      go :
-          (results : List Result)
-          → stack .results ≡ length results
-          → (Refused 6 lines ≡ storing out (ended request lines results) .reply) × (out ≡ storing out (ended request lines results) .buffer)
-      go [] e = (refl, refl)
-      go (top ∷ []) e = absurd (many e)
-      go (top ∷ next ∷ results) e = (refl, refl)
-
-  module _ (one : stack .results ≡ 1) where
-    -- one result is left
-    only : (top : Result) × (finished .results ≡ top ∷ [])
-    only = go (finished .results) (finished .held .layout .as-many)
-      where
-        go : (results : List Result) → stack .results ≡ length results → (top : Result) × (results ≡ top ∷ [])
-        go [] e = absurd (omega arith)
-        go (top ∷ []) e = (top, refl)
-        go (top ∷ next ∷ results) e = absurd (omega arith)
-
-    only-held : Held code tries stack (only .0 ∷ [])
-    only-held = rw (only .1) at (finished .held)
-
-    only-there : drop (stack .tries) tries ≡ trieWords (only .0 .trie) ++ []
-    unfolding stacked
-    only-there = top-trie only-held
-
-    -- its trie stands at the top
-    pub only-trie : TrieAt tries (stack .tries)
-    only-trie = top-at only-held
-
-    -- and is the contribution
-    pub answered-one :
-        (request : ℕ) (out : List ℕ) {out′ : List ℕ}
-        → ((trie : List Row) (rest : List ℕ) → drop (stack .tries) tries ≡ trieWords trie ++ rest → out′ ≡ holding out (read 0 request false ∷ trie))
-        → AnswerStored items request text out out′ Done
-    answered-one request out written = rw (finished .ran, only .1) (refl, written (only .0 .trie) [] only-there)

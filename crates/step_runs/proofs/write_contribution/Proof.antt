@@ -1,12 +1,12 @@
--- `analysis::write_contribution` meets its contract: the count, the entry's word and the trie's words are stored one after the other.
+-- `step_runs::write_contribution` meets its contract: the count, the entry's word and the trie's words are stored one after the other.
 -- Assumes nothing.
 use Prim.Native.Nat.{_+_, _≤_}
 use native.Mathlib.Omega.{arith}
 use lib.ListN.{length, getD, length-set}
 use borrow.Author.Needs.{needs}
-use Rattle.analysis.specs.RunLaws.{trie-within, trie-fits, trie-written}
-use Rattle.analysis.proofs.write_contribution.Statement.{statement}
-use Rattle.analysis.proofs.write_contribution.Tie as tie
+use Rattle.step_runs.specs.StepRunLaws.{trie-within, trie-fits, trie-written}
+use Rattle.step_runs.proofs.write_contribution.Statement.{statement}
+use Rattle.step_runs.proofs.write_contribution.Tie as tie
 
 -- the trie stands in the words
 within : (c : tie.Start) → (getD (c .args .tries .now) (c .args .at) 0 ≤ 1024) × (c .args .at + 1 + getD (c .args .tries .now) (c .args .at) 0 ≤ length (c .args .tries .now))

@@ -1,0 +1,3 @@
+-- What a step line and a run over step lines answer and leave.
+pub mod StepRuns
+pub mod StepRunLaws
