@@ -20,5 +20,7 @@ pub mod Paths
 pub mod Steps
 pub mod StepLaws
 pub mod TypeLaws
+pub mod Policies
 pub mod Starred
 pub mod Examples
+pub mod PolicyExamples
