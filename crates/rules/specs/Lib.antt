@@ -14,6 +14,7 @@ pub mod Listing
 pub mod BuildingLaws
 pub mod ListingLaws
 pub mod Demand3
+pub mod Demand3Listed
 pub mod Schema
 pub mod LineLaws
 pub mod Paths
