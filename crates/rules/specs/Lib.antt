@@ -20,6 +20,8 @@ pub mod LineLaws
 pub mod Paths
 pub mod Steps
 pub mod StepLaws
+pub mod SchemaLaws
+pub mod AnalysisLaws
 pub mod TypeLaws
 pub mod Policies
 pub mod Starred

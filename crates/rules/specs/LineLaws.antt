@@ -1,4 +1,5 @@
--- Laws of a text that is read line after line (Lines): the next line, the last, and that listings and schemas are read so.
+-- Laws of a text that is read line after line (Lines): the next line, the last, what each line keeps, and that listings and schemas are
+-- read so.
 use Prim.Native.Nat.{ℕ, _+_}
 use mathlib.Core.Path.{_≡_, refl, sym, _∙_}
 use mathlib.Core.Bool.{Bool, true, false, cond}
@@ -10,7 +11,7 @@ use lib.Dec.{eqb}
 use lib.ListN.{length}
 use lib.Seq.{append-snoc}
 use Rattle.rules.specs.Numbers.{Answer, accepted, refused, andThen, answerBy}
-use Rattle.rules.specs.Facts.{by-test, by-option}
+use Rattle.rules.specs.Facts.{by-test, by-option, accepted-same, then-accepted}
 use Rattle.rules.specs.Text.{parted, linesOf, fieldsOf, LF}
 use Rattle.rules.specs.TextLaws.{parted-some}
 use Rattle.rules.specs.Lines.{Folded, folded, foldLines}
@@ -18,6 +19,7 @@ use Rattle.rules.specs.Tries.{Row, Form}
 use Rattle.rules.specs.Walks.{Walked, turn}
 use Rattle.rules.specs.WalkLaws.{walkedTo, listed, turn-past}
 use Rattle.rules.specs.Listing.{Sofar, rowOf, past, refusal, before, rowsFrom}
+use Rattle.rules.specs.ListingLaws.{refused-not}
 use Rattle.rules.specs.Schema.{Item, Known, itemOf, fits, beyond, ahead, itemsFrom}
 
 -- ---- the next line
@@ -49,6 +51,25 @@ module _ {S : Type 0} (step : ℕ → List ℕ → S → Answer S) (place : ℕ)
     -- its refusal is that of the text
     pub fold-refused : {number at : ℕ} → step place line s ≡ refused number at → foldLines step place (line ∷ linesOf rest) s ≡ refused number at
     fold-refused e = fold-line ∙ rw e
+
+-- ---- what each line keeps
+
+-- a property that each line keeps is kept by all of them
+module _
+    {S : Type 0}
+    (step : ℕ → List ℕ → S → Answer S)
+    (P : S → Type 0)
+    (kept : (place : ℕ) (line : List ℕ) (s after : S) → P s → step place line s ≡ accepted after → P after) where
+  pub fold-kept : (lines : List (List ℕ)) (place : ℕ) (s : S) {all : Folded S} → P s → foldLines step place lines s ≡ accepted all → P (all .state)
+  unfolding foldLines
+  fold-kept [] place s {all} p e = rw (sym (accepted-same (folded place s) all e)) p
+  fold-kept (line ∷ []) place s {all} p e =
+      by-test (eqb (length line) 0)
+      (λ empty. rw (sym (accepted-same (folded place s) all (rw empty at e))) p)
+      (λ some-byte. refused-not 1 place all (rw some-byte at e))
+  fold-kept (line ∷ next ∷ lines) place s p e =
+      let (after, stepped, rest) = then-accepted (step place line s) (λ after. foldLines step (place + 1) (next ∷ lines) after) e in
+      fold-kept (next ∷ lines) (place + 1) after (kept place line s after p stepped) rest
 
 -- ---- a state that is held otherwise
 
