@@ -31,26 +31,26 @@ module _ (a b : ℕ) (s : List ℕ) where
   getD-front (suc d) h = refl
 
 -- nodes in order behind one entry are in order behind another
-moved : (a b : ℕ) (s : List ℕ) (rows : List Row) → Each Plain rows → Ordered (a ∷ s) rows → Ordered (b ∷ s) rows
+behind-another : (a b : ℕ) (s : List ℕ) (rows : List Row) → Each Plain rows → Ordered (a ∷ s) rows → Ordered (b ∷ s) rows
 unfolding Each Ordered
-moved a b s [] plain o = tt
-moved a b s (row ∷ rows) (one, plain) (whole, follows, near, rest) =
+behind-another a b s [] plain o = tt
+behind-another a b s (row ∷ rows) (one, plain) (whole, follows, near, rest) =
     let node : row .depth ≡ 0 → ⊥ = eqb-false (row .depth) 0 (one .node) in
     let (t, front-a, front-b) = take-front a b s (row .depth) node in
     let behind : Ordered (a ∷ (t ++ (row .step ∷ []))) rows = rw front-a at rest in
-    let then : Ordered (b ∷ (t ++ (row .step ∷ []))) rows = moved a b (t ++ (row .step ∷ [])) rows plain behind in (
+    let then : Ordered (b ∷ (t ++ (row .step ∷ []))) rows = behind-another a b (t ++ (row .step ∷ [])) rows plain behind in (
       whole,
       record { near = follows .near; past = λ h. rw (sym (getD-front a b s (row .depth) node)) (follows .past h) },
       near,
       rw front-b then,
     )
 
--- none of them is an entry
-no-entry : (rows : List Row) → Each Plain rows → (entriesIn rows ≡ 0) × (nodesIn rows ≡ length rows)
+-- all of them are nodes
+only-nodes : (rows : List Row) → Each Plain rows → (entriesIn rows ≡ 0) × (nodesIn rows ≡ length rows)
 unfolding Each count
-no-entry [] plain = (refl, refl)
-no-entry (row ∷ rows) (one, plain) =
-    let (entries, nodes) = no-entry rows plain in
+only-nodes [] plain = (refl, refl)
+only-nodes (row ∷ rows) (one, plain) =
+    let (entries, nodes) = only-nodes rows plain in
     rw (one .node) (entries, ap suc nodes)
 
 -- an entry and a trie behind it are a contribution
@@ -63,8 +63,8 @@ entry-lawful :
 unfolding ordered count
 entry-lawful request trie small t few =
     let order : ordered (request ∷ []) trie ≡ true =
-    true-ordered (request ∷ []) trie (moved 0 request [] trie (t .plain) (ordered-true (0 ∷ []) trie (t .order))) in
-    let (entries, nodes) = no-entry trie (t .plain) in
+    true-ordered (request ∷ []) trie (behind-another 0 request [] trie (t .plain) (ordered-true (0 ∷ []) trie (t .order))) in
+    let (entries, nodes) = only-nodes trie (t .plain) in
     simp (lt-ltb request (ids ^ 3) small, order, entries, nodes, le-leb (length trie) 1024 few)
 
 -- ---- a step text

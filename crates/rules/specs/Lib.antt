@@ -24,6 +24,8 @@ pub mod SchemaLaws
 pub mod AnalysisLaws
 pub mod TypeLaws
 pub mod Policies
+pub mod PolicyLaws
+pub mod Demand3Policies
 pub mod Starred
 pub mod Examples
 pub mod PolicyExamples

@@ -186,6 +186,10 @@ row-read (word ∷ b ∷ c ∷ d ∷ []) row e = let (l, e) = cond-some (isLette
 row-read (word ∷ b ∷ c ∷ d ∷ f ∷ []) row e = let (l, e) = cond-some (isLetter 78 word) _ row e in node-read word b c d f row l e
 row-read (a ∷ b ∷ c ∷ d ∷ f ∷ g ∷ more) row e = absurd (Option·none-ne-some row e)
 
+-- a line's row is one by itself
+pub row-is-row : (fields : List (List ℕ)) (row : Row) → rowOf fields ≡ some row → isRow row ≡ true
+row-is-row fields row e = row-read fields row e .1
+
 -- A line that is written.
 
 -- a kind's letter is found at its place
