@@ -35,7 +35,7 @@ module _ (form : Form) (state : List ℕ) (h : lawfulState form state ≡ true) 
   words-good = both-true (allWords (wordsIn state)) (lawful form (rowsIn state)) (judged .1) .0
 
   -- its rows are lawful
-  rows-lawful : lawful form (rowsIn state) ≡ true
+  pub rows-lawful : lawful form (rowsIn state) ≡ true
   rows-lawful = both-true (allWords (wordsIn state)) (lawful form (rowsIn state)) (judged .1) .1
 
   -- its rows are in order

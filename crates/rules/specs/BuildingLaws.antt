@@ -9,6 +9,7 @@ use mathlib.Core.List.{
   List,
   [],
   _∷_,
+  _++_,
   map,
   List·Memᴰ as Member,
   List·Memᴰ·head as here,
@@ -17,6 +18,7 @@ use mathlib.Core.List.{
   List·Memᴰ·cases-cons as here-or-later,
 }
 use lib.Dec.{leb}
+use lib.ListN.{length}
 use borrow.Author.Tests.{leb-true, lt-ltb, le-ltb, le-leb}
 use Rattle.rules.specs.Numbers.{Answer, accepted, refused}
 use Rattle.rules.specs.Facts.{compared, either, more-first}
@@ -67,7 +69,7 @@ lawful-manifest rows = (
 )
 
 -- the empty manifest is one
-lawful-empty : lawful manifest [] ≡ true
+pub lawful-empty : lawful manifest [] ≡ true
 unfolding ordered count
 lawful-empty = refl
 
@@ -112,7 +114,7 @@ module _ (m c : List Row) where
   refusal-leaves number place e = rw e
 
   -- after adding, a lawful manifest is a lawful manifest
-  after-lawful : lawful manifest m ≡ true → lawful contribution c ≡ true → lawful manifest (after m (add m c)) ≡ true
+  pub after-lawful : lawful manifest m ≡ true → lawful contribution c ≡ true → lawful manifest (after m (add m c)) ≡ true
   after-lawful lm lc = go judged
     where
       go : {answer : Answer (List Row)} → Judged (union m c) answer → lawful manifest (after m answer) ≡ true
@@ -135,6 +137,33 @@ build-lawful (c ∷ cs) m lm lcs = build-lawful cs (after m (add m c)) (after-la
 -- from the empty manifest too
 pub built-lawful : (cs : List (List Row)) → Contributions cs → lawful manifest (build [] cs) ≡ true
 built-lawful cs = build-lawful cs [] lawful-empty
+
+-- Contributions in order.
+
+-- no more are accepted than there are
+pub accepted-most : (cs : List (List Row)) (m : List Row) → length (acceptedOf m cs) ≤ length cs
+unfolding acceptedOf
+accepted-most [] m = omega arith
+accepted-most (c ∷ cs) m = go (add m c) (acceptedOf (after m (add m c)) cs) (accepted-most cs (after m (add m c)))
+  where
+    go : (answer : Answer (List Row)) (ds : List (List Row)) → length ds ≤ length cs → length (keep answer c ds) ≤ length (c ∷ cs)
+    go (accepted rows) ds h = omega arith
+    go (refused number place) ds h = omega arith
+
+-- contributions after others
+pub build-append : (cs ds : List (List Row)) (m : List Row) → build m (cs ++ ds) ≡ build (build m cs) ds
+unfolding build
+build-append [] ds m = refl
+build-append (c ∷ cs) ds m = build-append cs ds (after m (add m c))
+
+pub accepted-append : (cs ds : List (List Row)) (m : List Row) → acceptedOf m (cs ++ ds) ≡ acceptedOf m cs ++ acceptedOf (build m cs) ds
+unfolding acceptedOf build
+accepted-append [] ds m = refl
+accepted-append (c ∷ cs) ds m = rw (accepted-append cs ds (after m (add m c))) (go (add m c) _ _)
+  where
+    go : (answer : Answer (List Row)) (xs ys : List (List Row)) → keep answer c (xs ++ ys) ≡ keep answer c xs ++ ys
+    go (accepted rows) xs ys = refl
+    go (refused number place) xs ys = refl
 
 -- What a build has.
 

@@ -1,6 +1,6 @@
 -- Laws of policy texts (Policies): their contributions are lawful, and adding a text accepts exactly where its contributions are accepted
 -- and all of them are accepted one after the other. Demand3Policies states what follows. No contract cites this file.
-use Prim.Native.Nat.{ℕ, _+_, _^_, _≤_, _<_}
+use Prim.Native.Nat.{ℕ, _+_, _^_, _<_}
 use native.Mathlib.Omega.{arith}
 use mathlib.Core.Path.{_≡_, refl, sym, ap, ap₂, _∙_}
 use mathlib.Core.Logic.{_↔_, ⊎-elim}
@@ -38,6 +38,7 @@ use Rattle.rules.specs.Steps.{Result, stepLine, ended}
 use Rattle.rules.specs.StepLaws.{Each, AllGood, GoodSchema}
 use Rattle.rules.specs.AnalysisLaws.{line-keeps, ended-lawful}
 use Rattle.rules.specs.Building.{add, after, build, keep, acceptedOf, Contributions}
+use Rattle.rules.specs.BuildingLaws.{accepted-most, build-append, accepted-append}
 use Rattle.rules.specs.Policies.{
   requestIn,
   Begun,
@@ -123,31 +124,6 @@ module _ (items : List Item) (schema : GoodSchema items) where
       closed-lawful (all .lines) (all .state .begun) (all .state .sofar) cs lcs good ended-all
 
 -- ---- adding and gathering
-
--- no more are accepted than there are
-accepted-most : (cs : List (List Row)) (m : List Row) → length (acceptedOf m cs) ≤ length cs
-unfolding acceptedOf
-accepted-most [] m = omega arith
-accepted-most (c ∷ cs) m = go (add m c) (acceptedOf (after m (add m c)) cs) (accepted-most cs (after m (add m c)))
-  where
-    go : (answer : Answer (List Row)) (ds : List (List Row)) → length ds ≤ length cs → length (keep answer c ds) ≤ length (c ∷ cs)
-    go (accepted rows) ds h = omega arith
-    go (refused number place) ds h = omega arith
-
--- contributions after others
-build-append : (cs ds : List (List Row)) (m : List Row) → build m (cs ++ ds) ≡ build (build m cs) ds
-unfolding build
-build-append [] ds m = refl
-build-append (c ∷ cs) ds m = build-append cs ds (after m (add m c))
-
-accepted-append : (cs ds : List (List Row)) (m : List Row) → acceptedOf m (cs ++ ds) ≡ acceptedOf m cs ++ acceptedOf (build m cs) ds
-unfolding acceptedOf build
-accepted-append [] ds m = refl
-accepted-append (c ∷ cs) ds m = rw (accepted-append cs ds (after m (add m c))) (go (add m c) _ _)
-  where
-    go : (answer : Answer (List Row)) (xs ys : List (List Row)) → keep answer c (xs ++ ys) ≡ keep answer c xs ++ ys
-    go (accepted rows) xs ys = refl
-    go (refused number place) xs ys = refl
 
 -- lists whose fronts are as long are equal part by part
 same-parts : {A : Type 0} (xs us ys vs : List A) → length xs ≡ length us → xs ++ ys ≡ us ++ vs → (xs ≡ us) × (ys ≡ vs)
