@@ -43,12 +43,21 @@ impl EntityManifest {
         if !rows::is_lawful(Kind::Contribution, contribution) {
             return Reply::Refused(1, 0);
         }
-        let mut united = [0u64; 4_161];
-        let reply = unite(manifest, contribution, &mut united);
+        let mut united = [0u64; EntityManifest::WORDS];
+        EntityManifest::add_lawful(manifest, contribution, &mut united)
+    }
+
+    // The same where both are lawful; `united` is scratch.
+    pub fn add_lawful(manifest: &mut [u64], contribution: &[u64], united: &mut [u64]) -> Reply
+        requires { ⌜ (lawfulState manifestForm (now manifest) ≡ true) × (lawfulState contributionForm (now contribution) ≡ true) ⌝ }
+        requires { ⌜ (4161 ≤ length (now manifest)) × (4161 ≤ length (now united)) ⌝ }
+        ensures { λ r. ⌜ (r ≡ storing (now (manifest .entry)) (addRows (rowsIn (now (manifest .entry))) (rowsIn (now (contribution .entry)))) .reply) × (now (manifest .exit) ≡ storing (now (manifest .entry)) (addRows (rowsIn (now (manifest .entry))) (rowsIn (now (contribution .entry)))) .buffer) ⌝ }
+    {
+        let reply = unite(manifest, contribution, united);
         let Reply::Done = reply else {
             return reply;
         };
-        words::copy_rows(&united, manifest);
+        words::copy_rows(united, manifest);
         Reply::Done
     }
 }
