@@ -47,9 +47,6 @@ enum Awaited {
     Mismatch,
 }
 
-// A result has at most so many path nodes: no more paths are in it, and no more types wait.
-pub const NODES: usize = 256;
-
 // The number past all types that waits for a field which its record type has not.
 const PASSED_OVER: u64 = 1_024;
 
@@ -225,7 +222,8 @@ pub fn full_type_required(
     requires { ⌜ KnownType (now words) (now table) t × PairsRoom (now code) at (now pairs) ⌝ }
     ensures { λ r. ⌜ RequiredAt (now (code .entry)) (itemsOf (now (words .entry))) t at (now (pairs .exit)) r ⌝ }
 {
-    let mut waiting = [t; NODES];
+    // No more types wait than there may be paths.
+    let mut waiting = [t; WrappedAccessPaths::PATHS];
     let mut from = at;
     let mut left: usize = 1;
     let mut count = 0;

@@ -1,3 +1,4 @@
 -- The stack of results in words.
 pub mod Stacks
 pub mod StackLaws
+pub mod JudgingLaws

@@ -26,7 +26,7 @@ use Rattle.result_stack.specs.Stacks.{Held, Outcomes, ReplacedBy, ancestorsRequ
 use Rattle.result_stack.specs.declared.Stack.{Stack}
 use Rattle.result_stack.specs.declared.Stepped.{Stepped}
 use Rattle.result_stack.specs.StackLaws.{top-good, below, below-held}
-use Rattle.steps.specs.StepsLaws.{any-deep, none-deep, all-some, Judging, too-many, unfit, replaced}
+use Rattle.result_stack.specs.JudgingLaws.{any-deep, none-deep, all-some, Judging, too-many, unfit, replaced}
 
 -- ---- ancestors
 

@@ -22,7 +22,7 @@ use Rattle.result_stack.specs.declared.Stack.{Stack}
 use Rattle.result_stack.specs.declared.Stepped.{Stepped}
 use Rattle.result_stack.specs.StackLaws.{top-good, below-held, tries-end}
 use Rattle.wrap_steps.specs.WrapLaws.{top-few}
-use Rattle.steps.specs.StepsLaws.{Judging, unfit, replaced}
+use Rattle.result_stack.specs.JudgingLaws.{Judging, unfit, replaced}
 
 -- paths that take a type are paths
 all-taken : (taken : List Taken) → Each (λ one. IsPath (one .path)) taken → AllTakenPaths taken

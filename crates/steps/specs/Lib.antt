@@ -1,5 +1,4 @@
 -- What each step leaves on the stack.
 pub mod StepsLaws
-pub mod AttrStepLaws
 pub mod AncestorLaws
 pub mod FullStepLaws

@@ -3,8 +3,8 @@ ghost use mathlib.Core.Path.{_≡_};
 ghost use mathlib.Core.Bool.{false};
 ghost use Prim.Native.Nat.{_<_, _≤_};
 ghost use lib.ListN.{length, getD};
-ghost use Rattle.rules.specs.Paths.{emptyLeaf, addPaths};
-ghost use Rattle.rules.specs.Steps.{attrStep, twoStep, inResult, fullStep, stepped as steppedBy};
+ghost use Rattle.rules.specs.Paths.{addPaths};
+ghost use Rattle.rules.specs.Steps.{twoStep, inResult, fullStep, stepped as steppedBy};
 ghost use Rattle.rules.specs.StepLaws.{AllPaths};
 ghost use Rattle.rules.specs.TypeLaws.{longest as longestOf, markedLeaf};
 ghost use Rattle.rows.specs.States.{rowsIn};
@@ -14,7 +14,7 @@ ghost use Rattle.path_tries.specs.Nodes.{IsState, Became, PathsToAdd, anyDeep};
 ghost use Rattle.step_lines.specs.Lines.{stepRead, nameCount, GoodRead};
 ghost use Rattle.type_table.specs.Tables.{GoodTypes};
 ghost use Rattle.result_stack.specs.Stacks.{Working, Scratch, StepsBy, ReplacedBy, ancestorsRequired};
-use full_types::NODES;
+use attr_steps::attr_step;
 use full_types::Required;
 use full_types::add_taken;
 use full_types::full_type_required;
@@ -34,57 +34,9 @@ use step_lines::Step;
 use wrap_steps::EntityManifestAnalysisResult;
 use wrap_steps::rec_step;
 use wrap_steps::set_step;
-use wrapped_paths::Extended;
 use wrapped_paths::WrappedAccessPaths;
-use wrapped_paths::get_or_has_attr;
 use wrapped_paths::measure;
 use wrapped_paths::paths_in;
-
-// `restore_global_trie_invariant`: merges the paths at some places into a trie, and answers whether it stays within the limit of nodes.
-fn restore_global_trie_invariant(trie: &mut [u64], code: &[u64], places: &[u64]) -> bool
-    requires { ⌜ PathsToAdd (now trie) (now code) (now places) ⌝ }
-    ensures { λ r. ⌜ Became (addPaths (rowsIn (now (trie .entry))) (pathsAt (now (code .entry)) (now (places .entry))) emptyLeaf) (now (trie .exit)) r ⌝ }
-{
-    add_wrapped_access_paths(trie, code, places, false, &places[..0])
-}
-
-// `get_or_has_attr`, and `restore_global_trie_invariant` for the paths that gained the field: the others are in the trie.
-// `paths` and `trie` are scratch.
-fn attr_step(
-    name: u64,
-    code: &mut [u64],
-    tries: &mut [u64],
-    paths: &mut [u64],
-    trie: &mut [u64],
-    stack: Stack,
-) -> Stepped
-    requires { ⌜ Working (now code) (now tries) (now trie) stack ⌝ }
-    requires { ⌜ (name < 65536) × Scratch (now code) (now paths) ⌝ }
-    ensures { λ r. ⌜ StepsBy (λ place results. attrStep place name results) (now (code .entry)) (now (tries .entry)) stack (now (code .exit)) (now (tries .exit)) r ⌝ }
-{
-    if stack.results == 0 {
-        return Stepped::Refused(6);
-    }
-    let mut places = [0u64; NODES];
-    let Extended::Done(words, grown) = get_or_has_attr(code, stack.code, name, paths, &mut places)
-    else {
-        return Stepped::Refused(7);
-    };
-    if is_too_deep(paths, &places[..grown], 0) {
-        return Stepped::Refused(3);
-    }
-    copy_trie(tries, stack.tries, trie);
-    if !restore_global_trie_invariant(trie, paths, &places[..grown]) {
-        return Stepped::Refused(4);
-    }
-    let code_end = measure(code, stack.code, 1).end;
-    let tries_end = trie_end(tries, stack.tries);
-    Stepped::Next(Stack {
-        code: put_before(&paths[..words], code, code_end),
-        tries: put_trie(trie, tries, tries_end),
-        results: stack.results,
-    })
-}
 
 // Puts a trie with empty paths in the place of results that end at two places.
 fn replace(
@@ -128,7 +80,7 @@ fn full_step(
     if stack.results == 0 {
         return Stepped::Refused(6);
     }
-    let mut pairs = [0u64; NODES];
+    let mut pairs = [0u64; WrappedAccessPaths::PATHS];
     let Required::Next(code_end, count) = full_type_required(
         code,
         stack.code,
@@ -186,10 +138,10 @@ fn in_step(code: &mut [u64], tries: &mut [u64], trie: &mut [u64], stack: Stack) 
     if stack.results < 2 {
         return Stepped::Refused(6);
     }
-    let mut right = [0u64; NODES];
+    let mut right = [0u64; WrappedAccessPaths::PATHS];
     let right_paths = paths_in(code, stack.code, &mut right);
     let left_code = measure(code, stack.code, 1).end;
-    let mut left = [0u64; NODES];
+    let mut left = [0u64; WrappedAccessPaths::PATHS];
     let left_paths = paths_in(code, left_code, &mut left);
     if is_too_deep(
         code,

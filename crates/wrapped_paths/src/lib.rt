@@ -45,6 +45,9 @@ impl WrappedAccessPaths {
     // A result has at most so many path nodes.
     pub const NODES: u64 = 256;
 
+    // So no more paths are in it.
+    pub const PATHS: usize = WrappedAccessPaths::NODES as usize;
+
     // A union has two sides.
     const SIDES: usize = 2;
 

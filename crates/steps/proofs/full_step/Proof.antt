@@ -15,7 +15,7 @@ use Rattle.full_types.specs.Required.{TypesTook}
 use Rattle.result_stack.specs.Stacks.{stackPaths, Held}
 use Rattle.wrap_steps.specs.WrapLaws.{held-top, code-end-room, tries-end-room}
 use Rattle.steps.specs.FullStepLaws.{full-missing, full-few, full-mismatch, full-places, full-paths, full-judging, full-rows, full-done}
-use Rattle.steps.specs.StepsLaws.{too-deep, copied-top}
+use Rattle.result_stack.specs.JudgingLaws.{too-deep, copied-top}
 use Rattle.result_stack.specs.StackLaws.{top-code, top-at, tries-end, top-stands}
 use borrow.Author.Needs.{needs}
 use Rattle.steps.proofs.full_step.Statement.{statement}

@@ -15,7 +15,7 @@ use Rattle.path_tries.specs.Nodes.{anyDeep}
 use Rattle.result_stack.specs.Stacks.{stackPaths, Held}
 use Rattle.wrap_steps.specs.WrapLaws.{two-few, code-end-room, tries-end-room}
 use Rattle.steps.specs.AncestorLaws.{held-two, longest-short, in-judging, in-over, in-rows, in-done}
-use Rattle.steps.specs.StepsLaws.{too-deep, copied-top, run-nodes, run-rows}
+use Rattle.result_stack.specs.JudgingLaws.{too-deep, copied-top, run-nodes, run-rows}
 use Rattle.result_stack.specs.StackLaws.{at-within, below-held, top-code, top-good, top-stands, top-standing, top-at, code-end, tries-end}
 use borrow.Author.Needs.{needs}
 use Rattle.steps.proofs.in_step.Statement.{statement}

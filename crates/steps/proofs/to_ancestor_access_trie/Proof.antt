@@ -2,7 +2,7 @@
 -- Assumes nothing.
 use native.Mathlib.Omega.{arith}
 use Rattle.wrapped_paths.specs.Code.{pathsAt}
-use Rattle.steps.specs.StepsLaws.{fit-none}
+use Rattle.result_stack.specs.JudgingLaws.{fit-none}
 use borrow.Author.Needs.{needs}
 use Rattle.steps.proofs.to_ancestor_access_trie.Statement.{statement}
 use Rattle.steps.proofs.to_ancestor_access_trie.Tie as tie

@@ -1,11 +1,11 @@
--- `steps::restore_global_trie_invariant` meets its contract: the leaf is empty.
+-- `attr_steps::restore_global_trie_invariant` meets its contract: the leaf is empty.
 -- Assumes nothing.
 use native.Mathlib.Omega.{arith}
 use Rattle.wrapped_paths.specs.Code.{pathsAt}
-use Rattle.steps.specs.StepsLaws.{fit-none}
+use Rattle.result_stack.specs.JudgingLaws.{fit-none}
 use borrow.Author.Needs.{needs}
-use Rattle.steps.proofs.restore_global_trie_invariant.Statement.{statement}
-use Rattle.steps.proofs.restore_global_trie_invariant.Tie as tie
+use Rattle.attr_steps.proofs.restore_global_trie_invariant.Statement.{statement}
+use Rattle.attr_steps.proofs.restore_global_trie_invariant.Tie as tie
 
 slice-aggregate-add-wrapped-access-paths : tie.Need-slice-aggregate-add-wrapped-access-paths
 slice-aggregate-add-wrapped-access-paths c = search needs

@@ -1,4 +1,4 @@
--- `steps::attr_step` meets its contract: the paths that gained the field go into the top's trie.
+-- `attr_steps::attr_step` meets its contract: the paths that gained the field go into the top's trie.
 -- Assumes nothing.
 use mathlib.Core.Path.{_≡_, refl, sym, _∙_}
 use mathlib.Core.List.{List, _∷_}
@@ -9,12 +9,12 @@ use Rattle.rules.specs.Steps.{Result}
 use Rattle.wrapped_paths.specs.Code.{codes, Grew}
 use Rattle.result_stack.specs.Stacks.{stackPaths, Held}
 use Rattle.wrap_steps.specs.WrapLaws.{held-top, tries-end-room}
-use Rattle.steps.specs.AttrStepLaws.{attr-grows, attr-few, attr-set, attr-room, attr-judging, attr-paths, attr-rows, attr-done}
-use Rattle.steps.specs.StepsLaws.{too-deep, copied-top}
+use Rattle.attr_steps.specs.AttrStepLaws.{attr-grows, attr-few, attr-set, attr-room, attr-judging, attr-paths, attr-rows, attr-done}
+use Rattle.result_stack.specs.JudgingLaws.{too-deep, copied-top}
 use Rattle.result_stack.specs.StackLaws.{top-code, top-standing, top-at, code-end, tries-end}
 use borrow.Author.Needs.{needs}
-use Rattle.steps.proofs.attr_step.Statement.{statement}
-use Rattle.steps.proofs.attr_step.Tie as tie
+use Rattle.attr_steps.proofs.attr_step.Statement.{statement}
+use Rattle.attr_steps.proofs.attr_step.Tie as tie
 
 -- the result on top
 topped :
