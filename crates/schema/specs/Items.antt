@@ -1,14 +1,16 @@
 -- What a word of a schema says (docs/FORMS.md, 'Words'), and what each operation of `schema` answers.
-use Prim.Native.Nat.{ℕ, _+_, _*_, _/_, _%_, _^_}
+use Prim.Native.Nat.{ℕ, _+_, _*_, _/_, _%_, _^_, _≤_}
+use mathlib.Core.Path.{_≡_}
 use mathlib.Core.Bool.{Bool, true, false, cond, _&&_}
 use mathlib.Core.List.{List, [], _∷_, map}
 use mathlib.Core.Option.{Option, none, some}
 use lib.Dec.{leb, ltb, eqb}
-use lib.ListN.{length, getD}
+use lib.ListN.{length, getD, take, drop}
 use lib.Seq.{sets}
 use Rattle.rules.specs.Numbers.{Answer, accepted, refused}
+use Rattle.rules.specs.Text.{fieldsOf}
 use Rattle.rules.specs.Listing.{_>>=_}
-use Rattle.rules.specs.Schema.{Item, item, unknown, lawfulItems, readSchema, setType, entityType, entityLine, ascending, namesOf}
+use Rattle.rules.specs.Schema.{Item, item, unknown, lawfulItems, readSchema, setType, entityType, entityLine, ascending, namesOf, typeOf}
 use Rattle.words.specs.Runs.{Outcome, refusing, wordsIn}
 use Rattle.words.specs.declared.Reply.the-variants.{Done}
 use Rattle.schema.specs.declared.item.Item.{Item as ItemRead}
@@ -70,6 +72,20 @@ tagRead Other = none
 -- what the names of an entity type give
 abbrev pub namedBy : List (List ℕ) → Option ℕ
 namedBy fields = ascending 0 fields >>= namesOf
+
+-- the fields of what stands behind a kind: none, or those behind a tab
+abbrev pub fieldsBehind : List ℕ → List (List ℕ)
+fieldsBehind [] = []
+fieldsBehind (tab ∷ more) = fieldsOf more
+
+-- where a kind ends, at the front of what a line has from it on
+abbrev pub KindEnds : List ℕ → ℕ → Type 0
+KindEnds rest end = (end ≤ length rest) × (fieldsOf rest ≡ take end rest ∷ fieldsBehind (drop end rest))
+
+-- a type, by its number and the fields from its kind on
+abbrev pub typeFrom : List ℕ → List (List ℕ) → Option Item
+typeFrom number [] = none
+typeFrom number (kind ∷ more) = typeOf number kind more
 
 -- reading: 31, then what the text gives by line
 abbrev pub storingItems : List ℕ → Answer (List Item) → Outcome

@@ -1,19 +1,23 @@
 -- Laws of the fields of a schema's lines. No contract cites this file.
 use Prim.Native.Nat.{ℕ, _+_, _≤_, _<_}
+use native.Mathlib.Numerals.{add-one}
 use native.Mathlib.Omega.{arith}
+use mathlib.Core.Bool.{true}
 use mathlib.Core.List.{List, [], _∷_}
 use mathlib.Core.Logic.{_≢_}
 use mathlib.Core.Option.{none, some, Option·some-injective}
 use mathlib.Core.Path.{_≡_, refl, sym, ap, _∙_}
 use borrow.Author.Tests.{ne-eqb, le-leb}
-use lib.ListN.{length}
+use lib.ListN.{length, drop}
+use lib.Seq.{drop-cons}
 use Rattle.rules.specs.Facts.{by-option}
-use Rattle.rules.specs.Text.{decimalOf}
+use Rattle.rules.specs.Text.{decimalOf, fieldsOf}
 use Rattle.rules.specs.TextLaws.{decimal-written}
+use Rattle.rules.specs.Listing.{isLetter}
 use Rattle.rules.specs.ListingLaws.{bind-some}
 use Rattle.text.proofs.NameLaws.{ascending-first}
-use Rattle.rules.specs.Schema.{ascending, namesOf, valueOf}
-use Rattle.schema.specs.Items.{namedBy}
+use Rattle.rules.specs.Schema.{ascending, namesOf, valueOf, typeOf, itemOf}
+use Rattle.schema.specs.Items.{namedBy, fieldsBehind}
 
 -- ---- the names of an entity type
 
@@ -52,6 +56,14 @@ named-most field fields v e =
 
 -- ---- what follows a kind
 
+-- nothing behind it, or more from a place of the line on
+pub behind-none : (behind : List ℕ) → length behind ≡ 0 → fieldsBehind behind ≡ []
+behind-none [] none-left = refl
+behind-none (tab ∷ more) none-left = absurd (omega arith)
+
+pub behind-tab : (line : List ℕ) (at : ℕ) → at < length line → fieldsBehind (drop at line) ≡ fieldsOf (drop (at + 1) line)
+behind-tab line at h = rw (drop-cons line at 0 h, add-one)
+
 -- an entity type has its names
 pub value-names : (kind : ℕ) (field : List ℕ) (fields : List (List ℕ)) → kind ≡ 9 → valueOf kind (field ∷ fields) ≡ namedBy (field ∷ fields)
 value-names kind field [] e = rw e (sym (named-one field))
@@ -68,3 +80,13 @@ value-more kind field next fields h = rw (ne-eqb kind 9 h)
 pub value-none : (kind : ℕ) (field : List ℕ) (fields : List (List ℕ)) → kind ≢ 9 → kind ≢ 6 → valueOf kind (field ∷ fields) ≡ none
 value-none kind field [] h k = rw (ne-eqb kind 6 k, ne-eqb kind 9 h)
 value-none kind field (next ∷ fields) h k = rw (ne-eqb kind 9 h)
+
+-- ---- a type's line
+
+pub type-line :
+    (word number kind : List ℕ) (more : List (List ℕ))
+    → isLetter 84 word ≡ true
+    → itemOf (word ∷ number ∷ kind ∷ more) ≡ typeOf number kind more
+unfolding itemOf
+type-line word number kind [] t = rw t
+type-line word number kind (next ∷ more) t = rw t

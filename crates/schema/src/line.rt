@@ -3,9 +3,9 @@ ghost use mathlib.Core.Path.{_≡_};
 ghost use mathlib.Core.List.{[], _∷_};
 ghost use Rattle.rules.specs.Text.{fieldsOf, bytes};
 ghost use Rattle.rules.specs.Listing.{placeIn};
-ghost use Rattle.rules.specs.Schema.{itemOf, typeOf, pairOf, valueOf};
+ghost use Rattle.rules.specs.Schema.{itemOf, pairOf, valueOf};
 ghost use Rattle.text.specs.Answers.{numberOf};
-ghost use Rattle.schema.specs.Items.{itemRead, tagRead, namedBy};
+ghost use Rattle.schema.specs.Items.{itemRead, tagRead, namedBy, fieldsBehind, typeFrom, KindEnds};
 use crate::item::Item;
 use text::Decimal;
 use text::Field;
@@ -52,17 +52,6 @@ fn names(more: &[u8]) -> Decimal
     Decimal::Value(first[0] + 0x1_0000)
 }
 
-// What a type of a kind with nothing more has: 0, where its kind asks for nothing more.
-fn bare(kind: u64) -> Decimal
-    ensures { λ r. ⌜ numberOf r ≡ valueOf kind [] ⌝ }
-{
-    match kind {
-        6 | 9 => Decimal::Bad,
-        0..=10 => Decimal::Value(0),
-        _ => Decimal::Bad,
-    }
-}
-
 // What a type of a kind has that is followed by more: a set its element type, an entity type its names.
 fn valued(kind: u64, more: &[u8]) -> Decimal
     ensures { λ r. ⌜ numberOf r ≡ valueOf kind (fieldsOf (now (more .entry))) ⌝ }
@@ -79,33 +68,42 @@ fn valued(kind: u64, more: &[u8]) -> Decimal
     Decimal::read(more)
 }
 
-// A type with nothing more than its number and kind.
-fn bare_type(number: &[u8], kind: &[u8]) -> Parsed
-    ensures { λ r. ⌜ itemRead r ≡ typeOf (now (number .entry)) (now (kind .entry)) [] ⌝ }
+// What a type of a kind has, by what stands behind the kind: nothing, or a tab and more. Without more it is 0, where the kind asks for none.
+fn value_of(kind: u64, behind: &[u8]) -> Decimal
+    ensures { λ r. ⌜ numberOf r ≡ valueOf kind (fieldsBehind (now (behind .entry))) ⌝ }
 {
-    let Decimal::Value(key) = Decimal::read(number) else {
-        return Parsed::Bad;
-    };
-    let Decimal::Value(tag) = Decimal::read(kind) else {
-        return Parsed::Bad;
-    };
-    let Decimal::Value(value) = bare(tag) else {
-        return Parsed::Bad;
-    };
-    Parsed::Of(Item { tag, value, key })
+    if 0 < behind.len() {
+        return valued(kind, &behind[1..]);
+    }
+    match kind {
+        6 | 9 => Decimal::Bad,
+        0..=10 => Decimal::Value(0),
+        _ => Decimal::Bad,
+    }
 }
 
-// A type with more than its number and kind.
-fn valued_type(number: &[u8], kind: &[u8], more: &[u8]) -> Parsed
-    ensures { λ r. ⌜ itemRead r ≡ typeOf (now (number .entry)) (now (kind .entry)) (fieldsOf (now (more .entry))) ⌝ }
+// Where the kind of a type ends: at a tab, or where the line ends.
+fn kind_end(rest: &[u8]) -> usize
+    ensures { λ r. ⌜ KindEnds (now (rest .entry)) r ⌝ }
 {
+    let Field::More(end) = Field::at(rest, 0) else {
+        return rest.len();
+    };
+    end
+}
+
+// A type, by its number and what the line has from the kind on.
+fn typed(number: &[u8], rest: &[u8]) -> Parsed
+    ensures { λ r. ⌜ itemRead r ≡ typeFrom (now (number .entry)) (fieldsOf (now (rest .entry))) ⌝ }
+{
+    let end = kind_end(rest);
     let Decimal::Value(key) = Decimal::read(number) else {
         return Parsed::Bad;
     };
-    let Decimal::Value(tag) = Decimal::read(kind) else {
+    let Decimal::Value(tag) = Decimal::read(&rest[..end]) else {
         return Parsed::Bad;
     };
-    let Decimal::Value(value) = valued(tag, more) else {
+    let Decimal::Value(value) = value_of(tag, &rest[end..]) else {
         return Parsed::Bad;
     };
     Parsed::Of(Item { tag, value, key })
@@ -160,19 +158,11 @@ pub fn parse(line: &[u8]) -> Parsed
         return entity(&line[..word_end], &line[second..]);
     };
     let third = second_end + 1;
-    let Field::More(third_end) = Field::at(line, third) else {
-        if text::is_letter(&line[..word_end], b'T') {
-            return bare_type(&line[second..second_end], &line[third..]);
-        }
-        return pair(&line[..word_end], &line[second..second_end], &line[third..]);
-    };
-    if !text::is_letter(&line[..word_end], b'T') {
-        return Parsed::Bad;
+    if text::is_letter(&line[..word_end], b'T') {
+        return typed(&line[second..second_end], &line[third..]);
     }
-    let fourth = third_end + 1;
-    valued_type(
-        &line[second..second_end],
-        &line[third..third_end],
-        &line[fourth..],
-    )
+    let Field::Last = Field::at(line, third) else {
+        return Parsed::Bad;
+    };
+    pair(&line[..word_end], &line[second..second_end], &line[third..])
 }

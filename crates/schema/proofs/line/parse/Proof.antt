@@ -1,8 +1,7 @@
--- `schema::line::parse` meets its contract: the parts that are passed on are the fields of the line, and from the fourth on all that is left.
+-- `schema::line::parse` meets its contract: the parts that are passed on are the fields of the line, and from the third on all that is left.
 -- Assumes nothing.
 use native.Mathlib.Omega.{arith}
 use mathlib.Core.Path.{_≡_, sym, ap, _∙_}
-use borrow.Author.Tests.{not-true, not-false}
 use Prim.Native.Nat.{_+_, _-_}
 use lib.ListN.{length, take, drop, length-drop}
 use mathlib.Core.List.{[], _∷_}
@@ -10,6 +9,7 @@ use Rattle.rules.specs.Text.{fieldsOf, TAB}
 use Rattle.rules.specs.TextLaws.{parted-some}
 use Rattle.text.proofs.FieldLaws.{Ends, field-ends, fields-last}
 use Rattle.rules.specs.Schema.{itemOf}
+use Rattle.schema.specs.LineLaws.{type-line}
 use lib.Seq.{length-take-le, take-all}
 use native.Mathlib.Nat.{sub-zero}
 use borrow.Author.Needs.{needs}
@@ -22,9 +22,6 @@ word-ends c = field-ends (c .before .before .before .before .args .line .now) 0 
 
 second-ends : (c : tie.After-second-end) → Ends (c .before .before .before .before .before .before .before .before .args .line .now) (c .before .before .before .before .word-end .given .0 .0 + 1) (c .second-end .given .0 .0)
 second-ends c = field-ends (c .before .before .before .before .before .before .before .before .args .line .now) _ _ _ (c .before .before .at2 .ensures) (c .second-end .given .1)
-
-third-ends : (c : tie.After-third-end) → Ends (c .before .before .before .before .before .before .before .before .before .before .before .before .args .line .now) (c .before .before .before .before .second-end .given .0 .0 + 1) (c .third-end .given .0 .0)
-third-ends c = field-ends (c .before .before .before .before .before .before .before .before .before .before .before .before .args .line .now) _ _ _ (c .before .before .at3 .ensures) (c .third-end .given .1)
 
 at-requires : tie.Need-at-requires
 at-requires c κs = search needs
@@ -42,7 +39,7 @@ returns c = rw (fields-last (c .before .before .before .before .args .line .now)
 add-second : tie.Need-add-second
 add-second c = omega (arith, word-ends (c .before))
 
--- a line of two fields, of three, and of more
+-- a line of two fields, and of more
 two-fields :
     (c : tie.After-enum-told2) →
     let line = c .before .before .before .before .before .before .before .before .args .line .now in
@@ -51,28 +48,13 @@ two-fields :
 two-fields c =
     rw (word-ends (c .before .before .before .before) .2, sub-zero, fields-last (c .before .before .before .before .before .before .before .before .args .line .now) (c .before .before .before .before .word-end .given .0 .0 + 1) _ (c .before .before .at2 .ensures) (c .enum-told2 .given .1))
 
-three-fields :
-    (c : tie.After-enum-told3) →
-    let line = c .before .before .before .before .before .before .before .before .before .before .before .before .args .line .now in
-    let word = c .before .before .before .before .before .before .before .before .word-end .given .0 .0 in
-    let second = c .before .before .before .before .second-end .given .0 .0 in
-    fieldsOf line ≡ take word line ∷ take (second - (word + 1)) (drop (word + 1) line) ∷ take (length line - (second + 1)) (drop (second + 1) line) ∷ []
-three-fields c =
-    rw (
-      word-ends (c .before .before .before .before .before .before .before .before) .2,
-      second-ends (c .before .before .before .before) .2,
-      sub-zero,
-      fields-last (c .before .before .before .before .before .before .before .before .before .before .before .before .args .line .now) (c .before .before .before .before .second-end .given .0 .0 + 1) _ (c .before .before .at3 .ensures) (c .enum-told3 .given .1),
-    )
-
 more-fields :
-    (c : tie.After-third-end) →
-    let line = c .before .before .before .before .before .before .before .before .before .before .before .before .args .line .now in
-    let word = c .before .before .before .before .before .before .before .before .word-end .given .0 .0 in
-    let second = c .before .before .before .before .second-end .given .0 .0 in
-    let third = c .third-end .given .0 .0 in
-    fieldsOf line ≡ take word line ∷ take (second - (word + 1)) (drop (word + 1) line) ∷ take (third - (second + 1)) (drop (second + 1) line) ∷ fieldsOf (drop (third + 1) line)
-more-fields c = rw (word-ends (c .before .before .before .before .before .before .before .before) .2, second-ends (c .before .before .before .before) .2, sub-zero, third-ends c .2)
+    (c : tie.After-second-end) →
+    let line = c .before .before .before .before .before .before .before .before .args .line .now in
+    let word = c .before .before .before .before .word-end .given .0 .0 in
+    let second = c .second-end .given .0 .0 in
+    fieldsOf line ≡ take word line ∷ take (second - (word + 1)) (drop (word + 1) line) ∷ fieldsOf (drop (second + 1) line)
+more-fields c = rw (word-ends (c .before .before .before .before) .2, second-ends c .2, sub-zero)
 
 at-requires-2 : tie.Need-at-requires-2
 at-requires-2 c κs = search needs
@@ -104,47 +86,60 @@ returns-2 c = c .entity .ensures ∙ sym (ap itemOf (two-fields (c .before .befo
 add-third : tie.Need-add-third
 add-third c = omega (arith, word-ends (c .before .before .before .before .before), second-ends (c .before))
 
-at-requires-3 : tie.Need-at-requires-3
-at-requires-3 c κs = search needs
-
-enum-known-third-end : tie.Need-enum-known-third-end
-enum-known-third-end c = search needs
-
-enum-told-3 : tie.Need-enum-told-3
-enum-told-3 c = search needs
-
 slice-aggregate-is-letter : tie.Need-slice-aggregate-is-letter
-slice-aggregate-is-letter c = sym (length-take-le _ _ (omega (arith, word-ends (c .before .before .before .before .before .before .before .before .before))))
+slice-aggregate-is-letter c = sym (length-take-le _ _ (omega (arith, word-ends (c .before .before .before .before .before .before))))
 
 is-letter-requires : tie.Need-is-letter-requires
 is-letter-requires c κs = search needs
 
-sub-bare-type : tie.Need-sub-bare-type
-sub-bare-type c = omega (arith, word-ends (c .before .before .before .before .before .before .before .before .before .before .before), second-ends (c .before .before .before .before .before .before .before))
+sub-typed : tie.Need-sub-typed
+sub-typed c = omega (arith, word-ends (c .before .before .before .before .before .before .before .before), second-ends (c .before .before .before .before))
 
-part-bare-type-start : tie.Need-part-bare-type-start
-part-bare-type-start c = omega (arith, word-ends (c .before .before .before .before .before .before .before .before .before .before .before), second-ends (c .before .before .before .before .before .before .before))
+part-typed-start : tie.Need-part-typed-start
+part-typed-start c = omega (arith, word-ends (c .before .before .before .before .before .before .before .before), second-ends (c .before .before .before .before))
 
-part-bare-type-end : tie.Need-part-bare-type-end
-part-bare-type-end c = omega (arith, word-ends (c .before .before .before .before .before .before .before .before .before .before .before), second-ends (c .before .before .before .before .before .before .before))
+part-typed-end : tie.Need-part-typed-end
+part-typed-end c = omega (arith, word-ends (c .before .before .before .before .before .before .before .before), second-ends (c .before .before .before .before))
 
-sub-bare-type-2 : tie.Need-sub-bare-type-2
-sub-bare-type-2 c = omega (arith, word-ends (c .before .before .before .before .before .before .before .before .before .before .before .before), second-ends (c .before .before .before .before .before .before .before .before))
+sub-typed-2 : tie.Need-sub-typed-2
+sub-typed-2 c = omega (arith, word-ends (c .before .before .before .before .before .before .before .before .before), second-ends (c .before .before .before .before .before))
 
-part-bare-type-start-2 : tie.Need-part-bare-type-start-2
-part-bare-type-start-2 c = omega (arith, word-ends (c .before .before .before .before .before .before .before .before .before .before .before .before), second-ends (c .before .before .before .before .before .before .before .before))
+part-typed-start-2 : tie.Need-part-typed-start-2
+part-typed-start-2 c = omega (arith, word-ends (c .before .before .before .before .before .before .before .before .before), second-ends (c .before .before .before .before .before))
 
-part-bare-type-end-2 : tie.Need-part-bare-type-end-2
-part-bare-type-end-2 c = omega (arith, word-ends (c .before .before .before .before .before .before .before .before .before .before .before .before), second-ends (c .before .before .before .before .before .before .before .before))
+part-typed-end-2 : tie.Need-part-typed-end-2
+part-typed-end-2 c = omega (arith, word-ends (c .before .before .before .before .before .before .before .before .before), second-ends (c .before .before .before .before .before))
 
-bare-type-requires : tie.Need-bare-type-requires
-bare-type-requires c κs = search needs
+typed-requires : tie.Need-typed-requires
+typed-requires c κs = search needs
 
 returns-3 : tie.Need-returns-3
-unfolding itemOf
 returns-3 c =
     let tested = c .before .before .before in
-    c .bare-type .ensures ∙ sym (rw (three-fields (c .before .before .before .before .before .before), sym (tested .before .is-letter .ensures) ∙ tested .if1 .taken))
+    let line = c .before .before .before .before .before .before .before .before .before .before .before .before .before .before .before .args .line .now in
+    let third = c .before .before .before .before .before .before .before .second-end .given .0 .0 + 1 in
+    let all : take (length line - third) (drop third line) ≡ drop third line = take-all (length line - third) (drop third line) (omega (arith, length-drop third line)) in
+    let rest = parted-some TAB (drop third line) in
+    (rw (all, rest .2) at (c .typed .ensures))
+    ∙ sym (rw (more-fields (c .before .before .before .before .before .before .before), rest .2) (type-line _ _ (rest .0) (rest .1) (sym (tested .before .is-letter .ensures) ∙ tested .if1 .taken)))
+
+at-requires-3 : tie.Need-at-requires-3
+at-requires-3 c κs = search needs
+
+enum-told-3 : tie.Need-enum-told-3
+enum-told-3 c = search needs
+
+enum-told-4 : tie.Need-enum-told-4
+enum-told-4 c = search needs
+
+returns-4 : tie.Need-returns-4
+unfolding itemOf
+returns-4 c =
+    let tested = c .before .before .before in
+    let line = c .before .before .before .before .before .before .before .before .before .before .before .before .before .before .before .args .line .now in
+    let end = c .enum-told4 .given .0 .0 in
+    let rest = parted-some TAB (drop (end + 1) line) in
+    rw (more-fields (c .before .before .before .before .before .before .before), field-ends line _ end _ (c .before .before .at3 .ensures) (c .enum-told4 .given .1) .2, rest .2, sym (tested .before .is-letter .ensures) ∙ tested .if1 .left)
 
 slice-aggregate-pair : tie.Need-slice-aggregate-pair
 slice-aggregate-pair c = sym (length-take-le _ _ (omega (arith, word-ends (c .before .before .before .before .before .before .before .before .before .before .before .before))))
@@ -170,68 +165,13 @@ part-pair-end-2 c = omega (arith, word-ends (c .before .before .before .before .
 pair-requires : tie.Need-pair-requires
 pair-requires c κs = search needs
 
-returns-4 : tie.Need-returns-4
-unfolding itemOf
-returns-4 c =
-    let tested = c .before .before .before .before in
-    c .pair .ensures ∙ sym (rw (three-fields (c .before .before .before .before .before .before .before), sym (tested .before .is-letter .ensures) ∙ tested .if1 .left))
-
-slice-aggregate-is-letter-2 : tie.Need-slice-aggregate-is-letter-2
-slice-aggregate-is-letter-2 c = sym (length-take-le _ _ (omega (arith, word-ends (c .before .before .before .before .before .before .before .before .before .before))))
-
-is-letter-requires-2 : tie.Need-is-letter-requires-2
-is-letter-requires-2 c κs = search needs
-
 returns-5 : tie.Need-returns-5
 unfolding itemOf
 returns-5 c =
-    let third = c .before .before .before .before in
-    let rest = parted-some TAB (drop (third .third-end .given .0 .0 + 1) (third .before .before .before .before .before .before .before .before .before .before .before .before .args .line .now)) in
-    rw (more-fields third, rest .2, sym (c .before .is-letter2 .ensures) ∙ not-true _ (c .if2 .taken))
-
-add-fourth : tie.Need-add-fourth
-add-fourth c = omega (arith, word-ends (c .before .before .before .before .before .before .before .before .before .before .before .before), second-ends (c .before .before .before .before .before .before .before .before), third-ends (c .before .before .before .before))
-
-sub-valued-type : tie.Need-sub-valued-type
-sub-valued-type c = omega (arith, word-ends (c .before .before .before .before .before .before .before .before .before .before .before .before), second-ends (c .before .before .before .before .before .before .before .before), third-ends (c .before .before .before .before))
-
-part-valued-type-start : tie.Need-part-valued-type-start
-part-valued-type-start c = omega (arith, word-ends (c .before .before .before .before .before .before .before .before .before .before .before .before), second-ends (c .before .before .before .before .before .before .before .before), third-ends (c .before .before .before .before))
-
-part-valued-type-end : tie.Need-part-valued-type-end
-part-valued-type-end c = omega (arith, word-ends (c .before .before .before .before .before .before .before .before .before .before .before .before), second-ends (c .before .before .before .before .before .before .before .before), third-ends (c .before .before .before .before))
-
-sub-valued-type-2 : tie.Need-sub-valued-type-2
-sub-valued-type-2 c = omega (arith, word-ends (c .before .before .before .before .before .before .before .before .before .before .before .before .before), second-ends (c .before .before .before .before .before .before .before .before .before), third-ends (c .before .before .before .before .before))
-
-part-valued-type-start-2 : tie.Need-part-valued-type-start-2
-part-valued-type-start-2 c = omega (arith, word-ends (c .before .before .before .before .before .before .before .before .before .before .before .before .before), second-ends (c .before .before .before .before .before .before .before .before .before), third-ends (c .before .before .before .before .before))
-
-part-valued-type-end-2 : tie.Need-part-valued-type-end-2
-part-valued-type-end-2 c = omega (arith, word-ends (c .before .before .before .before .before .before .before .before .before .before .before .before .before), second-ends (c .before .before .before .before .before .before .before .before .before), third-ends (c .before .before .before .before .before))
-
-sub-valued-type-3 : tie.Need-sub-valued-type-3
-sub-valued-type-3 c = omega (arith, word-ends (c .before .before .before .before .before .before .before .before .before .before .before .before .before .before), second-ends (c .before .before .before .before .before .before .before .before .before .before), third-ends (c .before .before .before .before .before .before))
-
-part-valued-type-start-3 : tie.Need-part-valued-type-start-3
-part-valued-type-start-3 c = omega (arith, word-ends (c .before .before .before .before .before .before .before .before .before .before .before .before .before .before), second-ends (c .before .before .before .before .before .before .before .before .before .before), third-ends (c .before .before .before .before .before .before))
-
-part-valued-type-end-3 : tie.Need-part-valued-type-end-3
-part-valued-type-end-3 c = omega (arith, word-ends (c .before .before .before .before .before .before .before .before .before .before .before .before .before .before), second-ends (c .before .before .before .before .before .before .before .before .before .before), third-ends (c .before .before .before .before .before .before))
-
-valued-type-requires : tie.Need-valued-type-requires
-valued-type-requires c κs = search needs
-
-returns-6 : tie.Need-returns-6
-unfolding itemOf
-returns-6 c =
-    let tested = c .before .before .before .before in
-    let third = c .before .before .before .before .before .before .before .before in
-    let line = third .before .before .before .before .before .before .before .before .before .before .before .before .args .line .now in
-    let fourth = third .third-end .given .0 .0 + 1 in
-    let all : take (length line - fourth) (drop fourth line) ≡ drop fourth line = take-all (length line - fourth) (drop fourth line) (omega (arith, length-drop fourth line)) in
-    let rest = parted-some TAB (drop fourth line) in
-    (rw (all, rest .2) at (c .valued-type .ensures)) ∙ sym (rw (more-fields third, rest .2, sym (tested .before .is-letter2 .ensures) ∙ not-false _ (tested .if2 .left)))
+    let tested = c .before .before .before .before .before .before .before in
+    let line = c .before .before .before .before .before .before .before .before .before .before .before .before .before .before .before .before .before .before .before .args .line .now in
+    c .pair .ensures
+    ∙ sym (rw (more-fields (c .before .before .before .before .before .before .before .before .before .before .before), fields-last line _ _ (c .before .before .before .before .before .before .at3 .ensures) (c .before .before .before .before .enum-told3 .given .1), sym (tested .before .is-letter .ensures) ∙ tested .if1 .left))
 
 pub parse-spec : {M : Type 1} → statement M
 parse-spec =
@@ -252,19 +192,20 @@ parse-spec =
     entity-requires
     returns-2
     add-third
-    at-requires-3
-    enum-known-third-end
-    enum-told-3
     slice-aggregate-is-letter
     is-letter-requires
-    sub-bare-type
-    part-bare-type-start
-    part-bare-type-end
-    sub-bare-type-2
-    part-bare-type-start-2
-    part-bare-type-end-2
-    bare-type-requires
+    sub-typed
+    part-typed-start
+    part-typed-end
+    sub-typed-2
+    part-typed-start-2
+    part-typed-end-2
+    typed-requires
     returns-3
+    at-requires-3
+    enum-told-3
+    enum-told-4
+    returns-4
     slice-aggregate-pair
     sub-pair
     part-pair-start
@@ -273,19 +214,4 @@ parse-spec =
     part-pair-start-2
     part-pair-end-2
     pair-requires
-    returns-4
-    slice-aggregate-is-letter-2
-    is-letter-requires-2
-    returns-5
-    add-fourth
-    sub-valued-type
-    part-valued-type-start
-    part-valued-type-end
-    sub-valued-type-2
-    part-valued-type-start-2
-    part-valued-type-end-2
-    sub-valued-type-3
-    part-valued-type-start-3
-    part-valued-type-end-3
-    valued-type-requires
-    returns-6)
+    returns-5)
