@@ -1,7 +1,9 @@
-// What the programs that replay vectors share: escapes in a data file, an answer as text, and a line for each case.
+// What the programs that replay vectors share: a data file, its lines, their fields and escapes, an answer as text, and a line for each case.
 ghost use Prim.Native.Nat.{_+_, _≤_, _<_};
 ghost use lib.ListN.{length};
+ghost use Rattle.io.specs.Counts.{Counts};
 use libc::STDOUT_FILENO;
+use rows::Kind;
 use text::Decimal;
 use text::Field;
 
@@ -9,6 +11,28 @@ use text::Field;
 pub struct Unescaped {
     pub byte: u8,
     pub next: usize,
+}
+
+// Reads a data file into `buffer`, as much as there is room, and answers how many bytes that is; none where it cannot be opened.
+pub fn read_file(path: &[u8], buffer: &mut [u8]) -> usize
+    ensures { λ r. ⌜ Counts r (now (buffer .exit)) ⌝ }
+{
+    let fd = os::open_read(path);
+    if fd < 0 {
+        os::fail(path);
+        return 0;
+    }
+    let n = io::read_full(fd, buffer);
+    libc::close(fd);
+    n
+}
+
+// Whether a line of a data file is none of its cases: it is empty, or begins with `#`.
+pub fn is_comment(line: &[u8]) -> bool {
+    if line.len() == 0 {
+        return true;
+    }
+    line[0] == b'#'
 }
 
 // What a digit of a hexadecimal byte is worth; 0 where it is none.
@@ -68,8 +92,8 @@ fn unescape(escaped: &[u8], at: usize) -> Unescaped
 }
 
 // Writes what an escaped text stands for into `out`, as much as there is room, and answers how many bytes that is.
-pub fn decode(escaped: &[u8], out: &mut [u8]) -> usize
-    ensures { λ r. ⌜ r ≤ length (now (out .exit)) ⌝ }
+fn decode(escaped: &[u8], out: &mut [u8]) -> usize
+    ensures { λ r. ⌜ Counts r (now (out .exit)) ⌝ }
 {
     let mut at = 0;
     let mut n = 0;
@@ -148,10 +172,29 @@ pub fn is_word(line: &[u8], n: usize, word: &[u8]) -> bool {
     check::same(&line[start..end], word)
 }
 
+// Writes what a field of a line stands for, in escapes, into `out`, as much as there is room, and answers how many bytes that is.
+pub fn decode_field(line: &[u8], n: usize, out: &mut [u8]) -> usize
+    ensures { λ r. ⌜ Counts r (now (out .exit)) ⌝ }
+{
+    let part = nth(line, n);
+    let start = part.start;
+    let end = part.end;
+    decode(&line[start..end], out)
+}
+
+// The kind of state that a line asks for.
+pub fn kind_of(line: &[u8]) -> Kind {
+    if is_word(line, 1, b"contribution") {
+        Kind::Contribution
+    } else {
+        Kind::Manifest
+    }
+}
+
 // Writes a word into `out` from `at` on, as much as there is room, and answers the place after it.
 pub fn say(out: &mut [u8], at: usize, word: &[u8]) -> usize
     requires { ⌜ at ≤ length (now out) ⌝ }
-    ensures { λ r. ⌜ r ≤ length (now (out .exit)) ⌝ }
+    ensures { λ r. ⌜ Counts r (now (out .exit)) ⌝ }
 {
     let mut to = at;
     let mut i = 0;
@@ -169,7 +212,7 @@ pub fn say(out: &mut [u8], at: usize, word: &[u8]) -> usize
 // Writes a number into `out` from `at` on, where there is room for the longest one, and answers the place after it.
 pub fn say_number(out: &mut [u8], at: usize, n: u64) -> usize
     requires { ⌜ at ≤ length (now out) ⌝ }
-    ensures { λ r. ⌜ r ≤ length (now (out .exit)) ⌝ }
+    ensures { λ r. ⌜ Counts r (now (out .exit)) ⌝ }
 {
     if out.len() - at < 20 {
         return at;
@@ -177,35 +220,68 @@ pub fn say_number(out: &mut [u8], at: usize, n: u64) -> usize
     Decimal::write(out, at, n)
 }
 
+// Writes a refusal into `out`, as much as there is room, and answers how many bytes that is.
+pub fn say_refused(out: &mut [u8], number: u64, place: u64) -> usize
+    ensures { λ r. ⌜ Counts r (now (out .exit)) ⌝ }
+{
+    let headed = say(out, 0, b"refused ");
+    let numbered = say_number(out, headed, number);
+    let placed = say(out, numbered, b" at ");
+    say_number(out, placed, place)
+}
+
+// Prints a word.
+pub fn print(word: &[u8]) {
+    io::write_all(STDOUT_FILENO, word);
+}
+
+// Prints a refusal.
+pub fn print_refused(number: u64, place: u64) {
+    let mut out = [0u8; 64];
+    let n = say_refused(&mut out, number, place);
+    print(&out[..n]);
+}
+
+// Prints a case, in front of what comes of it.
+pub fn print_case(line: &[u8]) {
+    print(line);
+    print(b" -> ");
+}
+
+// The same by its name alone, a field of its line.
+pub fn print_name(line: &[u8], n: usize) {
+    let part = nth(line, n);
+    let start = part.start;
+    let end = part.end;
+    print(&line[start..end]);
+    print(b": ");
+}
+
 // One line: the case, what came of it, and whether that is what is expected.
 pub fn report(case: &[u8], got: &[u8], expected: &[u8]) {
-    io::write_all(STDOUT_FILENO, case);
-    io::write_all(STDOUT_FILENO, b" -> ");
-    io::write_all(STDOUT_FILENO, got);
+    print_case(case);
+    print(got);
     if check::same(got, expected) {
-        io::write_all(STDOUT_FILENO, b"\n");
+        print(b"\n");
     } else {
-        io::write_all(STDOUT_FILENO, b" WRONG, expected ");
-        io::write_all(STDOUT_FILENO, expected);
-        io::write_all(STDOUT_FILENO, b"\n");
+        print(b" WRONG, expected ");
+        print(expected);
+        print(b"\n");
     }
 }
 
 // Whether an answer is that of the published Rust.
 pub fn say_rust(is_same: bool) {
     if is_same {
-        io::write_all(STDOUT_FILENO, b"as the Rust");
+        print(b"as the Rust");
     } else {
-        io::write_all(STDOUT_FILENO, b"NOT AS THE RUST");
+        print(b"NOT AS THE RUST");
     }
 }
 
 // The same, where a field of a line has the Rust's answer in escapes.
 pub fn compare_rust(line: &[u8], n: usize, answer: &[u8]) {
-    let part = nth(line, n);
-    let start = part.start;
-    let end = part.end;
     let mut want = [0u8; 65_536];
-    let length = decode(&line[start..end], &mut want);
+    let length = decode_field(line, n, &mut want);
     say_rust(check::same(answer, &want[..length]));
 }

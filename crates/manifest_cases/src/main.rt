@@ -1,7 +1,10 @@
 // Replays the vectors of data/: texts that are read and written again, contributions that are added in many orders.
 ghost use Prim.Native.Nat.{_≤_};
 ghost use lib.ListN.{length};
-use libc::STDOUT_FILENO;
+ghost use Rattle.io.specs.Counts.{Counts};
+use cases::kind_of;
+use cases::print;
+use cases::print_refused;
 use listing::Written;
 use manifest::EntityManifest;
 use rows::Kind;
@@ -13,30 +16,10 @@ const TEXT: usize = 65_536;
 
 const WORDS: usize = 1_026;
 
-fn say(word: &[u8]) {
-    io::write_all(STDOUT_FILENO, word);
-}
-
-fn say_refused(number: u64, place: u64) {
-    say(b"refused ");
-    io::print_decimal(STDOUT_FILENO, number);
-    say(b" at ");
-    io::print_decimal(STDOUT_FILENO, place);
-}
-
-// The kind of state that a line asks for.
-fn kind_of(line: &[u8]) -> Kind {
-    if cases::is_word(line, 1, b"contribution") {
-        Kind::Contribution
-    } else {
-        Kind::Manifest
-    }
-}
-
 // Writes the line of an entry, or of a field, with a number of its own.
 fn say_line(out: &mut [u8], at: usize, head: &[u8], number: u64, tail: &[u8]) -> usize
     requires { ⌜ at ≤ length (now out) ⌝ }
-    ensures { λ r. ⌜ r ≤ length (now (out .exit)) ⌝ }
+    ensures { λ r. ⌜ Counts r (now (out .exit)) ⌝ }
 {
     let headed = cases::say(out, at, head);
     let numbered = cases::say_number(out, headed, number);
@@ -46,7 +29,7 @@ fn say_line(out: &mut [u8], at: usize, head: &[u8], number: u64, tail: &[u8]) ->
 // Writes such a line for each number below n.
 fn say_lines(out: &mut [u8], at: usize, head: &[u8], n: u64, tail: &[u8]) -> usize
     requires { ⌜ at ≤ length (now out) ⌝ }
-    ensures { λ r. ⌜ r ≤ length (now (out .exit)) ⌝ }
+    ensures { λ r. ⌜ Counts r (now (out .exit)) ⌝ }
 {
     let mut to = at;
     let mut i = 0;
@@ -59,7 +42,7 @@ fn say_lines(out: &mut [u8], at: usize, head: &[u8], n: u64, tail: &[u8]) -> usi
 
 // A text of entries of their own type, and then fields of the principal below the last.
 fn say_many(out: &mut [u8], entries: u64, fields: u64) -> usize
-    ensures { λ r. ⌜ r ≤ length (now (out .exit)) ⌝ }
+    ensures { λ r. ⌜ Counts r (now (out .exit)) ⌝ }
 {
     let to = say_lines(out, 0, b"A\t1\t1\t", entries, b"\n");
     if fields == 0 {
@@ -71,15 +54,12 @@ fn say_many(out: &mut [u8], entries: u64, fields: u64) -> usize
 
 // The text of a case: its own, in escapes, or as many entries and fields as it says.
 fn text_of(line: &[u8], out: &mut [u8]) -> usize
-    ensures { λ r. ⌜ r ≤ length (now (out .exit)) ⌝ }
+    ensures { λ r. ⌜ Counts r (now (out .exit)) ⌝ }
 {
     if cases::is_word(line, 0, b"many") {
         return say_many(out, cases::number(line, 2), cases::number(line, 3));
     }
-    let part = cases::nth(line, 2);
-    let start = part.start;
-    let end = part.end;
-    cases::decode(&line[start..end], out)
+    cases::decode_field(line, 2, out)
 }
 
 // Reads a text and writes it again.
@@ -89,7 +69,7 @@ fn ask_text(line: &[u8]) {
     let mut state = [0u64; 4_161];
     let reply = listing::read_listing(kind_of(line), &text[..n], &mut state);
     match reply {
-        Reply::Refused(number, place) => say_refused(number, place),
+        Reply::Refused(number, place) => print_refused(number, place),
         Reply::Done => ask_written(line, &state, &text[..n]),
     }
 }
@@ -98,13 +78,13 @@ fn ask_written(line: &[u8], state: &[u64], text: &[u8]) {
     let mut out = [0u8; TEXT];
     let written = listing::write_listing(kind_of(line), state, &mut out);
     match written {
-        Written::Refused(number, place) => say_refused(number, place),
+        Written::Refused(number, place) => print_refused(number, place),
         Written::Bytes(n) => {
             if n <= TEXT {
                 if check::same(&out[..n], text) {
-                    say(b"the same again");
+                    print(b"the same again");
                 } else {
-                    say(b"ANOTHER TEXT");
+                    print(b"ANOTHER TEXT");
                 }
             }
         }
@@ -127,8 +107,8 @@ fn keep(line: &[u8], kept: &mut [u64]) -> Reply {
 fn ask_keep(line: &[u8], kept: &mut [u64]) {
     let reply = keep(line, kept);
     match reply {
-        Reply::Done => say(b"kept"),
-        Reply::Refused(number, place) => say_refused(number, place),
+        Reply::Done => print(b"kept"),
+        Reply::Refused(number, place) => print_refused(number, place),
     }
 }
 
@@ -136,10 +116,9 @@ fn ask_keep(line: &[u8], kept: &mut [u64]) {
 fn hold(line: &[u8], kept: &mut [u64]) {
     let reply = keep(line, kept);
     if let Reply::Refused(number, place) = reply {
-        say(line);
-        say(b" -> ");
-        say_refused(number, place);
-        say(b"\n");
+        cases::print_case(line);
+        print_refused(number, place);
+        print(b"\n");
     }
 }
 
@@ -155,8 +134,8 @@ fn add_kept(state: &mut [u64], kept: &[u64], number: u64) {
     }
     let reply = EntityManifest::add(state, &kept[from..end]);
     if let Reply::Refused(number, place) = reply {
-        say_refused(number, place);
-        say(b", ");
+        print_refused(number, place);
+        print(b", ");
     }
 }
 
@@ -165,12 +144,12 @@ fn tell_listing(line: &[u8], field: usize, state: &[u64]) {
     let mut out = [0u8; TEXT];
     let written = listing::write_listing(Kind::Manifest, state, &mut out);
     match written {
-        Written::Refused(number, place) => say_refused(number, place),
+        Written::Refused(number, place) => print_refused(number, place),
         Written::Bytes(n) => {
             if n <= TEXT {
                 if cases::is_word(line, field, b"") {
-                    say(b"\n");
-                    say(&out[..n]);
+                    print(b"\n");
+                    print(&out[..n]);
                 } else {
                     cases::compare_rust(line, field, &out[..n]);
                 }
@@ -198,21 +177,14 @@ fn ask_order(line: &[u8], from: usize, kept: &[u64])
 
 // A line of the sample: its name, the contributions that are added, and the Rust's listing.
 fn ask_rust(line: &[u8], kept: &[u64]) {
-    let part = cases::nth(line, 1);
-    let start = part.start;
-    let end = part.end;
-    say(&line[start..end]);
-    say(b": ");
+    cases::print_name(line, 1);
     ask_order(line, 2, kept);
-    say(b"\n");
+    print(b"\n");
 }
 
 // One line of the data file: a comment, or a case and what comes of it.
 fn replay(line: &[u8], kept: &mut [u64]) {
-    if line.len() == 0 {
-        return;
-    }
-    if line[0] == b'#' {
+    if cases::is_comment(line) {
         return;
     }
     if cases::is_word(line, 0, b"hold") {
@@ -223,20 +195,19 @@ fn replay(line: &[u8], kept: &mut [u64]) {
         ask_rust(line, kept);
         return;
     }
-    say(line);
-    say(b" -> ");
+    cases::print_case(line);
     if cases::is_word(line, 0, b"keep") {
         ask_keep(line, kept);
-        say(b"\n");
+        print(b"\n");
         return;
     }
     if cases::is_word(line, 0, b"order") {
         ask_order(line, 1, kept);
-        say(b"\n");
+        print(b"\n");
         return;
     }
     ask_text(line);
-    say(b"\n");
+    print(b"\n");
 }
 
 fn replay_all(text: &[u8]) {
@@ -252,14 +223,8 @@ fn replay_all(text: &[u8]) {
 }
 
 fn replay_file(path: &[u8]) {
-    let fd = os::open_read(path);
-    if fd < 0 {
-        os::fail(path);
-        return;
-    }
     let mut buffer = io::large_buffer();
-    let n = io::read_full(fd, &mut buffer);
-    libc::close(fd);
+    let n = cases::read_file(path, &mut buffer);
     replay_all(&buffer[..n]);
 }
 

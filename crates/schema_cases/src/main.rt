@@ -1,6 +1,8 @@
 // Replays the vectors of data/cases: texts of schemas that are read, with the words that they give.
 ghost use Prim.Native.Nat.{_≤_};
 ghost use lib.ListN.{length};
+use cases::print;
+use cases::print_refused;
 use libc::STDOUT_FILENO;
 use schema::Schema;
 use text::Line;
@@ -11,26 +13,12 @@ const TEXT: usize = 200_000;
 
 const SHOWN: u64 = 64;
 
-fn say(word: &[u8]) {
-    io::write_all(STDOUT_FILENO, word);
-}
-
-fn say_refused(number: u64, place: u64) {
-    say(b"refused ");
-    io::print_decimal(STDOUT_FILENO, number);
-    say(b" at ");
-    io::print_decimal(STDOUT_FILENO, place);
-}
-
 // Writes what a field of a line stands for into `out` from `at` on, as much as there is room, and answers the place after it.
 fn say_part(out: &mut [u8], at: usize, line: &[u8], n: usize) -> usize
     requires { ⌜ at ≤ length (now out) ⌝ }
     ensures { λ r. ⌜ r ≤ length (now (out .exit)) ⌝ }
 {
-    let part = cases::nth(line, n);
-    let start = part.start;
-    let end = part.end;
-    at + cases::decode(&line[start..end], &mut out[at..])
+    at + cases::decode_field(line, n, &mut out[at..])
 }
 
 // The text of many lines: a head, and then for each number below a count a line of a letter, a tab, the number and a tail.
@@ -67,7 +55,7 @@ fn print_words(state: &[u64]) {
     }
     let count = state[0];
     io::print_decimal(STDOUT_FILENO, count);
-    say(b" words:");
+    print(b" words:");
     if SHOWN < count {
         return;
     }
@@ -76,7 +64,7 @@ fn print_words(state: &[u64]) {
         if count < i as u64 {
             return;
         }
-        say(b" ");
+        print(b" ");
         io::print_decimal(STDOUT_FILENO, state[i]);
         i += 1;
     }
@@ -89,11 +77,11 @@ fn ask_text(line: &[u8]) {
     let mut state = [0u64; 142_337];
     let reply = Schema::read(&text[..n], &mut state);
     match reply {
-        Reply::Refused(number, place) => say_refused(number, place),
+        Reply::Refused(number, place) => print_refused(number, place),
         Reply::Done => {
             print_words(&state);
             if !schema::is_lawful(&state) {
-                say(b" UNLAWFUL");
+                print(b" UNLAWFUL");
             }
         }
     }
@@ -101,16 +89,12 @@ fn ask_text(line: &[u8]) {
 
 // One line of the data file: a comment, or a case and what comes of it.
 fn replay(line: &[u8]) {
-    if line.len() == 0 {
+    if cases::is_comment(line) {
         return;
     }
-    if line[0] == b'#' {
-        return;
-    }
-    say(line);
-    say(b" -> ");
+    cases::print_case(line);
     ask_text(line);
-    say(b"\n");
+    print(b"\n");
 }
 
 fn replay_all(text: &[u8]) {
@@ -125,14 +109,7 @@ fn replay_all(text: &[u8]) {
 }
 
 fn main() {
-    let path = b"cases";
-    let fd = os::open_read(path);
-    if fd < 0 {
-        os::fail(path);
-        return;
-    }
     let mut buffer = io::large_buffer();
-    let n = io::read_full(fd, &mut buffer);
-    libc::close(fd);
+    let n = cases::read_file(b"cases", &mut buffer);
     replay_all(&buffer[..n]);
 }

@@ -1,5 +1,5 @@
 // Replays the vectors of data/: step texts under request type (10, 500, 20) with their schema, in data/oracle also with the Rust's answer.
-use libc::STDOUT_FILENO;
+use cases::print;
 use listing::Written;
 use rows::Kind;
 use schema::Schema;
@@ -8,15 +8,11 @@ use words::Reply;
 
 const TEXT: usize = 65_536;
 
-fn say(word: &[u8]) {
-    io::write_all(STDOUT_FILENO, word);
-}
-
 // Says an answer after a gap, or, where the line ends with the published Rust's answer, whether it is that.
 fn tell(line: &[u8], gap: &[u8], answer: &[u8]) {
     if cases::is_word(line, 3, b"") {
-        say(gap);
-        say(answer);
+        print(gap);
+        print(answer);
     } else {
         cases::compare_rust(line, 3, answer);
     }
@@ -24,10 +20,7 @@ fn tell(line: &[u8], gap: &[u8], answer: &[u8]) {
 
 fn tell_refused(line: &[u8], number: u64, place: u64) {
     let mut out = [0u8; 64];
-    let headed = cases::say(&mut out, 0, b"refused ");
-    let numbered = cases::say_number(&mut out, headed, number);
-    let placed = cases::say(&mut out, numbered, b" at ");
-    let end = cases::say_number(&mut out, placed, place);
+    let end = cases::say_refused(&mut out, number, place);
     tell(line, b"", &out[..end]);
 }
 
@@ -46,11 +39,8 @@ fn tell_contribution(line: &[u8], state: &[u64]) {
 
 // Analyses the step text of a line with a schema.
 fn ask_steps(line: &[u8], schema: &[u64]) {
-    let part = cases::nth(line, 2);
-    let start = part.start;
-    let end = part.end;
     let mut text = [0u8; TEXT];
-    let n = cases::decode(&line[start..end], &mut text);
+    let n = cases::decode_field(line, 2, &mut text);
     let mut state = [0u64; 1_026];
     let reply = analysis::analyse(schema, 42_982_440_980, &text[..n], &mut state);
     match reply {
@@ -61,11 +51,8 @@ fn ask_steps(line: &[u8], schema: &[u64]) {
 
 // Reads the schema of a line, and then its steps.
 fn ask(line: &[u8]) {
-    let part = cases::nth(line, 1);
-    let start = part.start;
-    let end = part.end;
     let mut text = [0u8; TEXT];
-    let n = cases::decode(&line[start..end], &mut text);
+    let n = cases::decode_field(line, 1, &mut text);
     let mut state = [0u64; Schema::WORDS];
     let reply = Schema::read(&text[..n], &mut state);
     match reply {
@@ -77,28 +64,20 @@ fn ask(line: &[u8]) {
 // Says a case; one with the Rust's answer by its name alone.
 fn say_case(line: &[u8]) {
     if cases::is_word(line, 3, b"") {
-        say(line);
-        say(b" -> ");
+        cases::print_case(line);
         return;
     }
-    let part = cases::nth(line, 0);
-    let start = part.start;
-    let end = part.end;
-    say(&line[start..end]);
-    say(b": ");
+    cases::print_name(line, 0);
 }
 
 // One line of a data file: a comment, or a case and what comes of it.
 fn replay(line: &[u8]) {
-    if line.len() == 0 {
-        return;
-    }
-    if line[0] == b'#' {
+    if cases::is_comment(line) {
         return;
     }
     say_case(line);
     ask(line);
-    say(b"\n");
+    print(b"\n");
 }
 
 fn replay_all(text: &[u8]) {
@@ -113,14 +92,8 @@ fn replay_all(text: &[u8]) {
 }
 
 fn replay_file(path: &[u8]) {
-    let fd = os::open_read(path);
-    if fd < 0 {
-        os::fail(path);
-        return;
-    }
     let mut buffer = io::large_buffer();
-    let n = io::read_full(fd, &mut buffer);
-    libc::close(fd);
+    let n = cases::read_file(path, &mut buffer);
     replay_all(&buffer[..n]);
 }
 

@@ -1,6 +1,5 @@
 // Replays the vectors of data/cases: each line has a kind, an input in escapes, and the answer that is expected.
-ghost use Prim.Native.Nat.{_≤_};
-ghost use lib.ListN.{length};
+ghost use Rattle.io.specs.Counts.{Counts};
 use text::Decimal;
 use text::Field;
 use text::Line;
@@ -11,7 +10,7 @@ const ROOM: usize = 256;
 
 // decimal: the number that the input writes, or `bad`.
 fn decimal_case(input: &[u8], out: &mut [u8]) -> usize
-    ensures { λ r. ⌜ r ≤ length (now (out .exit)) ⌝ }
+    ensures { λ r. ⌜ Counts r (now (out .exit)) ⌝ }
 {
     let Decimal::Value(n) = Decimal::read(input) else {
         return cases::say(out, 0, b"bad");
@@ -21,7 +20,7 @@ fn decimal_case(input: &[u8], out: &mut [u8]) -> usize
 
 // number: the number that a tab ends and the place of that tab, or `bad`.
 fn number_case(input: &[u8], out: &mut [u8]) -> usize
-    ensures { λ r. ⌜ r ≤ length (now (out .exit)) ⌝ }
+    ensures { λ r. ⌜ Counts r (now (out .exit)) ⌝ }
 {
     let Number::Of(n, end) = Number::at(input, 0, text::TAB) else {
         return cases::say(out, 0, b"bad");
@@ -33,14 +32,14 @@ fn number_case(input: &[u8], out: &mut [u8]) -> usize
 
 // write: the decimal of the number that the input has in hexadecimal.
 fn write_case(input: &[u8], out: &mut [u8]) -> usize
-    ensures { λ r. ⌜ r ≤ length (now (out .exit)) ⌝ }
+    ensures { λ r. ⌜ Counts r (now (out .exit)) ⌝ }
 {
     cases::say_number(out, 0, cases::hex_number(input))
 }
 
 // fields: the length of each field of the input.
 fn fields_case(input: &[u8], out: &mut [u8]) -> usize
-    ensures { λ r. ⌜ r ≤ length (now (out .exit)) ⌝ }
+    ensures { λ r. ⌜ Counts r (now (out .exit)) ⌝ }
 {
     let mut to = 0;
     let mut at = 0;
@@ -57,7 +56,7 @@ fn fields_case(input: &[u8], out: &mut [u8]) -> usize
 
 // lines: the length of each line of the input, and then `end`, or `cut` where the last has no LF.
 fn lines_case(input: &[u8], out: &mut [u8]) -> usize
-    ensures { λ r. ⌜ r ≤ length (now (out .exit)) ⌝ }
+    ensures { λ r. ⌜ Counts r (now (out .exit)) ⌝ }
 {
     let mut to = 0;
     let mut at = 0;
@@ -75,14 +74,14 @@ fn lines_case(input: &[u8], out: &mut [u8]) -> usize
     cases::say(out, to, b"end")
 }
 
-// What the crate answers to a case, by the first letter of its kind.
-fn answer(kind: &[u8], input: &[u8], out: &mut [u8]) -> usize
-    ensures { λ r. ⌜ r ≤ length (now (out .exit)) ⌝ }
+// What the crate answers to a case, by the first letter of its line.
+fn answer(line: &[u8], input: &[u8], out: &mut [u8]) -> usize
+    ensures { λ r. ⌜ Counts r (now (out .exit)) ⌝ }
 {
-    if kind.len() == 0 {
+    if line.len() == 0 {
         return 0;
     }
-    let first = kind[0];
+    let first = line[0];
     match first {
         b'd' => decimal_case(input, out),
         b'n' => number_case(input, out),
@@ -93,31 +92,20 @@ fn answer(kind: &[u8], input: &[u8], out: &mut [u8]) -> usize
     }
 }
 
-// One case: its own words, its kind, its input in escapes, and the answer that is expected.
-fn replay_case(told: &[u8], kind: &[u8], escaped: &[u8], expected: &[u8]) {
-    let mut input = [0u8; ROOM];
-    let n = cases::decode(escaped, &mut input);
-    let mut out = [0u8; ROOM];
-    let said = answer(kind, &input[..n], &mut out);
-    cases::report(told, &out[..said], expected);
-}
-
-// A line of the data file. One that does not have two tabs is a comment.
+// One line of the data file: a comment, or a case with its kind, its input in escapes and the answer that is expected.
 fn replay(line: &[u8]) {
-    let Field::More(kind_end) = Field::at(line, 0) else {
+    if cases::is_comment(line) {
         return;
-    };
-    let from = kind_end + 1;
-    let Field::More(input_end) = Field::at(line, from) else {
-        return;
-    };
-    let after = input_end + 1;
-    replay_case(
-        &line[..input_end],
-        &line[..kind_end],
-        &line[from..input_end],
-        &line[after..],
-    );
+    }
+    let mut input = [0u8; ROOM];
+    let n = cases::decode_field(line, 1, &mut input);
+    let mut out = [0u8; ROOM];
+    let said = answer(line, &input[..n], &mut out);
+    let told = cases::nth(line, 1).end;
+    let part = cases::nth(line, 2);
+    let start = part.start;
+    let end = part.end;
+    cases::report(&line[0..told], &out[..said], &line[start..end]);
 }
 
 fn replay_all(text: &[u8]) {
@@ -132,14 +120,7 @@ fn replay_all(text: &[u8]) {
 }
 
 fn main() {
-    let path = b"cases";
-    let fd = os::open_read(path);
-    if fd < 0 {
-        os::fail(path);
-        return;
-    }
     let mut buffer = io::large_buffer();
-    let n = io::read_full(fd, &mut buffer);
-    libc::close(fd);
+    let n = cases::read_file(b"cases", &mut buffer);
     replay_all(&buffer[..n]);
 }

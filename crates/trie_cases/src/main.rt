@@ -1,9 +1,10 @@
 // Replays the vectors of data/: lines that fill two states and an expected one, and lines that ask for a union or a place.
 ghost use Prim.Native.Nat.{_≤_, _<_};
 ghost use lib.ListN.{length};
-use libc::STDOUT_FILENO;
+use cases::kind_of;
+use cases::print;
+use cases::print_refused;
 use rows::Held;
-use rows::Kind;
 use rows::Row;
 use text::Line;
 use words::Reply;
@@ -130,26 +131,6 @@ fn same_rows(a: &[u64], b: &[u64]) -> bool {
     true
 }
 
-// The kind of state that a line asks for.
-fn kind_of(line: &[u8]) -> Kind {
-    if cases::is_word(line, 1, b"contribution") {
-        Kind::Contribution
-    } else {
-        Kind::Manifest
-    }
-}
-
-fn say(word: &[u8]) {
-    io::write_all(STDOUT_FILENO, word);
-}
-
-fn say_refused(number: u64, place: u64) {
-    say(b"refused ");
-    io::print_decimal(STDOUT_FILENO, number);
-    say(b" at ");
-    io::print_decimal(STDOUT_FILENO, place);
-}
-
 // The union of the two states, held against the expected one.
 fn ask_union(line: &[u8], a: &[u64], b: &[u64], want: &[u64]) {
     let mut out = [0u64; WORDS];
@@ -157,12 +138,12 @@ fn ask_union(line: &[u8], a: &[u64], b: &[u64], want: &[u64]) {
     match reply {
         Reply::Done => {
             if same_rows(&out, want) {
-                say(b"as expected");
+                print(b"as expected");
             } else {
-                say(b"OTHER ROWS");
+                print(b"OTHER ROWS");
             }
         }
-        Reply::Refused(number, place) => say_refused(number, place),
+        Reply::Refused(number, place) => print_refused(number, place),
     }
 }
 
@@ -173,8 +154,8 @@ fn ask_rust(line: &[u8], a: &[u64], b: &[u64], want: &[u64]) {
     match reply {
         Reply::Done => cases::say_rust(same_rows(&out, want)),
         Reply::Refused(number, place) => {
-            say_refused(number, place);
-            say(b", ");
+            print_refused(number, place);
+            print(b", ");
             cases::say_rust(false);
         }
     }
@@ -200,15 +181,15 @@ fn read_steps(line: &[u8], place: &mut [u64]) -> usize
 
 fn say_held(held: Held) {
     match held {
-        Held::Missing => say(b"missing"),
+        Held::Missing => print(b"missing"),
         Held::There(marked) => {
             if marked {
-                say(b"there and marked");
+                print(b"there and marked");
             } else {
-                say(b"there");
+                print(b"there");
             }
         }
-        Held::Unheld(number, place) => say_refused(number, place),
+        Held::Unheld(number, place) => print_refused(number, place),
     }
 }
 
@@ -240,28 +221,22 @@ fn replay(line: &[u8], a: &mut [u64], b: &mut [u64], want: &mut [u64]) {
         push_row(line, want);
         return;
     }
-    let part = cases::nth(line, 2);
-    let start = part.start;
-    let end = part.end;
     if cases::is_word(line, 0, b"union") {
-        say(&line[start..end]);
-        say(b": ");
+        cases::print_name(line, 2);
         ask_union(line, a, b, want);
-        say(b"\n");
+        print(b"\n");
         return;
     }
     if cases::is_word(line, 0, b"rust") {
-        say(&line[start..end]);
-        say(b": ");
+        cases::print_name(line, 2);
         ask_rust(line, a, b, want);
-        say(b"\n");
+        print(b"\n");
         return;
     }
     if cases::is_word(line, 0, b"has") {
-        say(&line[start..end]);
-        say(b": ");
+        cases::print_name(line, 2);
         ask_place(line, a);
-        say(b"\n");
+        print(b"\n");
     }
 }
 
@@ -280,14 +255,8 @@ fn replay_all(text: &[u8]) {
 }
 
 fn replay_file(path: &[u8]) {
-    let fd = os::open_read(path);
-    if fd < 0 {
-        os::fail(path);
-        return;
-    }
     let mut buffer = io::large_buffer();
-    let n = io::read_full(fd, &mut buffer);
-    libc::close(fd);
+    let n = cases::read_file(path, &mut buffer);
     replay_all(&buffer[..n]);
 }
 

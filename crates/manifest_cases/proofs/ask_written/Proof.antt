@@ -17,8 +17,8 @@ write-listing-requires c κs = search needs
 enum-known-written : tie.Need-enum-known-written
 enum-known-written c = search needs
 
-say-refused-requires : tie.Need-say-refused-requires
-say-refused-requires c κs = search needs
+print-refused-requires : tie.Need-print-refused-requires
+print-refused-requires c κs = search needs
 
 enum-known-written-2 : tie.Need-enum-known-written-2
 enum-known-written-2 c = search needs
@@ -32,17 +32,17 @@ slice-aggregate-same c = sym (length-take-le _ _ (search needs))
 same-requires : tie.Need-same-requires
 same-requires c κs = search needs
 
-slice-aggregate-say : tie.Need-slice-aggregate-say
-slice-aggregate-say c = search needs
+slice-aggregate-print : tie.Need-slice-aggregate-print
+slice-aggregate-print c = search needs
 
-say-requires : tie.Need-say-requires
-say-requires c κs = search needs
+print-requires : tie.Need-print-requires
+print-requires c κs = search needs
 
-slice-aggregate-say-2 : tie.Need-slice-aggregate-say-2
-slice-aggregate-say-2 c = search needs
+slice-aggregate-print-2 : tie.Need-slice-aggregate-print-2
+slice-aggregate-print-2 c = search needs
 
-say-requires-2 : tie.Need-say-requires-2
-say-requires-2 c κs = search needs
+print-requires-2 : tie.Need-print-requires-2
+print-requires-2 c κs = search needs
 
 returns : tie.Need-returns
 returns c = search needs
@@ -64,15 +64,15 @@ ask-written-spec =
     slice-aggregate-write-listing
     write-listing-requires
     enum-known-written
-    say-refused-requires
+    print-refused-requires
     enum-known-written-2
     array-share-prefix-out
     slice-aggregate-same
     same-requires
-    slice-aggregate-say
-    say-requires
-    slice-aggregate-say-2
-    say-requires-2
+    slice-aggregate-print
+    print-requires
+    slice-aggregate-print-2
+    print-requires-2
     returns
     returns-2
     returns-3

@@ -3,6 +3,7 @@ use Prim.Native.Nat.{_-_, _≤_}
 use mathlib.Core.Path.{_≡_}
 use borrow.Author.Needs.{needs}
 use lib.ListN.{length}
+use Rattle.io.proofs.Counting.{counts}
 use Rattle.manifest_cases.proofs.say_lines.Statement.{statement}
 use Rattle.manifest_cases.proofs.say_lines.Tie as tie
 
@@ -31,7 +32,7 @@ same-length : tie.Need-same-length Inv-loop μ-loop
 same-length c = search needs
 
 returns : tie.Need-returns Inv-loop μ-loop
-returns c = search needs
+returns c = counts _ _ (search needs)
 
 pub say-lines-spec : {M : Type 1} → statement M
 say-lines-spec =

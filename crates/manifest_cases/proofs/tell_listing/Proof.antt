@@ -14,8 +14,8 @@ write-listing-requires c κs = search needs
 enum-known-written : tie.Need-enum-known-written
 enum-known-written c = search needs
 
-say-refused-requires : tie.Need-say-refused-requires
-say-refused-requires c κs = search needs
+print-refused-requires : tie.Need-print-refused-requires
+print-refused-requires c κs = search needs
 
 enum-known-written-2 : tie.Need-enum-known-written-2
 enum-known-written-2 c = search needs
@@ -26,20 +26,20 @@ slice-aggregate-is-word c = search needs
 is-word-requires : tie.Need-is-word-requires
 is-word-requires c κs = search needs
 
-slice-aggregate-say : tie.Need-slice-aggregate-say
-slice-aggregate-say c = search needs
+slice-aggregate-print : tie.Need-slice-aggregate-print
+slice-aggregate-print c = search needs
 
-say-requires : tie.Need-say-requires
-say-requires c κs = search needs
+print-requires : tie.Need-print-requires
+print-requires c κs = search needs
 
 array-share-prefix-out : tie.Need-array-share-prefix-out
 array-share-prefix-out c = search needs
 
-slice-aggregate-say-2 : tie.Need-slice-aggregate-say-2
-slice-aggregate-say-2 c = sym (length-take-le _ _ (search needs))
+slice-aggregate-print-2 : tie.Need-slice-aggregate-print-2
+slice-aggregate-print-2 c = sym (length-take-le _ _ (search needs))
 
-say-requires-2 : tie.Need-say-requires-2
-say-requires-2 c κs = search needs
+print-requires-2 : tie.Need-print-requires-2
+print-requires-2 c κs = search needs
 
 array-share-prefix-out-2 : tie.Need-array-share-prefix-out-2
 array-share-prefix-out-2 c = search needs
@@ -69,15 +69,15 @@ tell-listing-spec =
     slice-aggregate-write-listing
     write-listing-requires
     enum-known-written
-    say-refused-requires
+    print-refused-requires
     enum-known-written-2
     slice-aggregate-is-word
     is-word-requires
-    slice-aggregate-say
-    say-requires
+    slice-aggregate-print
+    print-requires
     array-share-prefix-out
-    slice-aggregate-say-2
-    say-requires-2
+    slice-aggregate-print-2
+    print-requires-2
     array-share-prefix-out-2
     slice-aggregate-compare-rust
     compare-rust-requires

@@ -26,8 +26,8 @@ read-requires c κs = search needs
 enum-known-reply : tie.Need-enum-known-reply
 enum-known-reply c = search needs
 
-say-refused-requires : tie.Need-say-refused-requires
-say-refused-requires c κs = search needs
+print-refused-requires : tie.Need-print-refused-requires
+print-refused-requires c κs = search needs
 
 enum-told : tie.Need-enum-told
 enum-told c = search needs
@@ -44,11 +44,11 @@ slice-aggregate-is-lawful c = search needs
 is-lawful-requires : tie.Need-is-lawful-requires
 is-lawful-requires c κs = search needs
 
-slice-aggregate-say : tie.Need-slice-aggregate-say
-slice-aggregate-say c = search needs
+slice-aggregate-print : tie.Need-slice-aggregate-print
+slice-aggregate-print c = search needs
 
-say-requires : tie.Need-say-requires
-say-requires c κs = search needs
+print-requires : tie.Need-print-requires
+print-requires c κs = search needs
 
 returns : tie.Need-returns
 returns c = search needs
@@ -70,14 +70,14 @@ ask-text-spec =
     slice-aggregate-read-2
     read-requires
     enum-known-reply
-    say-refused-requires
+    print-refused-requires
     enum-told
     slice-aggregate-print-words
     print-words-requires
     slice-aggregate-is-lawful
     is-lawful-requires
-    slice-aggregate-say
-    say-requires
+    slice-aggregate-print
+    print-requires
     returns
     returns-2
     returns-3)
