@@ -24,7 +24,7 @@ use Rattle.result_stack.specs.Stacks.{trieWords, Held, Reached, Placed, Scratch
 use Rattle.result_stack.specs.declared.Stack.{Stack}
 use Rattle.result_stack.specs.StackLaws.{top-good, below, below-held, top-stands, code-end, tries-end}
 use Rattle.wrap_steps.specs.WrapLaws.{top-few}
-use Rattle.result_stack.specs.JudgingLaws.{any-deep, none-deep, Judging, unfit, stored}
+use Rattle.result_stack.specs.JudgingLaws.{any-deep, none-deep, Judging, unfit, judging-stored}
 
 grown-some : (f : ℕ) (paths : Paths) → Each (λ path. 0 < length path) (grownIn f paths)
 unfolding grownIn Each
@@ -134,7 +134,7 @@ module _ {codeRun tries : List ℕ} {stack : Stack} {top : Result} {rest : List 
             → Reached (λ place. attrStep place f (top ∷ rest)) codeRun′ tries′
             (record { code = start; tries = tstart; results = stack .results })
         attr-done fit m te p t =
-            stored attr-judging shallow became fit (below-held held .layout)
+            judging-stored attr-judging shallow became fit (below-held held .layout)
             (rw (code-end held m, g .coded) at p)
             (rw (tries-end held te) at t)
             (held .layout .as-many)

@@ -20,7 +20,7 @@ replyPlace Done = 0
 replyPlace (Refused number place) = place
 
 -- what an operation answers and leaves, told: its number, the value beside it, and the lent buffer
-pub record Told (outcome : Outcome) (number value : ℕ) (buffer : List ℕ) : Type 0 where
+pub record ToldAs (outcome : Outcome) (number value : ℕ) (buffer : List ℕ) : Type 0 where
   pub as-number : number ≡ replyNumber (outcome .reply)
   pub beside : value ≡ replyPlace (outcome .reply)
   pub left : buffer ≡ outcome .buffer
@@ -30,7 +30,7 @@ pub told :
     {outcome : Outcome} {reply : Reply} {buffer : List ℕ} {number value : ℕ}
     → (reply ≡ outcome .reply) × (buffer ≡ outcome .buffer)
     → (number ≡ replyNumber reply) × (value ≡ replyPlace reply)
-    → Told outcome number value buffer
+    → ToldAs outcome number value buffer
 told said spoken = record { as-number = rw (said .0) at (spoken .0); beside = rw (said .0) at (spoken .1); left = said .1 }
 
 -- of writing the count of bytes

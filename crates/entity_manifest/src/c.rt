@@ -8,7 +8,7 @@ ghost use Rattle.manifest.specs.Outcomes.{emptyIn, addIn};
 ghost use Rattle.schema.specs.Items.{readSchemaIn};
 ghost use Rattle.analysis.specs.Outcomes.{analyseIn};
 ghost use Rattle.rows.specs.declared.Kind.the-variants.{Contribution, Manifest};
-ghost use Rattle.entity_manifest.specs.Numbers.{replyNumber, replyPlace, Told, writtenNumber, writtenValue, heldNumber, heldValue};
+ghost use Rattle.entity_manifest.specs.Numbers.{replyNumber, replyPlace, ToldAs, writtenNumber, writtenValue, heldNumber, heldValue};
 use listing::Written;
 use rows::Held;
 use rows::Kind;
@@ -69,7 +69,7 @@ fn tell_held(held: Held, value: &mut u64) -> u64
 // Makes a lent state the empty manifest.
 #[no_mangle]
 pub extern "C" fn terbagyl_empty_manifest(out: &mut [u64], value: &mut u64) -> u64
-    ensures { λ r. ⌜ Told (emptyIn (now (out .entry))) r (now (value .exit)) (now (out .exit)) ⌝ }
+    ensures { λ r. ⌜ ToldAs (emptyIn (now (out .entry))) r (now (value .exit)) (now (out .exit)) ⌝ }
 {
     tell(crate::empty_manifest(out), value)
 }
@@ -77,7 +77,7 @@ pub extern "C" fn terbagyl_empty_manifest(out: &mut [u64], value: &mut u64) -> u
 // Adds a contribution to a manifest.
 #[no_mangle]
 pub extern "C" fn terbagyl_add(manifest: &mut [u64], contribution: &[u64], value: &mut u64) -> u64
-    ensures { λ r. ⌜ Told (addIn (now (manifest .entry)) (now (contribution .entry))) r (now (value .exit)) (now (manifest .exit)) ⌝ }
+    ensures { λ r. ⌜ ToldAs (addIn (now (manifest .entry)) (now (contribution .entry))) r (now (value .exit)) (now (manifest .exit)) ⌝ }
 {
     tell(crate::add(manifest, contribution), value)
 }
@@ -90,7 +90,7 @@ pub extern "C" fn terbagyl_union_manifests(
     out: &mut [u64],
     value: &mut u64,
 ) -> u64
-    ensures { λ r. ⌜ Told (unionOf Manifest (now (a .entry)) (now (b .entry)) (now (out .entry))) r (now (value .exit)) (now (out .exit)) ⌝ }
+    ensures { λ r. ⌜ ToldAs (unionOf Manifest (now (a .entry)) (now (b .entry)) (now (out .entry))) r (now (value .exit)) (now (out .exit)) ⌝ }
 {
     tell(crate::union(Kind::Manifest, a, b, out), value)
 }
@@ -103,7 +103,7 @@ pub extern "C" fn terbagyl_union_contributions(
     out: &mut [u64],
     value: &mut u64,
 ) -> u64
-    ensures { λ r. ⌜ Told (unionOf Contribution (now (a .entry)) (now (b .entry)) (now (out .entry))) r (now (value .exit)) (now (out .exit)) ⌝ }
+    ensures { λ r. ⌜ ToldAs (unionOf Contribution (now (a .entry)) (now (b .entry)) (now (out .entry))) r (now (value .exit)) (now (out .exit)) ⌝ }
 {
     tell(crate::union(Kind::Contribution, a, b, out), value)
 }
@@ -127,7 +127,7 @@ pub extern "C" fn terbagyl_has_in_contribution(state: &[u64], place: &[u64], val
 // Reads the listing of a manifest into a state.
 #[no_mangle]
 pub extern "C" fn terbagyl_read_manifest(text: &[u8], out: &mut [u64], value: &mut u64) -> u64
-    ensures { λ r. ⌜ Told (readListingIn Manifest (now (text .entry)) (now (out .entry))) r (now (value .exit)) (now (out .exit)) ⌝ }
+    ensures { λ r. ⌜ ToldAs (readListingIn Manifest (now (text .entry)) (now (out .entry))) r (now (value .exit)) (now (out .exit)) ⌝ }
 {
     tell(crate::read_listing(Kind::Manifest, text, out), value)
 }
@@ -135,7 +135,7 @@ pub extern "C" fn terbagyl_read_manifest(text: &[u8], out: &mut [u64], value: &m
 // Reads the listing of a contribution into a state.
 #[no_mangle]
 pub extern "C" fn terbagyl_read_contribution(text: &[u8], out: &mut [u64], value: &mut u64) -> u64
-    ensures { λ r. ⌜ Told (readListingIn Contribution (now (text .entry)) (now (out .entry))) r (now (value .exit)) (now (out .exit)) ⌝ }
+    ensures { λ r. ⌜ ToldAs (readListingIn Contribution (now (text .entry)) (now (out .entry))) r (now (value .exit)) (now (out .exit)) ⌝ }
 {
     tell(crate::read_listing(Kind::Contribution, text, out), value)
 }
@@ -159,7 +159,7 @@ pub extern "C" fn terbagyl_write_contribution(state: &[u64], out: &mut [u8], val
 // Reads a schema's text into a state.
 #[no_mangle]
 pub extern "C" fn terbagyl_read_schema(text: &[u8], out: &mut [u64], value: &mut u64) -> u64
-    ensures { λ r. ⌜ Told (readSchemaIn (now (text .entry)) (now (out .entry))) r (now (value .exit)) (now (out .exit)) ⌝ }
+    ensures { λ r. ⌜ ToldAs (readSchemaIn (now (text .entry)) (now (out .entry))) r (now (value .exit)) (now (out .exit)) ⌝ }
 {
     tell(crate::read_schema(text, out), value)
 }
@@ -173,7 +173,7 @@ pub extern "C" fn terbagyl_analyse(
     out: &mut [u64],
     value: &mut u64,
 ) -> u64
-    ensures { λ r. ⌜ Told (analyseIn (now (schema .entry)) request (now (text .entry)) (now (out .entry))) r (now (value .exit)) (now (out .exit)) ⌝ }
+    ensures { λ r. ⌜ ToldAs (analyseIn (now (schema .entry)) request (now (text .entry)) (now (out .entry))) r (now (value .exit)) (now (out .exit)) ⌝ }
 {
     tell(crate::analyse(schema, request, text, out), value)
 }

@@ -74,14 +74,14 @@ looking-none words table pairs = record { inside = omega arith; left = λ items 
 
 module _ {words table pairs : List ℕ} {i : ℕ} (looking : LookingTaken words table pairs i) where
   -- no pair is left
-  pub looking-all :
+  pub pairs-looked :
       length pairs ≤ i
       → (items : List ℕ) (types : ℕ)
       → Tabled items table types
       → AllPairs words types pairs
       → false ≡ anyTakenDeep items (map (takenAt words) pairs)
   unfolding anyTakenDeep
-  looking-all h items types tabled all = sym (looking .left items types tabled all ∙ rw (drop-of-length-le pairs h))
+  pairs-looked h items types tabled all = sym (looking .left items types tabled all ∙ rw (drop-of-length-le pairs h))
 
   module _ (more : i < length pairs) where
     next-deep :
@@ -98,18 +98,18 @@ module _ {words table pairs : List ℕ} {i : ℕ} (looking : LookingTaken words 
         ∙ rw (pairs-left words pairs i more, deep-here words table items types (getD pairs i 0) tabled within less)
 
     -- the next goes too deep, or not
-    pub looking-deep :
+    pub pairs-deep :
         24 < getD words (getD pairs i 0 / 1024) 0 / 8 + sizeDepth (getD table (getD pairs i 0 % 1024) 0)
         → (items : List ℕ) (types : ℕ)
         → Tabled items table types
         → AllPairs words types pairs
         → true ≡ anyTakenDeep items (map (takenAt words) pairs)
-    looking-deep h items types tabled all = sym (next-deep items types tabled all ∙ rw (lt-ltb 24 _ h))
+    pairs-deep h items types tabled all = sym (next-deep items types tabled all ∙ rw (lt-ltb 24 _ h))
 
-    pub looking-next :
+    pub pairs-look-next :
         getD words (getD pairs i 0 / 1024) 0 / 8 + sizeDepth (getD table (getD pairs i 0 % 1024) 0) ≤ 24
         → LookingTaken words table pairs (i + 1)
-    looking-next h = record {
+    pairs-look-next h = record {
       inside = omega arith;
       left = λ items types tabled all. next-deep items types tabled all ∙ rw (le-ltb 24 _ h);
     }
@@ -243,12 +243,12 @@ module _ (words : List ℕ) (all : allItems words ≡ true) (t steps : ℕ) (nea
 -- A path with the trie of a type as its leaf.
 
 -- where the trie of a type has too many rows, so has the whole
-pub too-many :
+pub pairs-too-many :
     (words trie path : List ℕ) (t : ℕ)
     → IsState trie
     → 1024 < length (typeRows words t)
     → Became (addAccessPath (rowsIn trie) path (typeToAccessTrie (itemsOf words) t)) trie false
-too-many words trie path t state many = record {
+pairs-too-many words trie path t state many = record {
   judged = sym (lt-leb (length (addAccessPath (rowsIn trie) path (typeToAccessTrie (itemsOf words) t))) 1024 over);
   still = state;
   there = λ e. absurd (false≢true e);
@@ -337,9 +337,9 @@ adding-none items words pairs start state = record { inside = omega arith; state
 
 module _ {items : List Item} {words pairs start : List ℕ} {i : ℕ} {trie : List ℕ} (adding : AddingTaken items words pairs start i trie) where
   -- no pair is left
-  pub adding-all : length pairs ≤ i → Became (addTaken items (rowsIn start) (map (takenAt words) pairs)) trie true
+  pub pairs-added : length pairs ≤ i → Became (addTaken items (rowsIn start) (map (takenAt words) pairs)) trie true
   unfolding unionAll
-  adding-all h = record {
+  pairs-added h = record {
     judged = sym (rw (← all) (le-leb _ 1024 few));
     still = adding .state;
     there = λ e. all;
@@ -369,8 +369,8 @@ module _ {items : List Item} {words pairs start : List ℕ} {i : ℕ} {trie : Li
         fits)
       where
         -- the next does not fit
-        pub adding-over : fits ≡ false → Became (addTaken items (rowsIn start) (map (takenAt words) pairs)) trie′ false
-        adding-over e = record {
+        pub pairs-over : fits ≡ false → Became (addTaken items (rowsIn start) (map (takenAt words) pairs)) trie′ false
+        pairs-over e = record {
           judged = sym (lt-leb (length (addTaken items (rowsIn start) (map (takenAt words) pairs))) 1024 over);
           still = became .still;
           there = λ e. absurd (false≢true e);
@@ -384,8 +384,8 @@ module _ {items : List Item} {words pairs start : List ℕ} {i : ℕ} {trie : Li
                 rw (← next-added) (omega (arith, all-length one (takenTries items (map (takenAt words) (drop (i + 1) pairs)))))
 
         -- the next fits
-        pub adding-next : fits ≡ true → AddingTaken items words pairs start (i + 1) trie′
-        adding-next e = record { inside = omega arith; state = became .still; left = rw (became .there e) next-added }
+        pub pairs-next : fits ≡ true → AddingTaken items words pairs start (i + 1) trie′
+        pairs-next e = record { inside = omega arith; state = became .still; left = rw (became .there e) next-added }
 
 -- The names of a record literal.
 

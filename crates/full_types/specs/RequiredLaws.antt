@@ -15,7 +15,7 @@ use Rattle.rules.specs.Listing.{_>>=_}
 use Rattle.rules.specs.Schema.{Item, setType, recordType, attributesOf, attributeLine}
 use Rattle.rules.specs.Paths.{Taken, attributesAt, Paths, Empty, AccessPath, Union, RecordLiteral, SetLiteral, Fields, noField, field, hasAll, nodesOf, kindAt, elementAt, attributeType, fullTypeRequired, fieldsRequired}
 use Rattle.rules.specs.StepLaws.{Each, each-append}
-use Rattle.rules.specs.TypeLaws.{Ascends, below-at, attributes-first, attribute-past, attribute-stands, typesIn, types-few}
+use Rattle.rules.specs.TypeLaws.{Ascends, attributes-below, attributes-first, attribute-past, attribute-stands, typesIn, types-few}
 use Rattle.schema.specs.Items.{itemIn, itemsOf}
 use Rattle.words.specs.Keys.{later, searched}
 use Rattle.words.specs.declared.Search.{Search}
@@ -27,7 +27,7 @@ use Rattle.full_types.specs.declared.Awaited.the-variants.{Left, Mismatc
 use Rattle.full_types.specs.declared.Required.the-variants.{Next}
 use Rattle.wrapped_paths.specs.Code.{headOf, sizeOf, wrapsOf, countIn, namesIn, code, codes, nodesOfAll, pathAt, Standing, Measures}
 use Rattle.wrapped_paths.specs.Turns.{Noted}
-use Rattle.wrapped_paths.specs.CodeLaws.{fieldPaths, headFor, unwrapped, unwrapped-many, names-many, paths-many, nodes-turn, nodes-words, many-nodes, Ahead, next-of, next-within, next-room, next-word, next-head, next-payload, next-ahead, nodes-next, words-next, noted-none, noted-one}
+use Rattle.wrapped_paths.specs.CodeLaws.{fieldPaths, headFor, unwrapped, unwrapped-many, names-many, paths-within, nodes-turn, nodes-words, many-nodes, Ahead, next-of, next-within, next-room, next-head-word, next-head, next-payload, next-ahead, nodes-next, words-next, noted-none, noted-one}
 use Rattle.wrapped_paths.specs.AttrLaws.{stands-alone, head-here, behind-it, literal-names, empty-of, path-of, union-of, record-of, set-of}
 use Rattle.type_table.specs.TypeTableLaws.{good-lawful, TypeStands, tabled-stands, tabled-inside, stands-kind, stands-element, stands-attributes}
 use Rattle.full_types.specs.Pairs.{takenAt, AllPairs}
@@ -393,7 +393,7 @@ refers {words} {table} {t} k = record {
   element = λ e. omega (arith, here .lines .element (sym (stands-kind here) ∙ e), stands-element here, k .known);
   attribute = λ name u e.
       let at = attribute-stands name u (attributesOf (itemsOf (drop (typePlace (getD table t 0) + 1) words))) (rw (stands-attributes here) at e) in
-      let (tag, lower, rest) = below-at t (at .front) (at .a) (at .rest) (rw (at .split) at (here .lines .below)) in
+      let (tag, lower, rest) = attributes-below t (at .front) (at .a) (at .rest) (rw (at .split) at (here .lines .below)) in
       omega (arith, at .type, k .known);
 }
   where
@@ -474,7 +474,7 @@ module _ {items : List Item} {t : ℕ} (r : Refers items t) where
       let (test, given) = cond-some (eqb (kindAt items t) recordType && hasAll fields (attributesAt items t)) _ new e in
       let same : fieldTypes (attributesAt items t) (namesIn fields) ≡ new = cc in
       rw (← same) (
-        length-map (namesIn fields) (λ name. typeOr (attributeType name (attributesAt items t))) ∙ names-many fields ∙ sym (paths-many fields),
+        length-map (namesIn fields) (λ name. typeOr (attributeType name (attributesAt items t))) ∙ names-many fields ∙ sym (paths-within fields),
         field-known (namesIn fields),
       )
   awaits-each (SetLiteral elements) new e =
@@ -518,7 +518,7 @@ module _ {words rest : List ℕ} {qs : List Paths} {from left : ℕ} (t types : 
   own-pairs (AccessPath path) a =
       let place : (from * 1024 + t) / 1024 ≡ from = omega arith in
       let type : (from * 1024 + t) % 1024 ≡ t = omega arith in
-      rw (place, type) (omega (arith, next-word a, next-room a), (less, tt))
+      rw (place, type) (omega (arith, next-head-word a, next-room a), (less, tt))
   own-pairs (Union l r) a = tt
   own-pairs (RecordLiteral fields) a = tt
   own-pairs (SetLiteral elements) a = tt
@@ -529,7 +529,7 @@ module _ {words rest : List ℕ} {qs : List Paths} {from left : ℕ} (t types : 
   own-taken (AccessPath path) a =
       let place : (from * 1024 + t) / 1024 ≡ from = omega arith in
       let type : (from * 1024 + t) % 1024 ≡ t = omega arith in
-      let steps : getD words from 0 / 8 ≡ length path = omega (arith, next-word a) in
+      let steps : getD words from 0 / 8 ≡ length path = omega (arith, next-head-word a) in
       rw (place, type, steps, next-payload a)
   own-taken (Union l r) a = refl
   own-taken (RecordLiteral fields) a = refl

@@ -13,10 +13,10 @@ use Rattle.rules.specs.Listing.{Sofar, refusal, start, past, rowsFrom}
 use Rattle.rows.specs.Words.{wordOf}
 use Rattle.rows.specs.declared.Limits.{Limits}
 use Rattle.listing.specs.declared.reading.Sofar.{Sofar as Kept}
-use Rattle.listing.specs.declared.reading.Took.{Took}
-use Rattle.listing.specs.declared.reading.Took.the-variants.{Next, Refused as Stopped}
-use Rattle.listing.specs.declared.reading.Got.{Got}
-use Rattle.listing.specs.declared.reading.Got.the-variants.{Rows, Refused}
+use Rattle.listing.specs.declared.reading.TookRow.{TookRow}
+use Rattle.listing.specs.declared.reading.TookRow.the-variants.{Next, Refused as Stopped}
+use Rattle.listing.specs.declared.reading.GotRows.{GotRows}
+use Rattle.listing.specs.declared.reading.GotRows.the-variants.{Rows, Refused}
 use Rattle.words.specs.Runs.{stored}
 
 -- the form of a state with these limits
@@ -47,7 +47,7 @@ pub record RowPassed (limits : Limits) (kept : Kept) (row : Row) (path rows path
   pub room : RowRoom limits next path′ rows′
 
 -- what taking a row answers
-abbrev pub RowTaken : Limits → Kept → Row → List ℕ → List ℕ → List ℕ → List ℕ → Took → Type 0
+abbrev pub RowTaken : Limits → Kept → Row → List ℕ → List ℕ → List ℕ → List ℕ → TookRow → Type 0
 RowTaken limits kept row path rows path′ rows′ (Next next) = RowPassed limits kept row path rows path′ rows′ next
 RowTaken limits kept row path rows path′ rows′ (Stopped number) = refusal (formFor limits) (sofarIn kept path) row ≡ some number
 
@@ -61,10 +61,10 @@ rowWords (accepted rows) = accepted (map wordOf rows)
 rowWords (refused number place) = refused number place
 
 -- what was read into rows: the words that are stored, or a refusal
-abbrev pub rowsGot : Got → List ℕ → Answer (List ℕ)
+abbrev pub rowsGot : GotRows → List ℕ → Answer (List ℕ)
 rowsGot (Rows count) rows = accepted (stored count rows)
 rowsGot (Refused number place) rows = refused number place
 
-abbrev pub rowCount : Got → ℕ
+abbrev pub rowCount : GotRows → ℕ
 rowCount (Rows count) = count
 rowCount (Refused number place) = 0

@@ -6,7 +6,7 @@ ghost use lib.ListN.{length};
 ghost use Rattle.rules.specs.Listing.{read, refusal as refusalOf};
 ghost use Rattle.listing_lines.specs.Lines.{RowFits};
 ghost use Rattle.listing.specs.Reads.{formFor, sofarIn, numbered, RowRoom, RowTaken, rowsBy, rowWords, rowsGot, rowCount};
-use listing_lines::Parsed;
+use listing_lines::ParsedRow;
 use listing_lines::parse;
 use rows::Kind;
 use rows::Limits;
@@ -20,13 +20,13 @@ pub struct Sofar {
 }
 
 // What a row gives: the next state of reading, or a refusal's number.
-enum Took {
+enum TookRow {
     Next(Sofar),
     Refused(u64),
 }
 
 // What a text gives: how many rows, or a refusal's number and line.
-pub enum Got {
+pub enum GotRows {
     Rows(u64),
     Refused(u64, u64),
 }
@@ -77,28 +77,28 @@ fn take_row(
     path: &mut [u64],
     rows: &mut [u64],
     sofar: Sofar,
-) -> Took
+) -> TookRow
     requires { ⌜ RowRoom limits sofar (now path) (now rows) ⌝ }
     requires { ⌜ RowFits (read depth step marked) ⌝ }
     ensures { λ r. ⌜ RowTaken limits sofar (read depth step marked) (now (path .entry)) (now (rows .entry)) (now (path .exit)) (now (rows .exit)) r ⌝ }
 {
     let number = refusal(limits, path, sofar, depth, step);
     if number != 0 {
-        return Took::Refused(number);
+        return TookRow::Refused(number);
     }
     let at = depth as usize;
     path[at] = step;
     let end = (sofar.entries + sofar.nodes) as usize + 1;
     if depth == 0 {
         rows[end] = Row::entry(step).word;
-        return Took::Next(Sofar {
+        return TookRow::Next(Sofar {
             len: 1,
             entries: sofar.entries + 1,
             nodes: sofar.nodes,
         });
     }
     rows[end] = Row::node(depth, step, marked).word;
-    Took::Next(Sofar {
+    TookRow::Next(Sofar {
         len: at + 1,
         entries: sofar.entries,
         nodes: sofar.nodes + 1,
@@ -106,7 +106,7 @@ fn take_row(
 }
 
 // Reads all lines of a text into rows, from place 1 on.
-pub fn read_rows(limits: Limits, text: &[u8], rows: &mut [u64]) -> Got
+pub fn read_rows(limits: Limits, text: &[u8], rows: &mut [u64]) -> GotRows
     requires { ⌜ limits .entries + limits .nodes < length (now rows) ⌝ }
     ensures { λ r. ⌜ rowsGot r (now (rows .exit)) ≡ rowWords (rowsBy limits (now (text .entry))) ⌝ }
     ensures { λ r. ⌜ rowCount r ≤ limits .entries + limits .nodes ⌝ }
@@ -120,20 +120,20 @@ pub fn read_rows(limits: Limits, text: &[u8], rows: &mut [u64]) -> Got
     let mut at = 0;
     let mut line: u64 = 0;
     while at < text.len() {
-        let Parsed::Of(depth, step, marked, end) = parse(text, at) else {
-            return Got::Refused(1, line);
+        let ParsedRow::Of(depth, step, marked, end) = parse(text, at) else {
+            return GotRows::Refused(1, line);
         };
         let took = take_row(limits, depth, step, marked, &mut path, rows, sofar);
         match took {
-            Took::Next(next) => {
+            TookRow::Next(next) => {
                 sofar = next;
             }
-            Took::Refused(number) => {
-                return Got::Refused(number, line);
+            TookRow::Refused(number) => {
+                return GotRows::Refused(number, line);
             }
         }
         at = end + 1;
         line += 1;
     }
-    Got::Rows(sofar.entries + sofar.nodes)
+    GotRows::Rows(sofar.entries + sofar.nodes)
 }

@@ -1,7 +1,7 @@
 // The listing of a manifest or a contribution, written and read.
 ghost use mathlib.Core.Path.{_≡_};
 ghost use Rattle.listing.specs.Outcomes.{bytesOf, readListingIn, writeIn};
-use crate::reading::Got;
+use crate::reading::GotRows;
 use crate::reading::read_rows;
 use listing_lines::write_rows;
 use rows::Kind;
@@ -50,8 +50,8 @@ pub fn read_listing(kind: Kind, text: &[u8], out: &mut [u64]) -> Reply
     }
     let mut rows = [0u64; 4_161];
     match read_rows(kind.limits(), text, &mut rows) {
-        Got::Refused(number, line) => Reply::Refused(number, line),
-        Got::Rows(count) => {
+        GotRows::Refused(number, line) => Reply::Refused(number, line),
+        GotRows::Rows(count) => {
             if count == 0 {
                 if let Kind::Contribution = kind {
                     return Reply::Refused(1, 0);

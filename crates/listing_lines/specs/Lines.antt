@@ -17,13 +17,13 @@ use lib.ListN.{length, drop}
 use Rattle.rules.specs.Text.{linesOf, fieldsOf}
 use Rattle.rules.specs.Tries.{Row}
 use Rattle.rules.specs.Listing.{read, rowOf, letters, placeIn, lineOf, fieldsFor}
-use Rattle.listing_lines.specs.declared.line.Parsed.{Parsed}
-use Rattle.listing_lines.specs.declared.line.Parsed.the-variants.{Of, Bad}
+use Rattle.listing_lines.specs.declared.line.ParsedRow.{ParsedRow}
+use Rattle.listing_lines.specs.declared.line.ParsedRow.the-variants.{Of, Bad}
 use Rattle.listing_lines.specs.declared.line.StepKind.{StepKind}
 use Rattle.listing_lines.specs.declared.line.StepKind.the-variants.{Of as OfKind, Other}
 
 -- the row that a line is read as, if any, and the place of the line's LF
-abbrev pub rowRead : Parsed → Option (Row × ℕ)
+abbrev pub rowRead : ParsedRow → Option (Row × ℕ)
 rowRead (Of depth step marked end) = some (read depth step marked, end)
 rowRead Bad = none
 

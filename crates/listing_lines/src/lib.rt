@@ -2,6 +2,6 @@
 mod line;
 mod writing;
 
-pub use line::Parsed;
+pub use line::ParsedRow;
 pub use line::parse;
 pub use writing::write_rows;

@@ -69,8 +69,8 @@ module _ {codeRun tries : List ℕ} {stack : Stack} {top : Result} {rest : List 
       let many : end - (stack .tries + 1) ≡ getD tries (stack .tries) 0 = omega arith in
       rw many (trie-rows tries (stacked (stackTries rest)) (stack .tries) (top .trie) (top-trie held))
 
-  pub run-nodes : allNodes (take (end - (stack .tries + 1)) (drop (stack .tries + 1) tries)) ≡ true
-  run-nodes = rw run-words (trie-words (top .trie) (top-good held .good-trie) .1)
+  pub judging-nodes : allNodes (take (end - (stack .tries + 1)) (drop (stack .tries + 1) tries)) ≡ true
+  judging-nodes = rw run-words (trie-words (top .trie) (top-good held .good-trie) .1)
 
   pub run-rows : rowsOf (take (end - (stack .tries + 1)) (drop (stack .tries + 1) tries)) ≡ top .trie
   run-rows = rw run-words (trie-words (top .trie) (top-good held .good-trie) .0)
@@ -85,19 +85,19 @@ pub record Judging (answer : ℕ → Answer (List Result)) (top : Result) (rest 
   pub depth : isTooDeep (top .trie) ≡ deep
 
 module _ {answer : ℕ → Answer (List Result)} {top : Result} {rest : List Result} {deep : Bool} (j : Judging answer top rest deep) where
-  pub too-deep : deep ≡ true → (place : ℕ) → answer place ≡ refused 3 place
-  too-deep e place = j .answers place ∙ judged-deep place top rest (j .few) (j .few-nodes) (j .depth ∙ e)
+  pub judging-deep : deep ≡ true → (place : ℕ) → answer place ≡ refused 3 place
+  judging-deep e place = j .answers place ∙ judged-deep place top rest (j .few) (j .few-nodes) (j .depth ∙ e)
 
   module _ (shallow : deep ≡ false) where
-    pub too-many : 1024 < length (top .trie) → (place : ℕ) → answer place ≡ refused 4 place
-    too-many many place = j .answers place ∙ judged-rows place top rest (j .few) (j .few-nodes) (j .depth ∙ shallow) many
+    pub judging-many : 1024 < length (top .trie) → (place : ℕ) → answer place ≡ refused 4 place
+    judging-many many place = j .answers place ∙ judged-rows place top rest (j .few) (j .few-nodes) (j .depth ∙ shallow) many
 
     -- its trie was made in a state, within the limit of nodes or not
     module _ {state : List ℕ} {fits : Bool} (b : Became (top .trie) state fits) where
       pub unfit : fits ≡ false → (place : ℕ) → answer place ≡ refused 4 place
-      unfit over = too-many (leb-false (length (top .trie)) 1024 (sym (b .judged) ∙ over))
+      unfit over = judging-many (leb-false (length (top .trie)) 1024 (sym (b .judged) ∙ over))
 
-      pub stored :
+      pub judging-stored :
           {codeRun tries codeRun′ tries′ : List ℕ} {under stack : Stack}
           → fits ≡ true
           → Layout codeRun tries under rest
@@ -105,7 +105,7 @@ module _ {answer : ℕ → Answer (List Result)} {top : Result} {rest : List Res
           → Placed (trieWords (rowsIn state)) tries (under .tries) tries′ (stack .tries)
           → stack .results ≡ suc (length rest)
           → Reached answer codeRun′ tries′ stack
-      stored fit layout paths rows many = record {
+      judging-stored fit layout paths rows many = record {
         after = top ∷ rest;
         reached = λ place.
             j .answers place
@@ -124,5 +124,5 @@ pub replaced :
     → results ≡ suc (length rest)
     → ReplacedBy state codeRun (under .code) tries (under .tries) results codeRun′ tries′ r
     → Outcomes answer codeRun′ tries′ r
-replaced codeRun′ tries′ (Next stack) j shallow b fit layout many w = stored j shallow b fit layout (w .paths) (w .rows) (w .many ∙ many)
+replaced codeRun′ tries′ (Next stack) j shallow b fit layout many w = judging-stored j shallow b fit layout (w .paths) (w .rows) (w .many ∙ many)
 replaced codeRun′ tries′ (Refused number) j shallow b fit layout many w = absurd w

@@ -1,4 +1,4 @@
--- Laws of the stack of results in words (Stacks): the room in its two runs, tries that are copied, put and merged. No contract cites this
+-- Laws of the stack of results in words (Stacks): the room in its two runs, tries that are trie-copied, put and merged. No contract cites this
 -- file.
 use Prim.Native.Nat.{ℕ, suc, _+_, _*_, _-_, _≤_, _<_}
 use native.Mathlib.Numerals.{add-one}
@@ -112,8 +112,8 @@ module _ (words rest : List ℕ) (place : ℕ) (trie : List Row) (there : drop p
 
 -- a state's words
 module _ {state : List ℕ} (is : IsState state) where
-  pub state-count : length (rowsIn state) ≡ getD state 0 0
-  state-count =
+  pub trie-state-count : length (rowsIn state) ≡ getD state 0 0
+  trie-state-count =
       length-map (wordsIn state) rowIn
       ∙ length-take-le (getD state 0 0) (drop 1 state) (omega (arith, length-drop 1 state, is .state-length, is .few-rows))
 
@@ -121,7 +121,7 @@ module _ {state : List ℕ} (is : IsState state) where
   state-words =
       let some-word : 0 < length state = omega (arith, is .state-length) in
       let split : state ≡ getD state 0 0 ∷ drop 1 state = drop-cons state 0 0 some-word in
-      rw (add-one, state-count, words-rows (wordsIn state) (all-nodes-plain (wordsIn state) (is .nodes) .0))
+      rw (add-one, trie-state-count, words-rows (wordsIn state) (all-nodes-plain (wordsIn state) (is .nodes) .0))
       (ap (λ (l : List ℕ). take (suc (getD state 0 0)) l) split)
 
 -- a buffer that holds a trie is a state of it
@@ -150,14 +150,14 @@ at-within {words} {place} t =
 pub at-few : {words : List ℕ} {place : ℕ} → TrieAt words place → getD words place 0 ≤ 1024
 at-few {words} {place} t = omega (arith, trie-count words (t .rest) place (t .trie) (t .there), t .few-rows)
 
-pub copied :
+pub trie-copied :
     {words out out′ : List ℕ} {place end after : ℕ}
     → TrieAt words place
     → length out ≡ 1026
     → end ≡ place + 1 + getD words place 0
     → Wrote out 0 (take (end - place) (drop place words)) out′ after
     → CopiedFrom words place out′
-copied {words} {out} {out′} {place} {end} t long ends w =
+trie-copied {words} {out} {out′} {place} {end} t long ends w =
     let trie = t .trie in
     let (state, rows) = held-state out trie long (t .good-trie) (t .few-rows) in
     let many : end - place ≡ 1 + length trie = omega (arith, trie-count words (t .rest) place trie (t .there)) in
@@ -374,7 +374,7 @@ pushed {tries} {stack} {results} paths held some-room few nodes p = record {
 -- ---- tries that are merged
 
 -- so many tries stand from a place on
-pub record Ready (words : List ℕ) (end left : ℕ) : Type 0 where
+pub record TriesAhead (words : List ℕ) (end left : ℕ) : Type 0 where
   pub tries : List (List Row)
   pub rest : List ℕ
   pub as-many : length tries ≡ left
@@ -383,7 +383,7 @@ pub record Ready (words : List ℕ) (end left : ℕ) : Type 0 where
   pub good-tries : Each IsTrie tries
 
 -- what is left of tries that are merged
-pub record Left (words rest state : List ℕ) (tries : List (List Row)) (end left : ℕ) : Type 0 where
+pub record MergesAhead (words rest state : List ℕ) (tries : List (List Row)) (end left : ℕ) : Type 0 where
   pub ahead : List (List Row)
   pub as-many : length ahead ≡ left
   pub there : drop end words ≡ stacked ahead ++ rest
@@ -396,18 +396,18 @@ Merging words place count state end i =
     → length tries ≡ count
     → Each IsTrie tries
     → drop place words ≡ stacked tries ++ rest
-    → Left words rest state tries end (count - i)
+    → MergesAhead words rest state tries end (count - i)
 
-pub record Going (words : List ℕ) (place count : ℕ) (state : List ℕ) (end i : ℕ) : Type 0 where
+pub record MergingTries (words : List ℕ) (place count : ℕ) (state : List ℕ) (end i : ℕ) : Type 0 where
   pub most : i ≤ count
   pub inside : end ≤ length words
   pub is : IsState state
-  pub ready : Ready words end (count - i)
+  pub ready : TriesAhead words end (count - i)
   pub room : getD state 0 0 + i ≤ end
   pub merging : Merging words place count state end i
 
 -- the next trie
-module _ {words : List ℕ} {end left : ℕ} (ready : Ready words end left) (more : 0 < left) where
+module _ {words : List ℕ} {end left : ℕ} (ready : TriesAhead words end left) (more : 0 < left) where
   pub next-at : TrieAt words end
   unfolding stacked Each
   next-at = go (ready .tries) (ready .as-many) (ready .there) (ready .few-rows) (ready .good-tries)
@@ -428,7 +428,7 @@ module _ {words : List ℕ} {end left : ℕ} (ready : Ready words end left) (mor
         good-trie = good .0;
       }
 
-  pub next-ready : {e : ℕ} → e ≡ end + 1 + getD words end 0 → Ready words e (left - 1)
+  pub next-ready : {e : ℕ} → e ≡ end + 1 + getD words end 0 → TriesAhead words e (left - 1)
   unfolding stacked Each
   next-ready {e} ends = go (ready .tries) (ready .as-many) (ready .there) (ready .few-rows) (ready .good-tries)
     where
@@ -438,7 +438,7 @@ module _ {words : List ℕ} {end left : ℕ} (ready : Ready words end left) (mor
           → drop end words ≡ stacked tries ++ ready .rest
           → Each (λ trie. length trie ≤ 1024) tries
           → Each IsTrie tries
-          → Ready words e (left - 1)
+          → TriesAhead words e (left - 1)
       go [] many there few good = absurd (omega arith)
       go (trie ∷ tries) many there few good =
           let here = there ∙ append-assoc (trieWords trie) (stacked tries) (ready .rest) in
@@ -458,7 +458,7 @@ pub going-first :
     → TriesAt words place count
     → length state ≡ 1026
     → getD state 0 0 ≡ 0
-    → Going words place count state place 0
+    → MergingTries words place count state place 0
 going-first words place count state t long zero = record {
   most = omega arith;
   inside = omega (arith, at-within (next-at ready (omega (arith, t .some-trie))));
@@ -474,7 +474,7 @@ going-first words place count state t long zero = record {
   };
 }
   where
-    ready : Ready words place (count - 0)
+    ready : TriesAhead words place (count - 0)
     ready = record {
       tries = t .tries;
       rest = t .rest;
@@ -495,12 +495,12 @@ next-length {words} {end} t =
     ∙ sym (trie-count words (t .rest) end (t .trie) (t .there))
 
 -- it was merged, or that has too many nodes
-module _ {words rest state state′ : List ℕ} {tries : List (List Row)} {end left : ℕ} (l : Left words rest state tries end left) (more : 0 < left) where
+module _ {words rest state state′ : List ℕ} {tries : List (List Row)} {end left : ℕ} (l : MergesAhead words rest state tries end left) (more : 0 < left) where
   left-next :
       {e : ℕ}
       → e ≡ end + 1 + getD words end 0
       → Became (union (rowsIn state) (rowsOf (take (getD words end 0) (drop (end + 1) words)))) state′ true
-      → Left words rest state′ tries e (left - 1)
+      → MergesAhead words rest state′ tries e (left - 1)
   unfolding stacked Each unionAll
   left-next {e} ends b = go (l .ahead) (l .as-many) (l .there) (l .good) (l .same)
     where
@@ -510,7 +510,7 @@ module _ {words rest state state′ : List ℕ} {tries : List (List Row)} {end l
           → drop end words ≡ stacked ahead ++ rest
           → Each IsTrie ahead
           → unionAll (rowsIn state) ahead ≡ unionAll [] tries
-          → Left words rest state′ tries e (left - 1)
+          → MergesAhead words rest state′ tries e (left - 1)
       go [] many there good same = absurd (omega arith)
       go (trie ∷ ahead) many there good same =
           let here = there ∙ append-assoc (trieWords trie) (stacked ahead) rest in
@@ -552,7 +552,7 @@ module _ {words rest state state′ : List ℕ} {tries : List (List Row)} {end l
             ap length same,
           )
 
-module _ {words state : List ℕ} {place count end i : ℕ} (going : Going words place count state end i) (more : i < count) where
+module _ {words state : List ℕ} {place count end i : ℕ} (going : MergingTries words place count state end i) (more : i < count) where
   some-left : 0 < count - i
   some-left = omega arith
 
@@ -566,7 +566,7 @@ module _ {words state : List ℕ} {place count end i : ℕ} (going : Going words
       {state′ : List ℕ} {e : ℕ}
       → e ≡ end + 1 + getD words end 0
       → Became (union (rowsIn state) (rowsOf (take (getD words end 0) (drop (end + 1) words)))) state′ true
-      → Going words place count state′ e (i + 1)
+      → MergingTries words place count state′ e (i + 1)
   going-next {state′} {e} ends b =
       let fewer : count - i - 1 ≡ count - (i + 1) = omega arith in
       let run = take (getD words end 0) (drop (end + 1) words) in
@@ -579,8 +579,8 @@ module _ {words state : List ℕ} {place count end i : ℕ} (going : Going words
             omega (
               arith,
               going .room,
-              state-count (going .is),
-              state-count (b .still),
+              trie-state-count (going .is),
+              trie-state-count (b .still),
               ap length (b .there refl),
               union-sum-length (rowsIn state) (rowsOf run),
               length-map run rowIn,
@@ -598,14 +598,14 @@ module _ {words state : List ℕ} {place count end i : ℕ} (going : Going words
   going-over all b tries rest many good there = inl (all, left-over (going .merging tries rest many good there) some-left b)
 
 -- all were merged
-pub going-done :
+pub merging-done :
     {words state words′ : List ℕ} {place count end i start : ℕ}
-    → Going words place count state end i
+    → MergingTries words place count state end i
     → count ≤ i
     → Placed (trieWords (rowsIn state)) words end words′ start
     → MergedFrom words place count words′ start
 unfolding unionAll stacked
-going-done {words} {state} {words′} {place} {count} {end} {i} {start} going all p tries rest many good there =
+merging-done {words} {state} {words′} {place} {count} {end} {i} {start} going all p tries rest many good there =
     let l = going .merging tries rest many good there in
     go (l .ahead) (l .as-many) (l .there) (l .same)
   where
@@ -616,7 +616,7 @@ going-done {words} {state} {words′} {place} {count} {end} {i} {start} going al
         → unionAll (rowsIn state) ahead ≡ unionAll [] tries
         → ((start ≡ length words) × (1024 < length (unionAll [] tries))) ⊎ Merges tries rest words words′ start
     go [] many there same = inr (record {
-      fits = omega (arith, ap length same, state-count (going .is), going .is .few-rows);
+      fits = omega (arith, ap length same, trie-state-count (going .is), going .is .few-rows);
       inside = omega (arith, p .starts, going .inside);
       same-length = p .same-length;
       there = p .there ∙ rw (there, ← same);

@@ -139,20 +139,20 @@ pub lawful-short : (form : Form) (state : List ℕ) → length state ≤ getD st
 unfolding lawfulState
 lawful-short form state short = rw (le-ltb (getD state 0 0) (length state) short)
 
--- so many entries and nodes are within the limits of a form
-abbrev pub within : Form → ℕ → ℕ → Bool
-within form entries nodes = cond (form .single) (eqb entries 1) (leb entries (form .entries)) && leb nodes (form .nodes)
+-- so many entries and nodes are limitsMet the limits of a form
+abbrev pub limitsMet : Form → ℕ → ℕ → Bool
+limitsMet form entries nodes = cond (form .single) (eqb entries 1) (leb entries (form .entries)) && leb nodes (form .nodes)
 
 -- a state that has as many as it counts is judged by what a pass over them finds
 pub lawful-found : (form : Form) (state : List ℕ) {words : List ℕ} {good : Bool} {entries nodes : ℕ} →
     getD state 0 0 < length state → words ≡ wordsIn state →
     good ≡ goodRows words → (good ≡ true → entries ≡ entriesIn (rowsOf words)) → (good ≡ true → nodes ≡ nodesIn (rowsOf words)) →
-    lawfulState form state ≡ good && within form entries nodes
+    lawfulState form state ≡ good && limitsMet form entries nodes
 unfolding lawfulState
 lawful-found form state {words} {good} {entries} {nodes} held same judged entries-found nodes-found =
     rw (lt-ltb _ _ held, ← same, ← and-assoc (allWords words) _ _, ← judged) (go good entries-found nodes-found)
   where
     go : (good : Bool) → (good ≡ true → entries ≡ entriesIn (rowsOf words)) → (good ≡ true → nodes ≡ nodesIn (rowsOf words)) →
-        good && within form (entriesIn (rowsOf words)) (nodesIn (rowsOf words)) ≡ good && within form entries nodes
+        good && limitsMet form (entriesIn (rowsOf words)) (nodesIn (rowsOf words)) ≡ good && limitsMet form entries nodes
     go true e n = rw (e refl, n refl)
     go false e n = refl

@@ -18,7 +18,7 @@ use Rattle.rules.specs.Lines.{Folded, folded, foldLines}
 use Rattle.rules.specs.Tries.{Row, Form}
 use Rattle.rules.specs.Walks.{Walked, turn}
 use Rattle.rules.specs.WalkLaws.{walkedTo, listed, turn-past}
-use Rattle.rules.specs.Listing.{Sofar, rowOf, past, refusal, before, rowsFrom}
+use Rattle.rules.specs.Listing.{Sofar, rowOf, past, refusal, rowInFront, rowsFrom}
 use Rattle.rules.specs.ListingLaws.{refused-not}
 use Rattle.rules.specs.Schema.{Item, Known, itemOf, fits, beyond, ahead, itemsFrom}
 
@@ -36,7 +36,7 @@ module _ {S : Type 0} (step : ℕ → List ℕ → S → Answer S) (place : ℕ)
   fold-cut line some-byte = rw (ne-eqb (length line) 0 some-byte)
 
   module _ (line rest : List ℕ) where
-    -- a line comes before those of the rest of a text
+    -- a line comes rowInFront those of the rest of a text
     pub fold-line :
         foldLines step place (line ∷ linesOf rest) s
         ≡ andThen (step place line s) (λ after. foldLines step (place + 1) (linesOf rest) after)
@@ -99,7 +99,7 @@ module _
 
 -- ---- lines that each give something
 
--- a line's thing goes behind those of the lines before it
+-- a line's thing goes behind those of the lines rowInFront it
 abbrev pub gathering : {S A : Type 0} → (ℕ → List ℕ → S → Answer (A × S)) → ℕ → List ℕ → S × List A → Answer (S × List A)
 gathering look place line (s, things) = andThen (look place line s) (λ got. accepted (got .1, things ++ (got .0 ∷ [])))
 
@@ -178,7 +178,7 @@ unfolding rowsFrom
 rows-folded form sofar place lines =
     gathered-from (rowLine form) (rowsFrom form) (λ s p. refl) (λ s p line. refl) more-rows lines sofar place
   where
-    in-front : (row : Row) (answer : Answer (List Row)) → before row answer ≡ behind (row ∷ []) answer
+    in-front : (row : Row) (answer : Answer (List Row)) → rowInFront row answer ≡ behind (row ∷ []) answer
     in-front row (accepted rows) = refl
     in-front row (refused number at) = refl
 

@@ -127,7 +127,7 @@ past sofar row = record {
 }
 
 -- 'by line: 1, 2, 3, 5, 4'. The number that a row gives after others, if any. A second entry of a contribution is
--- not of its form; an `N` before any `A` is one deeper than there is a place.
+-- not of its form; an `N` rowInFront any `A` is one deeper than there is a place.
 abbrev pub refusal : Form → Sofar → Row → Option ℕ
 refusal form sofar row =
     firstOf
@@ -139,9 +139,9 @@ refusal form sofar row =
     ∷ [])
 
 -- a row in front of what the lines after it give
-abbrev pub before : Row → Answer (List Row) → Answer (List Row)
-before row (accepted rows) = accepted (row ∷ rows)
-before row (refused number place) = refused number place
+abbrev pub rowInFront : Row → Answer (List Row) → Answer (List Row)
+rowInFront row (accepted rows) = accepted (row ∷ rows)
+rowInFront row (refused number place) = refused number place
 
 -- the lines from one on, line after line, 'and within a line 1, 2, 3, 5, 4'. What stands last is no line where it is empty,
 -- and otherwise a line without LF
@@ -153,7 +153,7 @@ rowsFrom form sofar place (line ∷ next ∷ lines) =
       | none ↦ refused 1 place
       | some row ↦
           elim (refusal form sofar row) [
-            | none ↦ before row (rowsFrom form (past sofar row) (place + 1) (next ∷ lines))
+            | none ↦ rowInFront row (rowsFrom form (past sofar row) (place + 1) (next ∷ lines))
             | some number ↦ refused number place
           ]
     ]

@@ -54,7 +54,7 @@ use Rattle.rules.specs.Listing.{
   start,
   past,
   refusal,
-  before,
+  rowInFront,
   rowsFrom,
   enteredBy,
   readListing,
@@ -372,7 +372,7 @@ module _ (form : Form) (sofar : Sofar) (row : Row) where
       (λ e. rw e (omega (arith, entry-counted row rows e)))
       (λ e. rw e (omega (arith, node-counted row rows e)))
 
-  -- so the limits say the same before and after it
+  -- so the limits say the same rowInFront and after it
   within-past : (rows : List Row) → WithinAll form (past sofar row) rows ≡ WithinAll form sofar (row ∷ rows)
   within-past rows = let (entries, nodes) = past-counted rows in rw (entries, nodes)
 
@@ -430,12 +430,12 @@ module _ (form : Form) where
       (sofar : Sofar) (place : ℕ) (line text : List ℕ) (row : Row)
       → rowOf (fieldsOf line) ≡ some row
       → refusal form sofar row ≡ none
-      → rowsFrom form sofar place (line ∷ linesOf text) ≡ before row (rowsFrom form (past sofar row) (place + 1) (linesOf text))
+      → rowsFrom form sofar place (line ∷ linesOf text) ≡ rowInFront row (rowsFrom form (past sofar row) (place + 1) (linesOf text))
   unfolding rowsFrom
   rows-more sofar place line text row is-row may-come = go (parted-some LF text)
     where
       go : (next : List ℕ) × (lines : List (List ℕ)) × (linesOf text ≡ next ∷ lines) →
-          rowsFrom form sofar place (line ∷ linesOf text) ≡ before row (rowsFrom form (past sofar row) (place + 1) (linesOf text))
+          rowsFrom form sofar place (line ∷ linesOf text) ≡ rowInFront row (rowsFrom form (past sofar row) (place + 1) (linesOf text))
       go (next, lines, e) = rw (e, is-row, rowsFrom, may-come, rowsFrom)
 
   -- what is written for rows that may come is read as the rows, but for their types
@@ -460,7 +460,7 @@ refused-not number place a e = let z : _≡_ {A = ℕ} 0 1 = cc in absurd (omega
 -- rows that are accepted behind a row are that row and others that were accepted
 before-accepted :
     {P : Type 0} (row : Row) (answer : Answer (List Row)) (rows : List Row)
-    → before row answer ≡ accepted rows
+    → rowInFront row answer ≡ accepted rows
     → ((others : List Row) → answer ≡ accepted others → row ∷ others ≡ rows → P)
     → P
 before-accepted row (accepted others) rows e then = then others refl (accepted-same (row ∷ others) rows e)

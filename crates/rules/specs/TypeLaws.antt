@@ -121,10 +121,10 @@ deepest-below n [] = simp larger-max (omega arith)
 deepest-below n (row ∷ rows) = rw (first-deeper n row rows) (simp larger-max (omega arith))
 
 -- rows are too deep exactly where the deepest is
-pub too-deep : (rows : List Row) → isTooDeep rows ≡ ltb 24 (deepest rows)
+pub type-too-deep : (rows : List Row) → isTooDeep rows ≡ ltb 24 (deepest rows)
 unfolding isTooDeep deepest
-too-deep [] = refl
-too-deep (row ∷ rows) = rw (too-deep rows, larger-above)
+type-too-deep [] = refl
+type-too-deep (row ∷ rows) = rw (type-too-deep rows, larger-above)
 
 -- The depth and the number of the rows that attributes give.
 
@@ -221,7 +221,7 @@ pub path-deep :
     → 0 < length path
     → isTooDeep (toRootAccessTrieWithLeaf path leaf) ≡ ltb 24 (length path + deepest (leaf .below))
 path-deep path leaf some-step =
-    rw (too-deep (toRootAccessTrieWithLeaf path leaf), path-deepest path leaf some-step)
+    rw (type-too-deep (toRootAccessTrieWithLeaf path leaf), path-deepest path leaf some-step)
     (by-test (isNoTrie path leaf)
     (λ e.
     let (one, none-below) = and-eq-true-iff (eqb (length path) 1) (isEmptyLeaf leaf) .0 e in
@@ -501,9 +501,9 @@ Ascends least [] = Unit
 Ascends least (a ∷ more) = (least ≤ a .key) × Ascends (a .key + 1) more
 
 -- lines that are attributes, each of a type below t
-unfoldable pub Below : ℕ → List Item → Type 0
-Below t [] = Unit
-Below t (a ∷ more) = (a .tag ≡ attributeLine) × (a .value < t) × Below t more
+unfoldable pub AttributesBelow : ℕ → List Item → Type 0
+AttributesBelow t [] = Unit
+AttributesBelow t (a ∷ more) = (a .tag ≡ attributeLine) × (a .value < t) × AttributesBelow t more
 
 -- what is so of the line of type t and the attributes that follow it
 pub record TypeLines (t : ℕ) (it : Item) (more : List Item) : Type 0 where
@@ -511,7 +511,7 @@ pub record TypeLines (t : ℕ) (it : Item) (more : List Item) : Type 0 where
   pub number : it .key ≡ t
   pub small : t < 1024
   pub element : it .tag ≡ setType → it .value < t
-  pub below : Below t (attributesOf more)
+  pub below : AttributesBelow t (attributesOf more)
   pub ascends : Ascends 0 (attributesOf more)
   pub few : length (attributesOf more) ≤ 64
   pub plain : (it .tag ≡ recordType → ⊥) → (it .tag ≡ actionType → ⊥) → attributesOf more ≡ []
@@ -535,12 +535,12 @@ attributes-first (it ∷ items) =
 
 -- the attributes that lawful lines begin with
 record Attributes (known : Known) (items : List Item) : Type 0 where
-  below : Below (known .bound) (attributesOf items)
+  below : AttributesBelow (known .bound) (attributesOf items)
   ascends : Ascends (known .field) (attributesOf items)
   few : length (attributesOf items) ≤ known .room
 
 attributes : (known : Known) (items : List Item) → lawfulItems known items ≡ true → Attributes known items
-unfolding attributesOf Below Ascends
+unfolding attributesOf AttributesBelow Ascends
 attributes known [] lawful = record { below = tt; ascends = tt; few = omega arith }
 attributes known (a ∷ items) lawful =
     let (fit, rest) = lawful-first known a items lawful in
@@ -642,11 +642,11 @@ type-lines items lawful t it more = lines-from unknown items t it more sound-unk
 -- each attribute of such lines by itself
 pub below-member :
     (t : ℕ) (attributes : List Item)
-    → Below t attributes
+    → AttributesBelow t attributes
     → (a : Item)
     → Member a attributes
     → (a .tag ≡ attributeLine) × (a .value < t)
-unfolding Below
+unfolding AttributesBelow
 below-member t [] below a m = absurd (none-in-empty m)
 below-member t (x ∷ more) below a m =
     elim (here-or-later m) [
@@ -655,13 +655,13 @@ below-member t (x ∷ more) below a m =
     ]
 
 -- and behind others
-pub below-at :
+pub attributes-below :
     (t : ℕ) (front : List Item) (a : Item) (rest : List Item)
-    → Below t (front ++ (a ∷ rest))
-    → (a .tag ≡ attributeLine) × (a .value < t) × Below t rest
-unfolding Below
-below-at t [] a rest below = below
-below-at t (x ∷ front) a rest below = below-at t front a rest (below .2)
+    → AttributesBelow t (front ++ (a ∷ rest))
+    → (a .tag ≡ attributeLine) × (a .value < t) × AttributesBelow t rest
+unfolding AttributesBelow
+attributes-below t [] a rest below = below
+attributes-below t (x ∷ front) a rest below = attributes-below t front a rest (below .2)
 
 -- The trie of a type.
 
@@ -680,9 +680,9 @@ type-below-more (suc n) items t h =
 pub children-same :
     (f g : ℕ → List Row) (t : ℕ) (attributes : List Item)
     → ((u : ℕ) → u < t → f u ≡ g u)
-    → Below t attributes
+    → AttributesBelow t attributes
     → childrenOf f attributes ≡ childrenOf g attributes
-unfolding childrenOf Below
+unfolding childrenOf AttributesBelow
 children-same f g t [] agree below = refl
 children-same f g t (a ∷ more) agree below = rw (agree (a .value) (below .1), children-same f g t more agree (below .2))
 
@@ -727,7 +727,7 @@ union-deepest a b = turns-deepest (union-turns a b)
 
 -- so it is too deep exactly where one of the two is
 pub union-too-deep : (a b : List Row) → isTooDeep (union a b) ≡ (isTooDeep a || isTooDeep b)
-union-too-deep a b = rw (too-deep (union a b), union-deepest a b, larger-above, too-deep a, too-deep b)
+union-too-deep a b = rw (type-too-deep (union a b), union-deepest a b, larger-above, type-too-deep a, type-too-deep b)
 
 -- the length of the longest path
 unfoldable pub longest : List Path → ℕ

@@ -91,9 +91,9 @@ module _ {words : List ℕ} {known : Known} {i : ℕ} (judged : ItemsJudged word
 -- ---- a state
 
 -- a state that is too short, or counts too many words, is not lawful
-pub lawful-short : (state : List ℕ) → length state < 142337 → lawfulSchema state ≡ false
+pub schema-too-short : (state : List ℕ) → length state < 142337 → lawfulSchema state ≡ false
 unfolding lawfulSchema
-lawful-short state h = rw (lt-leb 142337 (length state) h)
+schema-too-short state h = rw (lt-leb 142337 (length state) h)
 
 module _ (state : List ℕ) (long : 142337 ≤ length state) where
   pub lawful-over : 142337 ≤ getD state 0 0 → lawfulSchema state ≡ false

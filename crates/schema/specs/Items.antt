@@ -14,8 +14,8 @@ use Rattle.rules.specs.Schema.{Item, item, unknown, lawfulItems, readSchema, se
 use Rattle.words.specs.Runs.{Outcome, refusing, wordsIn}
 use Rattle.words.specs.declared.Reply.the-variants.{Done}
 use Rattle.schema.specs.declared.item.Item.{Item as ItemRead}
-use Rattle.schema.specs.declared.line.Parsed.{Parsed}
-use Rattle.schema.specs.declared.line.Parsed.the-variants.{Of, Bad}
+use Rattle.schema.specs.declared.line.ParsedItem.{ParsedItem}
+use Rattle.schema.specs.declared.line.ParsedItem.the-variants.{Of, Bad}
 use Rattle.schema.specs.declared.line.Tag.{Tag}
 use Rattle.schema.specs.declared.line.Tag.the-variants.{Of as OfTag, Other}
 
@@ -61,7 +61,7 @@ unfoldable pub lawfulSchema : List ℕ → Bool
 lawfulSchema state = leb schemaWords (length state) && (ltb (getD state 0 0) schemaWords && goodItems (wordsIn state))
 
 -- what a line was read as
-abbrev pub itemRead : Parsed → Option Item
+abbrev pub itemRead : ParsedItem → Option Item
 itemRead (Of it) = some (itemFor it)
 itemRead Bad = none
 
@@ -74,18 +74,18 @@ abbrev pub namedBy : List (List ℕ) → Option ℕ
 namedBy fields = ascending 0 fields >>= namesOf
 
 -- the fields of what stands behind a kind: none, or those behind a tab
-abbrev pub fieldsBehind : List ℕ → List (List ℕ)
-fieldsBehind [] = []
-fieldsBehind (tab ∷ more) = fieldsOf more
+abbrev pub fieldsAfterKind : List ℕ → List (List ℕ)
+fieldsAfterKind [] = []
+fieldsAfterKind (tab ∷ more) = fieldsOf more
 
 -- where a kind ends, at the front of what a line has from it on
 abbrev pub KindEnds : List ℕ → ℕ → Type 0
-KindEnds rest end = (end ≤ length rest) × (fieldsOf rest ≡ take end rest ∷ fieldsBehind (drop end rest))
+KindEnds rest end = (end ≤ length rest) × (fieldsOf rest ≡ take end rest ∷ fieldsAfterKind (drop end rest))
 
 -- a type, by its number and the fields from its kind on
-abbrev pub typeFrom : List ℕ → List (List ℕ) → Option Item
-typeFrom number [] = none
-typeFrom number (kind ∷ more) = typeOf number kind more
+abbrev pub typeByFields : List ℕ → List (List ℕ) → Option Item
+typeByFields number [] = none
+typeByFields number (kind ∷ more) = typeOf number kind more
 
 -- reading: 31, then what the text gives by line
 abbrev pub storingItems : List ℕ → Answer (List Item) → Outcome

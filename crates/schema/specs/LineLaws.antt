@@ -17,7 +17,7 @@ use Rattle.rules.specs.Listing.{isLetter}
 use Rattle.rules.specs.ListingLaws.{bind-some}
 use Rattle.text.proofs.NameLaws.{ascending-first}
 use Rattle.rules.specs.Schema.{ascending, namesOf, valueOf, typeOf, itemOf}
-use Rattle.schema.specs.Items.{namedBy, fieldsBehind}
+use Rattle.schema.specs.Items.{namedBy, fieldsAfterKind}
 
 -- ---- the names of an entity type
 
@@ -57,11 +57,11 @@ named-most field fields v e =
 -- ---- what follows a kind
 
 -- nothing behind it, or more from a place of the line on
-pub behind-none : (behind : List ℕ) → length behind ≡ 0 → fieldsBehind behind ≡ []
+pub behind-none : (behind : List ℕ) → length behind ≡ 0 → fieldsAfterKind behind ≡ []
 behind-none [] none-left = refl
 behind-none (tab ∷ more) none-left = absurd (omega arith)
 
-pub behind-tab : (line : List ℕ) (at : ℕ) → at < length line → fieldsBehind (drop at line) ≡ fieldsOf (drop (at + 1) line)
+pub behind-tab : (line : List ℕ) (at : ℕ) → at < length line → fieldsAfterKind (drop at line) ≡ fieldsOf (drop (at + 1) line)
 behind-tab line at h = rw (drop-cons line at 0 h, add-one)
 
 -- an entity type has its names

@@ -135,14 +135,14 @@ item-passed count kept line words it {word} {next} room e may packed past bounde
 -- ---- reading from line to line
 
 -- the lines that were passed came to the items whose words are stored
-pub record Reading (text : List ℕ) (kept : Kept) (words : List ℕ) (at count : ℕ) : Type 0 where
+pub record ReadingItems (text : List ℕ) (kept : Kept) (words : List ℕ) (at count : ℕ) : Type 0 where
   pub room : ItemRoom count kept words
   pub passed : List Item
   pub in-words : stored count words ≡ map itemWord passed
   pub came : CameTo (gathering itemLine) (unknown, []) text at count (knownFor kept, passed)
 
-pub reading-none : (text words : List ℕ) (kept : Kept) → knownFor kept ≡ unknown → Bounded unknown → length words ≡ 142337 → Reading text kept words 0 0
-reading-none text words kept start bounded fits =
+pub items-none : (text words : List ℕ) (kept : Kept) → knownFor kept ≡ unknown → Bounded unknown → length words ≡ 142337 → ReadingItems text kept words 0 0
+items-none text words kept start bounded fits =
     let none-left : kept .room ≡ 0 = ap (λ (k : Known). k .room) start in
     record {
       room = record { bounded = rw start bounded; words-length = fits; counted = rw none-left (omega arith) };
@@ -156,7 +156,7 @@ line-refused : (place : ℕ) (known : Known) (o : Option Item) → refusedLine k
 line-refused place known none stopped = refl
 line-refused place known (some it) stopped = rw stopped
 
-module _ {text : List ℕ} {kept : Kept} {words : List ℕ} {at count : ℕ} (reading : Reading text kept words at count) where
+module _ {text : List ℕ} {kept : Kept} {words : List ℕ} {at count : ℕ} (reading : ReadingItems text kept words at count) where
   -- there are fewer items than a state has words
   pub few-items : count < 142337
   few-items = omega (arith, reading .room .counted, most-lines (knownFor kept) (reading .room .bounded))
@@ -167,8 +167,8 @@ module _ {text : List ℕ} {kept : Kept} {words : List ℕ} {at count : ℕ} (re
   words-given e = rw (items-folded unknown 0 (linesOf text), e)
 
   -- no line is left
-  pub reading-all : length text ≤ at → accepted (stored count words) ≡ itemWords (readSchema text)
-  reading-all h = rw (reading .in-words) (words-given (came-end (reading .came) h))
+  pub items-all : length text ≤ at → accepted (stored count words) ≡ itemWords (readSchema text)
+  items-all h = rw (reading .in-words) (words-given (came-end (reading .came) h))
 
   -- the next line has no LF
   pub reading-cut : {r : Line} → r ≡ lineAt text at → ((end : ℕ) → r ≡ Whole end → ⊥) → at < length text →
@@ -177,14 +177,14 @@ module _ {text : List ℕ} {kept : Kept} {words : List ℕ} {at count : ℕ} (re
 
   module _ {end : ℕ} {r : Line} (ensured : r ≡ lineAt text at) (e : r ≡ Whole end) where
     -- the next line is refused
-    pub reading-stopped : refusedLine (knownFor kept) (itemOf (fieldsOf (take (end - at) (drop at text)))) → refused 1 count ≡ itemWords (readSchema text)
-    reading-stopped stopped =
+    pub items-stopped : refusedLine (knownFor kept) (itemOf (fieldsOf (take (end - at) (drop at text)))) → refused 1 count ≡ itemWords (readSchema text)
+    items-stopped stopped =
         words-given (came-refused (reading .came) (whole-line text at end r ensured e) (rw (line-refused count (knownFor kept) _ stopped)))
 
     -- the next line is taken
-    pub reading-next : {words′ : List ℕ} {next : Kept} → LinePassed count kept (take (end - at) (drop at text)) words words′ next →
-        Reading text next words′ (end + 1) (count + 1)
-    reading-next passed = record {
+    pub items-next : {words′ : List ℕ} {next : Kept} → LinePassed count kept (take (end - at) (drop at text)) words words′ next →
+        ReadingItems text next words′ (end + 1) (count + 1)
+    items-next passed = record {
       room = passed .room;
       passed = reading .passed ++ (passed .it ∷ []);
       in-words = passed .stored-word ∙ rw (reading .in-words, map-append itemWord (reading .passed) (passed .it ∷ []));
@@ -212,16 +212,16 @@ no-items out (refused n p) number place e =
     rw (same-number, same-place)
 
 module _ (text out : List ℕ) where
-  pub read-short : length out < 142337 → readSchemaIn text out ≡ refusing 31 0 out
+  pub schema-short : length out < 142337 → readSchemaIn text out ≡ refusing 31 0 out
   unfolding readSchemaIn
-  read-short h = rw (lt-leb 142337 (length out) h)
+  schema-short h = rw (lt-leb 142337 (length out) h)
 
   module _ (long : 142337 ≤ length out) where
-    pub read-refused : {number place : ℕ} → refused number place ≡ itemWords (readSchema text) → readSchemaIn text out ≡ refusing number place out
+    pub schema-refused : {number place : ℕ} → refused number place ≡ itemWords (readSchema text) → readSchemaIn text out ≡ refusing number place out
     unfolding readSchemaIn
-    read-refused {number} {place} e = rw (le-leb 142337 (length out) long) (no-items out (readSchema text) number place e)
+    schema-refused {number} {place} e = rw (le-leb 142337 (length out) long) (no-items out (readSchema text) number place e)
 
-    pub read-stored : {words : List ℕ} → accepted words ≡ itemWords (readSchema text) →
+    pub schema-stored : {words : List ℕ} → accepted words ≡ itemWords (readSchema text) →
         readSchemaIn text out ≡ record { reply = Done; buffer = sets out 0 (length words ∷ words) }
     unfolding readSchemaIn
-    read-stored {words} e = rw (le-leb 142337 (length out) long) (stored-words out (readSchema text) words e)
+    schema-stored {words} e = rw (le-leb 142337 (length out) long) (stored-words out (readSchema text) words e)

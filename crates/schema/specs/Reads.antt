@@ -11,10 +11,10 @@ use Rattle.rules.specs.Text.{fieldsOf}
 use Rattle.rules.specs.Schema.{Item, Known, itemOf, fits, beyond}
 use Rattle.schema.specs.Items.{itemWord}
 use Rattle.schema.specs.declared.known.Known.{Known as Kept}
-use Rattle.schema.specs.declared.reading.Took.{Took}
-use Rattle.schema.specs.declared.reading.Took.the-variants.{Next, Refused as Stopped}
-use Rattle.schema.specs.declared.reading.Got.{Got}
-use Rattle.schema.specs.declared.reading.Got.the-variants.{Items, Refused}
+use Rattle.schema.specs.declared.reading.TookItem.{TookItem}
+use Rattle.schema.specs.declared.reading.TookItem.the-variants.{Next, Refused as Stopped}
+use Rattle.schema.specs.declared.reading.GotItems.{GotItems}
+use Rattle.schema.specs.declared.reading.GotItems.the-variants.{Items, Refused}
 use Rattle.words.specs.Runs.{stored}
 
 abbrev pub knownFor : Kept → Known
@@ -62,19 +62,19 @@ abbrev pub refusedLine : Known → Option Item → Type 0
 refusedLine known none = Unit
 refusedLine known (some it) = fits known it ≡ false
 
-abbrev pub LineTaken : ℕ → Kept → List ℕ → List ℕ → List ℕ → Took → Type 0
-LineTaken count kept line words words′ (Next next) = LinePassed count kept line words words′ next
-LineTaken count kept line words words′ Stopped = refusedLine (knownFor kept) (itemOf (fieldsOf line))
+abbrev pub ItemTaken : ℕ → Kept → List ℕ → List ℕ → List ℕ → TookItem → Type 0
+ItemTaken count kept line words words′ (Next next) = LinePassed count kept line words words′ next
+ItemTaken count kept line words words′ Stopped = refusedLine (knownFor kept) (itemOf (fieldsOf line))
 
 abbrev pub itemWords : Answer (List Item) → Answer (List ℕ)
 itemWords (accepted items) = accepted (map itemWord items)
 itemWords (refused number place) = refused number place
 
 -- what was read into words: the words that are stored, or a refusal
-abbrev pub itemsGot : Got → List ℕ → Answer (List ℕ)
+abbrev pub itemsGot : GotItems → List ℕ → Answer (List ℕ)
 itemsGot (Items count) words = accepted (stored count words)
 itemsGot (Refused place) words = refused 1 place
 
-abbrev pub itemCount : Got → ℕ
+abbrev pub itemCount : GotItems → ℕ
 itemCount (Items count) = count
 itemCount (Refused place) = 0

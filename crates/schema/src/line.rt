@@ -5,14 +5,14 @@ ghost use Rattle.rules.specs.Text.{fieldsOf, bytes};
 ghost use Rattle.rules.specs.Listing.{placeIn};
 ghost use Rattle.rules.specs.Schema.{itemOf, pairOf, valueOf};
 ghost use Rattle.text.specs.Answers.{numberOf};
-ghost use Rattle.schema.specs.Items.{itemRead, tagRead, namedBy, fieldsBehind, typeFrom, KindEnds};
+ghost use Rattle.schema.specs.Items.{itemRead, tagRead, namedBy, fieldsAfterKind, typeByFields, KindEnds};
 use crate::item::Item;
 use text::Decimal;
 use text::Field;
 use text::Names;
 
 // What a line is read as: an item, or not of the stated form.
-pub enum Parsed {
+pub enum ParsedItem {
     Of(Item),
     Bad,
 }
@@ -70,7 +70,7 @@ fn valued(kind: u64, more: &[u8]) -> Decimal
 
 // What a type of a kind has, by what stands behind the kind: nothing, or a tab and more. Without more it is 0, where the kind asks for none.
 fn value_of(kind: u64, behind: &[u8]) -> Decimal
-    ensures { λ r. ⌜ numberOf r ≡ valueOf kind (fieldsBehind (now (behind .entry))) ⌝ }
+    ensures { λ r. ⌜ numberOf r ≡ valueOf kind (fieldsAfterKind (now (behind .entry))) ⌝ }
 {
     if 0 < behind.len() {
         return valued(kind, &behind[1..]);
@@ -93,36 +93,36 @@ fn kind_end(rest: &[u8]) -> usize
 }
 
 // A type, by its number and what the line has from the kind on.
-fn typed(number: &[u8], rest: &[u8]) -> Parsed
-    ensures { λ r. ⌜ itemRead r ≡ typeFrom (now (number .entry)) (fieldsOf (now (rest .entry))) ⌝ }
+fn typed(number: &[u8], rest: &[u8]) -> ParsedItem
+    ensures { λ r. ⌜ itemRead r ≡ typeByFields (now (number .entry)) (fieldsOf (now (rest .entry))) ⌝ }
 {
     let end = kind_end(rest);
     let Decimal::Value(key) = Decimal::read(number) else {
-        return Parsed::Bad;
+        return ParsedItem::Bad;
     };
     let Decimal::Value(tag) = Decimal::read(&rest[..end]) else {
-        return Parsed::Bad;
+        return ParsedItem::Bad;
     };
     let Decimal::Value(value) = value_of(tag, &rest[end..]) else {
-        return Parsed::Bad;
+        return ParsedItem::Bad;
     };
-    Parsed::Of(Item { tag, value, key })
+    ParsedItem::Of(Item { tag, value, key })
 }
 
 // An attribute, a literal or an action, with its type.
-fn pair(word: &[u8], left: &[u8], right: &[u8]) -> Parsed
+fn pair(word: &[u8], left: &[u8], right: &[u8]) -> ParsedItem
     ensures { λ r. ⌜ itemRead r ≡ pairOf (now (word .entry)) (now (left .entry)) (now (right .entry)) ⌝ }
 {
     let Tag::Of(place) = tag_of(word) else {
-        return Parsed::Bad;
+        return ParsedItem::Bad;
     };
     let Decimal::Value(key) = Decimal::read(left) else {
-        return Parsed::Bad;
+        return ParsedItem::Bad;
     };
     let Decimal::Value(value) = Decimal::read(right) else {
-        return Parsed::Bad;
+        return ParsedItem::Bad;
     };
-    Parsed::Of(Item {
+    ParsedItem::Of(Item {
         tag: Item::ATTRIBUTE_LINE + place,
         value,
         key,
@@ -130,16 +130,16 @@ fn pair(word: &[u8], left: &[u8], right: &[u8]) -> Parsed
 }
 
 // An entity type, by its name.
-fn entity(word: &[u8], name: &[u8]) -> Parsed
+fn entity(word: &[u8], name: &[u8]) -> ParsedItem
     ensures { λ r. ⌜ itemRead r ≡ itemOf (now (word .entry) ∷ now (name .entry) ∷ []) ⌝ }
 {
     if !text::is_letter(word, b'E') {
-        return Parsed::Bad;
+        return ParsedItem::Bad;
     }
     let Decimal::Value(key) = Decimal::read(name) else {
-        return Parsed::Bad;
+        return ParsedItem::Bad;
     };
-    Parsed::Of(Item {
+    ParsedItem::Of(Item {
         tag: Item::ENTITY_LINE,
         value: 0,
         key,
@@ -147,11 +147,11 @@ fn entity(word: &[u8], name: &[u8]) -> Parsed
 }
 
 // The item of a line, by its fields.
-pub fn parse(line: &[u8]) -> Parsed
+pub fn parse(line: &[u8]) -> ParsedItem
     ensures { λ r. ⌜ itemRead r ≡ itemOf (fieldsOf (now (line .entry))) ⌝ }
 {
     let Field::More(word_end) = Field::at(line, 0) else {
-        return Parsed::Bad;
+        return ParsedItem::Bad;
     };
     let second = word_end + 1;
     let Field::More(second_end) = Field::at(line, second) else {
@@ -162,7 +162,7 @@ pub fn parse(line: &[u8]) -> Parsed
         return typed(&line[second..second_end], &line[third..]);
     }
     let Field::Last = Field::at(line, third) else {
-        return Parsed::Bad;
+        return ParsedItem::Bad;
     };
     pair(&line[..word_end], &line[second..second_end], &line[third..])
 }

@@ -3,44 +3,44 @@ ghost use mathlib.Core.Path.{_≡_};
 ghost use Prim.Native.Nat.{_<_};
 ghost use lib.ListN.{length};
 ghost use Rattle.schema.specs.Items.{readSchemaIn};
-ghost use Rattle.schema.specs.Reads.{ItemRoom, LineTaken, itemsGot, itemWords, itemCount};
+ghost use Rattle.schema.specs.Reads.{ItemRoom, ItemTaken, itemsGot, itemWords, itemCount};
 ghost use Rattle.rules.specs.Schema.{readSchema};
 use crate::known::Known;
-use crate::line::Parsed;
+use crate::line::ParsedItem;
 use crate::line::parse;
 use text::Line;
 use words::Reply;
 
 // What a line gives: where the schema has come to, or that it is not of the stated form or may not stand there.
-enum Took {
+enum TookItem {
     Next(Known),
     Refused,
 }
 
 // What a text gives: how many items, or the line of the refusal.
-enum Got {
+enum GotItems {
     Items(u64),
     Refused(u64),
 }
 
 // Takes one line: its word goes behind the others.
-fn take_line(line: &[u8], words: &mut [u64], count: u64, known: Known) -> Took
+fn take_line(line: &[u8], words: &mut [u64], count: u64, known: Known) -> TookItem
     requires { ⌜ ItemRoom count known (now words) ⌝ }
-    ensures { λ r. ⌜ LineTaken count known (now (line .entry)) (now (words .entry)) (now (words .exit)) r ⌝ }
+    ensures { λ r. ⌜ ItemTaken count known (now (line .entry)) (now (words .entry)) (now (words .exit)) r ⌝ }
 {
-    let Parsed::Of(item) = parse(line) else {
-        return Took::Refused;
+    let ParsedItem::Of(item) = parse(line) else {
+        return TookItem::Refused;
     };
     if !known.fits(item) {
-        return Took::Refused;
+        return TookItem::Refused;
     }
     let end = count as usize + 1;
     words[end] = item.word();
-    Took::Next(known.beyond(item))
+    TookItem::Next(known.beyond(item))
 }
 
 // Reads all lines of a text into words, from place 1 on.
-fn read_items(text: &[u8], words: &mut [u64]) -> Got
+fn read_items(text: &[u8], words: &mut [u64]) -> GotItems
     requires { ⌜ length (now words) ≡ 142337 ⌝ }
     ensures { λ r. ⌜ itemsGot r (now (words .exit)) ≡ itemWords (readSchema (now (text .entry))) ⌝ }
     ensures { λ r. ⌜ itemCount r < 142337 ⌝ }
@@ -50,21 +50,21 @@ fn read_items(text: &[u8], words: &mut [u64]) -> Got
     let mut at = 0;
     while at < text.len() {
         let Line::Whole(end) = Line::at(text, at) else {
-            return Got::Refused(count);
+            return GotItems::Refused(count);
         };
         let took = take_line(&text[at..end], words, count, known);
         match took {
-            Took::Next(next) => {
+            TookItem::Next(next) => {
                 known = next;
             }
-            Took::Refused => {
-                return Got::Refused(count);
+            TookItem::Refused => {
+                return GotItems::Refused(count);
             }
         }
         at = end + 1;
         count += 1;
     }
-    Got::Items(count)
+    GotItems::Items(count)
 }
 
 // The lent state of a schema: its length.
@@ -82,8 +82,8 @@ impl Schema {
         }
         let mut words = [0u64; 142_337];
         match read_items(text, &mut words) {
-            Got::Refused(line) => Reply::Refused(1, line),
-            Got::Items(count) => {
+            GotItems::Refused(line) => Reply::Refused(1, line),
+            GotItems::Items(count) => {
                 words[0] = count;
                 words::copy_rows(&words, out);
                 Reply::Done

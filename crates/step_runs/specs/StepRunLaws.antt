@@ -231,8 +231,8 @@ module _ {words text code tries : List ℕ} {stack : Stack} {at line : ℕ} (run
 
 module _ (words : List ℕ) (at : ℕ) where
   -- a trie that stands at a place ends there, and is not too long
-  pub trie-within : TrieAt words at → (getD words at 0 ≤ 1024) × (at + 1 + getD words at 0 ≤ length words)
-  trie-within t = (at-few t, at-within t)
+  pub contribution-within : TrieAt words at → (getD words at 0 ≤ 1024) × (at + 1 + getD words at 0 ≤ length words)
+  contribution-within t = (at-few t, at-within t)
 
   -- its words fit behind the entry
   pub trie-fits :
@@ -241,7 +241,7 @@ module _ (words : List ℕ) (at : ℕ) where
       → 1026 ≤ length out
       → 2 + length (take (at + 1 + getD words at 0 - (at + 1)) (drop (at + 1) words)) ≤ length (set (set out 0 count) 1 entry)
   trie-fits out count entry t room =
-      let (few, all) = trie-within t in
+      let (few, all) = contribution-within t in
       rw (add-sub-cancel-left, length-set, length-set, length-take-le (getD words at 0) (drop (at + 1) words) (omega (arith, length-drop (at + 1) words)))
       (omega arith)
 

@@ -26,7 +26,7 @@ use Rattle.result_stack.specs.Stacks.{Held, Outcomes, ReplacedBy, ancestorsRequ
 use Rattle.result_stack.specs.declared.Stack.{Stack}
 use Rattle.result_stack.specs.declared.Stepped.{Stepped}
 use Rattle.result_stack.specs.StackLaws.{top-good, below, below-held}
-use Rattle.result_stack.specs.JudgingLaws.{any-deep, none-deep, all-some, Judging, too-many, unfit, replaced}
+use Rattle.result_stack.specs.JudgingLaws.{any-deep, none-deep, all-some, Judging, judging-many, unfit, replaced}
 
 -- ---- ancestors
 
@@ -174,7 +174,7 @@ module _ {codeRun tries : List ℕ} {stack : Stack} {right left : Result} {rest 
       pub in-over : fits ≡ false → (place : ℕ) → twoStep inResult place (right ∷ left ∷ rest) ≡ refused 4 place
       in-over over =
           let trie = ancestorsRequired (left .trie) (pathsIn (left .paths)) (pathsIn (right .paths)) in
-          too-many in-judging shallow
+          judging-many in-judging shallow
           (omega (arith, leb-false (length trie) 1024 (sym (required .judged) ∙ over), union-left-length trie (right .trie)))
 
       module _ (fit : fits ≡ true) (run : List ℕ) (same-run : rowsOf run ≡ right .trie) {state″ : List ℕ} {fits′ : Bool} (u : Became (union (rowsIn state′) (rowsOf run)) state″ fits′) where

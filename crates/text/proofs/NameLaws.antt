@@ -17,7 +17,7 @@ use Rattle.rules.specs.Listing.{_>>=_}
 use Rattle.rules.specs.ListingLaws.{bind-some}
 use Rattle.rules.specs.Schema.{ascending}
 use Rattle.rules.specs.Steps.{reversed}
-use Rattle.text.specs.Answers.{counted, Kept, NamesRead}
+use Rattle.text.specs.Answers.{namesCounted, NamesKept, NamesRead}
 use Rattle.text.specs.Before.{before as earlier}
 use Rattle.text.specs.declared.Names.{Names}
 use Rattle.text.specs.declared.Names.the-variants.{Of, Bad}
@@ -98,9 +98,9 @@ stored-front l i v h =
     let room : i < length (set l i v) = omega (arith, length-set l i v) in
     drop-cons (set l i v) i 0 room ∙ rw (getD-set-same l i v 0 h, drop-set-lt (suc i) l i v (omega arith))
 
-module _ (done buffer : List ℕ) (n : ℕ) (kept : Kept (some done) buffer) where
+module _ (done buffer : List ℕ) (n : ℕ) (kept : NamesKept (some done) buffer) where
   -- one more is kept where there is room
-  kept-room : length done < length buffer → Kept (some (done ++ (n ∷ []))) (set buffer (length buffer - 1 - length done) n)
+  kept-room : length done < length buffer → NamesKept (some (done ++ (n ∷ []))) (set buffer (length buffer - 1 - length done) n)
   kept-room h =
       let slot = length buffer - 1 - length done in
       let place : length buffer - length (done ++ (n ∷ [])) ≡ slot = omega (arith, length-append done (n ∷ [])) in
@@ -109,7 +109,7 @@ module _ (done buffer : List ℕ) (n : ℕ) (kept : Kept (some done) buffer) whe
       (stored-front buffer slot n (omega arith) ∙ rw (after, kept, take-all (length buffer) done (omega arith)))
 
   -- and else none
-  kept-full : length buffer ≤ length done → Kept (some (done ++ (n ∷ []))) buffer
+  kept-full : length buffer ≤ length done → NamesKept (some (done ++ (n ∷ []))) buffer
   kept-full h =
       let none-left : length buffer - length (done ++ (n ∷ [])) ≡ length buffer - length done = omega (arith, length-append done (n ∷ [])) in
       rw (none-left, take-append-le (length buffer) done (n ∷ []) h) kept
@@ -124,7 +124,7 @@ pub record Naming (line buffer : List ℕ) (from least count : ℕ) : Type 0 whe
   pub done : List ℕ
   pub all : length done ≡ count
   pub few : count ≤ from
-  pub kept : Kept (some done) buffer
+  pub kept : NamesKept (some done) buffer
   pub left : ascending 0 (fieldsOf line) ≡ (ascending least (fieldsOf (drop from line)) >>= (λ ns. some (done ++ ns)))
 
 pub naming-first : (line buffer : List ℕ) → Naming line buffer 0 0 0
@@ -147,10 +147,10 @@ module _ {line buffer : List ℕ} {from least count : ℕ} (naming : Naming line
 
   -- the next name is kept where there is room
   module _ (n : ℕ) where
-    pub naming-room : count < length buffer → Kept (some (naming .done ++ (n ∷ []))) (set buffer (length buffer - 1 - count) n)
+    pub naming-room : count < length buffer → NamesKept (some (naming .done ++ (n ∷ []))) (set buffer (length buffer - 1 - count) n)
     naming-room h = rw (← naming .all) (kept-room (naming .done) buffer n (naming .kept) (omega (arith, naming .all)))
 
-    pub naming-full : length buffer ≤ count → Kept (some (naming .done ++ (n ∷ []))) buffer
+    pub naming-full : length buffer ≤ count → NamesKept (some (naming .done ++ (n ∷ []))) buffer
     naming-full h = kept-full (naming .done) buffer n (naming .kept) (omega (arith, naming .all))
 
   -- the next field, by the fields from it on
@@ -169,7 +169,7 @@ module _ {line buffer : List ℕ} {from least count : ℕ} (naming : Naming line
         one-more : length (naming .done ++ (n ∷ [])) ≡ count + 1
         one-more = omega (arith, length-append (naming .done) (n ∷ []), naming .all)
 
-        module _ (buffer′ : List ℕ) (keeps : Kept (some (naming .done ++ (n ∷ []))) buffer′) where
+        module _ (buffer′ : List ℕ) (keeps : NamesKept (some (naming .done ++ (n ∷ []))) buffer′) where
           -- others follow
           pub naming-next : {next : ℕ} → from < next → fields ≡ fieldsOf (drop next line) → Naming line buffer′ next (n + 1) (count + 1)
           naming-next behind e =
@@ -186,16 +186,16 @@ module _ {line buffer : List ℕ} {from least count : ℕ} (naming : Naming line
 
 module _ {names : Option (List ℕ)} {r : Names} {buffer : List ℕ} (names-read : NamesRead names r buffer) where
   pub no-names : r ≡ Bad → names ≡ none
-  no-names e = by-option names (λ q. q) (λ ns q. absurd (let z : _≡_ {A = ℕ} 0 1 = cc (e, names-read .answer, ap counted q) in omega arith))
+  no-names e = by-option names (λ q. q) (λ ns q. absurd (let z : _≡_ {A = ℕ} 0 1 = cc (e, names-read .answer, ap namesCounted q) in omega arith))
 
   -- so many names, of which those are kept for which there is room
   pub names-kept : {count : ℕ} → r ≡ Of count →
       (ns : List ℕ) × (names ≡ some ns) × (length ns ≡ count) × (drop (length buffer - count) buffer ≡ reversed (take (length buffer) ns))
   names-kept {count} e =
       by-option names
-      (λ q. absurd (let z : _≡_ {A = ℕ} 0 1 = cc (e, names-read .answer, ap counted q) in omega arith))
+      (λ q. absurd (let z : _≡_ {A = ℕ} 0 1 = cc (e, names-read .answer, ap namesCounted q) in omega arith))
       (λ ns q.
-      let size : length ns ≡ count = cc (e, names-read .answer, ap counted q) in
+      let size : length ns ≡ count = cc (e, names-read .answer, ap namesCounted q) in
       (ns, q, size, rw size at (rw q at (names-read .kept))))
 
 -- a buffer for one name has the first, which is an id

@@ -65,15 +65,15 @@ abbrev pub numberAt : ℕ → List ℕ → ℕ → Number
 numberAt b s at = firstNumber decimalOf at (parted b (drop at s))
 
 -- how many names there are, if they are names
-abbrev pub counted : Option (List ℕ) → Names
-counted none = BadNames
-counted (some names) = OfNames (length names)
+abbrev pub namesCounted : Option (List ℕ) → Names
+namesCounted none = BadNames
+namesCounted (some names) = OfNames (length names)
 
 -- the names for which a buffer has room stand at its end, the last in front of the others
-abbrev pub Kept : Option (List ℕ) → List ℕ → Type 0
-Kept none buffer = Unit
-Kept (some names) buffer = drop (length buffer - length names) buffer ≡ reversed (take (length buffer) names)
+abbrev pub NamesKept : Option (List ℕ) → List ℕ → Type 0
+NamesKept none buffer = Unit
+NamesKept (some names) buffer = drop (length buffer - length names) buffer ≡ reversed (take (length buffer) names)
 
 pub record NamesRead (names : Option (List ℕ)) (r : Names) (buffer : List ℕ) : Type 0 where
-  pub answer : r ≡ counted names
-  pub kept : Kept names buffer
+  pub answer : r ≡ namesCounted names
+  pub kept : NamesKept names buffer

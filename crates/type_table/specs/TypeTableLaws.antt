@@ -16,7 +16,7 @@ use Rattle.rules.specs.Listing.{read}
 use Rattle.rules.specs.Tries.{Row}
 use Rattle.rules.specs.Schema.{Item, lastType, attributeLine, unknown, lawfulItems, fromType, attributesOf}
 use Rattle.rules.specs.Paths.{deeper, childrenOf, kindAt, elementAt, attributesAt}
-use Rattle.rules.specs.TypeLaws.{TypeLines, Below, typesIn, deepest, type-here, type-lines, type-children, types-last, types-last-other, kind-at, element-at, attributes-at, attributes-on, below-at, deeper-append, deeper-length, deeper-deeper, children-append, children-deepest, children-length, deepest-append, children-deepest-capped, children-length-capped}
+use Rattle.rules.specs.TypeLaws.{TypeLines, AttributesBelow, typesIn, deepest, type-here, type-lines, type-children, types-last, types-last-other, kind-at, element-at, attributes-at, attributes-on, attributes-below, deeper-append, deeper-length, deeper-deeper, children-append, children-deepest, children-length, deepest-append, children-deepest-capped, children-length-capped}
 use Rattle.rows.specs.Words.{wordOf}
 use Rattle.schema.specs.Items.{itemIn, itemsOf, isItem, allItems, goodItems}
 use Rattle.words.specs.Runs.{Wrote}
@@ -107,9 +107,9 @@ module _ {words : List ℕ} {first at : ℕ} (passing : Passing words first at) 
     }
 
     -- its type is lower than that of the record
-    pub passing-below : {t : ℕ} → Below t (attributesOf (itemsOf (drop first words))) → getD words at 0 / 16 % 2 ^ 36 < t
+    pub passing-below : {t : ℕ} → AttributesBelow t (attributesOf (itemsOf (drop first words))) → getD words at 0 / 16 % 2 ^ 36 < t
     passing-below {t} below =
-        below-at t (passing .passed) (itemIn (getD words at 0)) (attributesOf (itemsOf (drop (at + 1) words)))
+        attributes-below t (passing .passed) (itemIn (getD words at 0)) (attributesOf (itemsOf (drop (at + 1) words)))
         (rw passing-here at below) .1
 
 -- A type's line and its attributes.

@@ -16,11 +16,7 @@ use Rattle.rows.specs.Words.{depthIn, rankIn, joinedWord}
 use Rattle.union.specs.Unions.{unionWords}
 use Rattle.rows.specs.WordLaws.{key-below, word-at}
 use Rattle.union.specs.UnionLaws.{union-words-nil, union-words-first, union-words-second, union-words-same}
-use Rattle.rows.specs.CountLaws.{
-  counted-none as nothing-counted,
-  counted-entry as entry-counted,
-  counted-node as node-counted,
-}
+use Rattle.rows.specs.CountLaws.{counted-none, counted-entry, counted-node}
 use Rattle.rows.specs.States.{allWords, Counted}
 use Rattle.union.specs.Merge.{keyAt, nextKey, left, Turn, MergeRoom, Merged, belowAt, CopiedBelow, Copied}
 
@@ -35,20 +31,20 @@ unfolding keyAt
 key-past a i h = rw (le-ltb i (length a) h)
 
 -- the next key is the smaller one
-pub next-first : (a b : List ℕ) (i j x y : ℕ) → x ≡ keyAt a i → y ≡ keyAt b j → x < y → x ≡ nextKey a b i j
+pub merge-first : (a b : List ℕ) (i j x y : ℕ) → x ≡ keyAt a i → y ≡ keyAt b j → x < y → x ≡ nextKey a b i j
 unfolding nextKey
-next-first a b i j x y e f h = rw (← e, ← f, lt-ltb x y h)
+merge-first a b i j x y e f h = rw (← e, ← f, lt-ltb x y h)
 
-pub next-second : (a b : List ℕ) (i j x y : ℕ) → x ≡ keyAt a i → y ≡ keyAt b j → y ≤ x → y ≡ nextKey a b i j
+pub merge-second : (a b : List ℕ) (i j x y : ℕ) → x ≡ keyAt a i → y ≡ keyAt b j → y ≤ x → y ≡ nextKey a b i j
 unfolding nextKey
-next-second a b i j x y e f h = rw (← e, ← f, le-ltb x y h)
+merge-second a b i j x y e f h = rw (← e, ← f, le-ltb x y h)
 
 -- what is at most the next key is at most both
 next-least : (a b : List ℕ) (i j n : ℕ) → n ≤ nextKey a b i j → (n ≤ keyAt a i) × (n ≤ keyAt b j)
 next-least a b i j n h =
     compared (keyAt a i) (keyAt b j)
-    (λ less. let e = next-first a b i j _ _ refl refl less in (omega (arith, e), omega (arith, e)))
-    (λ not-less. let e = next-second a b i j _ _ refl refl not-less in (omega (arith, e), omega (arith, e)))
+    (λ less. let e = merge-first a b i j _ _ refl refl less in (omega (arith, e), omega (arith, e)))
+    (λ not-less. let e = merge-second a b i j _ _ refl refl not-less in (omega (arith, e), omega (arith, e)))
 
 -- a key below the end is that of a row
 row-in : (a : List ℕ) (i : ℕ) → keyAt a i < 2 ^ 53 → i < length a
@@ -58,10 +54,10 @@ row-in a i h = compared i (length a) (λ inside. inside) (λ past. absurd (omega
 pub first-in : (a b : List ℕ) (i j x y : ℕ) → x ≡ keyAt a i → y ≡ keyAt b j → x ≤ y → nextKey a b i j < 2 ^ 53 → i < length a
 first-in a b i j x y e f h below =
     row-in a i
-    (compared x y (λ less. omega (arith, next-first a b i j x y e f less)) (λ not-less. omega (arith, next-second a b i j x y e f not-less)))
+    (compared x y (λ less. omega (arith, merge-first a b i j x y e f less)) (λ not-less. omega (arith, merge-second a b i j x y e f not-less)))
 
 pub second-in : (a b : List ℕ) (i j x y : ℕ) → x ≡ keyAt a i → y ≡ keyAt b j → y ≤ x → nextKey a b i j < 2 ^ 53 → j < length b
-second-in a b i j x y e f h below = row-in b j (omega (arith, next-second a b i j x y e f h))
+second-in a b i j x y e f h below = row-in b j (omega (arith, merge-second a b i j x y e f h))
 
 -- ---- what is left of a union, by the next row of either run
 
@@ -270,9 +266,9 @@ union-longer (x ∷ a) b = go (λ b. union-longer a b) b
 
 module _ {a b out : List ℕ} {i j k : ℕ} (room : MergeRoom a b out i j k) where
   -- so all that is left of either run fits
-  pub room-left : k + length a ≤ i + length out
+  pub merge-room-left : k + length a ≤ i + length out
   unfolding left
-  room-left = omega (arith, room .fits, union-longer (drop i a) (drop j b) .0, length-drop i a, room .in-a)
+  merge-room-left = omega (arith, room .fits, union-longer (drop i a) (drop j b) .0, length-drop i a, room .in-a)
 
   pub room-right : k + length b ≤ j + length out
   unfolding left
@@ -294,17 +290,17 @@ left-ended a b i j good-a good-b h =
 -- ---- counting
 
 -- nothing is counted
-pub counted-none : (a b : List ℕ) → Counted (unionWords a b) (left a b 0 0) 0 0
+pub size-none : (a b : List ℕ) → Counted (unionWords a b) (left a b 0 0) 0 0
 unfolding left
-counted-none a b = nothing-counted (unionWords a b)
+size-none a b = counted-none (unionWords a b)
 
 -- the next row is counted as what it is
 module _ {words a b : List ℕ} {i j w i′ j′ entries nodes : ℕ} where
-  pub counted-entry : Counted words (left a b i j) entries nodes → Turn a b i j w i′ j′ → depthIn w ≡ 0 → Counted words (left a b i′ j′) (entries + 1) nodes
-  counted-entry counted turn h = entry-counted (rw (turn .taken) at counted) h
+  pub size-entry : Counted words (left a b i j) entries nodes → Turn a b i j w i′ j′ → depthIn w ≡ 0 → Counted words (left a b i′ j′) (entries + 1) nodes
+  size-entry counted turn h = counted-entry (rw (turn .taken) at counted) h
 
-  pub counted-node : Counted words (left a b i j) entries nodes → Turn a b i j w i′ j′ → (depthIn w ≡ 0 → ⊥) → Counted words (left a b i′ j′) entries (nodes + 1)
-  counted-node counted turn h = node-counted (rw (turn .taken) at counted) h
+  pub size-node : Counted words (left a b i j) entries nodes → Turn a b i j w i′ j′ → (depthIn w ≡ 0 → ⊥) → Counted words (left a b i′ j′) entries (nodes + 1)
+  size-node counted turn h = counted-node (rw (turn .taken) at counted) h
 
 -- ---- the whole union
 

@@ -73,7 +73,7 @@ use Rattle.wrapped_paths.specs.Turns.{
   TurnRoom,
   Turned,
 }
-use Rattle.wrapped_paths.specs.CodeLaws.{fieldPaths, headFor, codes-append, codes-fields, names-many, paths-many, code-turn, nodes-turn, nodes-words, Ahead, next-within, next-room, next-word, next-head, behind-word, stands-short, many-nodes, many-words, next-of, paths-at-append, within-append, places-few}
+use Rattle.wrapped_paths.specs.CodeLaws.{fieldPaths, headFor, codes-append, codes-fields, names-many, paths-within, code-turn, nodes-turn, nodes-words, Ahead, next-within, next-room, next-head-word, next-head, behind-word, stands-short, many-nodes, many-words, next-of, paths-at-append, within-append, places-few}
 
 -- ---- one stands there
 
@@ -105,13 +105,13 @@ path-gained words rest path out out₁ at steps f to last many e w =
     let behind : drop (at + 1) words ≡ path ++ rest = behind-word words at e in
     let copied : take (at + 1 + steps - (at + 1)) (drop (at + 1) words) ≡ path = cut words path rest (at + 1) (at + 1 + steps) behind (rw many) in
     let more : length (path ++ (f ∷ [])) ≡ steps + 1 = length-append path (f ∷ []) ∙ rw many in
-    let after : last ≡ to + 1 + length path = w .after ∙ rw copied in
+    let afterWords : last ≡ to + 1 + length path = w .after ∙ rw copied in
     let text : out₁ ≡ sets (set out to (headWord (PathHead (steps + 1)))) (to + 1) path = w .text ∙ rw copied in
     record {
       next = omega arith;
       wrote = record {
         after = omega arith;
-        text = rw (more, text, after, add-one to) (sym (sets-snoc (set out to (headWord (PathHead (steps + 1)))) (suc to) path f));
+        text = rw (more, text, afterWords, add-one to) (sym (sets-snoc (set out to (headWord (PathHead (steps + 1)))) (suc to) path f));
       };
     }
 
@@ -191,12 +191,12 @@ module _ {words rest : List ℕ} {fields : Fields} {at n : ℕ} (l : LiteralAt w
       rw (names-many fields, l .as-many) at (behind-it words (namesIn fields) (codes (fieldPaths fields) ++ rest) (at + 1) behind-head)
 
   pub literal-standing : Standing words (at + 1 + n) n
-  literal-standing = record { paths = fieldPaths fields; rest = rest; as-many = paths-many fields ∙ l .as-many; coded = literal-fields }
+  literal-standing = record { paths = fieldPaths fields; rest = rest; as-many = paths-within fields ∙ l .as-many; coded = literal-fields }
 
   module _ {end nodes : ℕ} (m : Measures words (at + 1 + n) n end nodes) where
     pub literal-end : end ≡ at + length (code (RecordLiteral fields))
     literal-end =
-        omega (arith, m (fieldPaths fields) rest (paths-many fields ∙ l .as-many) literal-fields .0, literal-length)
+        omega (arith, m (fieldPaths fields) rest (paths-within fields ∙ l .as-many) literal-fields .0, literal-length)
 
     module _ (f : ℕ) {place : ℕ} (p : place ≡ namePlace (take (at + 1 + n - (at + 1)) (drop (at + 1) words)) f) where
       place-here : place ≡ namePlace (namesIn fields) f
@@ -385,7 +385,7 @@ grown-few f (SetLiteral elements) h = omega (arith, words-few elements h)
 
 module _ (words rest : List ℕ) (q : Paths) (at : ℕ) (e : drop at words ≡ code q ++ rest) where
   word-here : getD words at 0 ≡ headWord (headFor q)
-  word-here = next-word (stands-alone words rest q at e)
+  word-here = next-head-word (stands-alone words rest q at e)
 
   pub head-here : headOf (getD words at 0) ≡ headFor q
   head-here = next-head (stands-alone words rest q at e)
@@ -470,30 +470,30 @@ spine (RecordLiteral fields) = []
 spine (SetLiteral elements) = []
 
 -- the words of what `attr` gives for several, and words in front of them
-abbrev pub joined : Option Paths → Option (List ℕ) → Option (List ℕ)
-joined none more = none
-joined (some q) none = none
-joined (some q) (some more) = some (code q ++ more)
+abbrev pub joinedCodes : Option Paths → Option (List ℕ) → Option (List ℕ)
+joinedCodes none more = none
+joinedCodes (some q) none = none
+joinedCodes (some q) (some more) = some (code q ++ more)
 
 unfoldable pub extendedCodes : ℕ → List Paths → Option (List ℕ)
 extendedCodes f [] = some []
-extendedCodes f (q ∷ qs) = joined (getOrHasAttr f q) (extendedCodes f qs)
+extendedCodes f (q ∷ qs) = joinedCodes (getOrHasAttr f q) (extendedCodes f qs)
 
-abbrev pub after : List ℕ → Option (List ℕ) → Option (List ℕ)
-after words none = none
-after words (some more) = some (words ++ more)
+abbrev pub afterWords : List ℕ → Option (List ℕ) → Option (List ℕ)
+afterWords words none = none
+afterWords words (some more) = some (words ++ more)
 
-after-after : (xs ys : List ℕ) (o : Option (List ℕ)) → after xs (after ys o) ≡ after (xs ++ ys) o
+after-after : (xs ys : List ℕ) (o : Option (List ℕ)) → afterWords xs (afterWords ys o) ≡ afterWords (xs ++ ys) o
 after-after xs ys none = refl
 after-after xs ys (some more) = rw append-assoc
 
-joined-some : (q : Paths) (o : Option (List ℕ)) → joined (some q) o ≡ after (code q) o
+joined-some : (q : Paths) (o : Option (List ℕ)) → joinedCodes (some q) o ≡ afterWords (code q) o
 joined-some q none = refl
 joined-some q (some more) = refl
 
 joined-union :
     (x y : Option Paths) (o : Option (List ℕ))
-    → joined (x >>= (λ r. y >>= (λ l. some (Union l r)))) o ≡ after (headWord UnionHead ∷ []) (joined x (joined y o))
+    → joinedCodes (x >>= (λ r. y >>= (λ l. some (Union l r)))) o ≡ afterWords (headWord UnionHead ∷ []) (joinedCodes x (joinedCodes y o))
 unfolding code
 joined-union none y o = refl
 joined-union (some r) none o = refl
@@ -501,7 +501,7 @@ joined-union (some r) (some l) none = refl
 joined-union (some r) (some l) (some more) = ap (λ (ws : List ℕ). some (headWord UnionHead ∷ ws)) (append-assoc (code r) (code l) more)
 
 -- what a turn writes stands in front of what is left
-attr-turn : (f : ℕ) (q : Paths) (qs : List Paths) → isSet q ≡ false → extendedCodes f (q ∷ qs) ≡ after (writtenFor f q) (extendedCodes f (spine q ++ qs))
+attr-turn : (f : ℕ) (q : Paths) (qs : List Paths) → isSet q ≡ false → extendedCodes f (q ∷ qs) ≡ afterWords (writtenFor f q) (extendedCodes f (spine q ++ qs))
 unfolding extendedCodes writtenFor getOrHasAttr
 attr-turn f Empty qs h = joined-some Empty (extendedCodes f qs)
 attr-turn f (AccessPath path) qs h = joined-some (AccessPath (path ++ (f ∷ []))) (extendedCodes f qs)
@@ -640,13 +640,13 @@ put-behind out v to h =
 -- ---- all turns
 
 -- what was written and noted, and what is left
-pub record Going (words rest : List ℕ) (f : ℕ) (paths : Paths) (out places : List ℕ) (from to left grown : ℕ) : Type 0 where
+pub record ExtendingPaths (words rest : List ℕ) (f : ℕ) (paths : Paths) (out places : List ℕ) (from to left grown : ℕ) : Type 0 where
   pub qs : List Paths
   pub ahead : Ahead words rest qs from left
   pub few : grown + nodesOfAll qs ≤ nodesOf paths
   pub room : to + (length (codes qs) + length (grownInAll f qs)) ≤ length (code paths) + length (grownIn f paths)
   pub in-out : to ≤ length out
-  pub written : extendedCodes f (paths ∷ []) ≡ after (take to out) (extendedCodes f qs)
+  pub written : extendedCodes f (paths ∷ []) ≡ afterWords (take to out) (extendedCodes f qs)
   pub in-places : grown ≤ length places
   pub within : AllWithin (take to out) (take grown places)
   pub there : pathsAt (take to out) (take grown places) ++ grownInAll f qs ≡ grownIn f paths
@@ -654,9 +654,9 @@ pub record Going (words rest : List ℕ) (f : ℕ) (paths : Paths) (out places :
 -- whatever stands there
 abbrev pub Extending : List ℕ → ℕ → ℕ → List ℕ → List ℕ → ℕ → ℕ → ℕ → ℕ → Type 0
 Extending words at f out places from to left grown =
-    (paths : Paths) (rest : List ℕ) → drop at words ≡ code paths ++ rest → Going words rest f paths out places from to left grown
+    (paths : Paths) (rest : List ℕ) → drop at words ≡ code paths ++ rest → ExtendingPaths words rest f paths out places from to left grown
 
-after-nothing : (o : Option (List ℕ)) → after [] o ≡ o
+after-nothing : (o : Option (List ℕ)) → afterWords [] o ≡ o
 after-nothing none = refl
 after-nothing (some more) = refl
 
@@ -675,23 +675,23 @@ extending-first words out places at f paths rest e = record {
 }
 
 -- what `attr` gives for one is what the codes say
-joined-done : (o : Option Paths) (ws : List ℕ) → joined o (some []) ≡ some ws → (q : Paths) × (o ≡ some q) × (ws ≡ code q)
+joined-done : (o : Option Paths) (ws : List ℕ) → joinedCodes o (some []) ≡ some ws → (q : Paths) × (o ≡ some q) × (ws ≡ code q)
 joined-done none ws e = absurd (let z : _≡_ {A = ℕ} 0 1 = cc in omega arith)
 joined-done (some q) ws e = let same : code q ++ [] ≡ ws = cc in (q, refl, sym same ∙ append-nil (code q))
 
-joined-refused : (o : Option Paths) → joined o (some []) ≡ none → o ≡ none
+joined-refused : (o : Option Paths) → joinedCodes o (some []) ≡ none → o ≡ none
 joined-refused none e = refl
 joined-refused (some q) e = cc
 
-module _ {words rest out places : List ℕ} {f : ℕ} {paths : Paths} {from to left grown : ℕ} (g : Going words rest f paths out places from to left grown) where
+module _ {words rest out places : List ℕ} {f : ℕ} {paths : Paths} {from to left grown : ℕ} (g : ExtendingPaths words rest f paths out places from to left grown) where
   pub going-few : left ≤ length words
   going-few =
       omega (arith, g .ahead .as-many, many-nodes (g .qs), many-words (g .qs), stands-short words (codes (g .qs)) rest from (g .ahead .coded))
 
   -- nothing is left
-  pub going-done : left ≤ 0 → Grew f paths out places to grown
+  pub extending-done : left ≤ 0 → Grew f paths out places to grown
   unfolding extendedCodes grownInAll
-  going-done none-left =
+  extending-done none-left =
       let (a, b) = last (g .qs) (g .ahead .as-many) (g .written) (g .there) in
       let (q, given, same) = joined-done (getOrHasAttr f paths) (take to out) a in
       record {
@@ -706,7 +706,7 @@ module _ {words rest out places : List ℕ} {f : ℕ} {paths : Paths} {from to l
       }
     where
       last :
-          (qs : List Paths) → length qs ≡ left → extendedCodes f (paths ∷ []) ≡ after (take to out) (extendedCodes f qs)
+          (qs : List Paths) → length qs ≡ left → extendedCodes f (paths ∷ []) ≡ afterWords (take to out) (extendedCodes f qs)
           → pathsAt (take to out) (take grown places) ++ grownInAll f qs ≡ grownIn f paths
           → (extendedCodes f (paths ∷ []) ≡ some (take to out)) × (pathsAt (take to out) (take grown places) ≡ grownIn f paths)
       last [] many a b = (a ∙ rw append-nil, rw append-nil at b)
@@ -726,7 +726,7 @@ module _ {words rest out places : List ℕ} {f : ℕ} {paths : Paths} {from to l
       (q : Paths) (more : List Paths) {out′ places′ : List ℕ} {from′ to′ grown′ : ℕ} {h : WrappedAccessPaths}
       → g .qs ≡ q ∷ more → Ahead words rest (q ∷ more) from left → isSet q ≡ false → from′ ≡ from + length (readAt q)
       → Wrote out to (writtenFor f q) out′ to′ → to′ ≤ length out → h ≡ headFor q → Noted places grown (placesFor h to) places′ grown′
-      → Going words rest f paths out′ places′ from′ to′ (left - 1 + sidesOf h) grown′
+      → ExtendingPaths words rest f paths out′ places′ from′ to′ (left - 1 + sidesOf h) grown′
   unfolding nodesOfAll
   going-step q more {out′} {places′} {from′} {to′} {grown′} {h} same a goes next wrote fits head n =
       let v = writtenFor f q in
@@ -827,7 +827,7 @@ module _ {words rest out places : List ℕ} {f : ℕ} {paths : Paths} {from to l
         {out′ places′ : List ℕ} {moved : Moved} {grown′ : ℕ} {h : WrappedAccessPaths}
         → h ≡ headOf (getD words from 0) → Turned words from f out to out′ (Next moved) → moved .to ≤ length out
         → Noted places grown (placesFor h to) places′ grown′
-        → Going words rest f paths out′ places′ (moved .from) (moved .to) (left - 1 + sidesOf h) grown′
+        → ExtendingPaths words rest f paths out′ places′ (moved .from) (moved .to) (left - 1 + sidesOf h) grown′
     going-turn said t fits n =
         let (q, more, same) = going-next in
         let (goes, took) = t q (codes more ++ rest) next-coded in

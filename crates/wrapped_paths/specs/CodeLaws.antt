@@ -98,10 +98,10 @@ unfolding namesIn countIn
 names-many noField = refl
 names-many (field name paths fields) = ap suc (names-many fields)
 
-pub paths-many : (fields : Fields) → length (fieldPaths fields) ≡ countIn fields
+pub paths-within : (fields : Fields) → length (fieldPaths fields) ≡ countIn fields
 unfolding fieldPaths countIn
-paths-many noField = refl
-paths-many (field name paths fields) = ap suc (paths-many fields)
+paths-within noField = refl
+paths-within (field name paths fields) = ap suc (paths-within fields)
 
 pub payload-many : (q : Paths) → length (payload q) ≡ sizeOf (headFor q)
 payload-many Empty = refl
@@ -114,7 +114,7 @@ pub unwrapped-many : (q : Paths) → length (unwrapped q) ≡ wrapsOf (headFor q
 unwrapped-many Empty = refl
 unwrapped-many (AccessPath path) = refl
 unwrapped-many (Union left right) = refl
-unwrapped-many (RecordLiteral fields) = paths-many fields
+unwrapped-many (RecordLiteral fields) = paths-within fields
 unwrapped-many (SetLiteral elements) = refl
 
 pub codes-append : (ps qs : List Paths) → codes (ps ++ qs) ≡ codes ps ++ codes qs
@@ -242,11 +242,11 @@ module _ {words rest : List ℕ} {q : Paths} {qs : List Paths} {from left : ℕ}
   pub next-room : from + (1 + sizeOf (headFor q)) ≤ length words
   next-room = omega (arith, opened-length)
 
-  pub next-word : getD words from 0 ≡ headWord (headFor q)
-  next-word = first-word words from opened
+  pub next-head-word : getD words from 0 ≡ headWord (headFor q)
+  next-head-word = first-word words from opened
 
   pub next-head : headOf (getD words from 0) ≡ headFor q
-  next-head = ap headOf next-word ∙ head-word (headFor q)
+  next-head = ap headOf next-head-word ∙ head-word (headFor q)
 
   behind : drop (from + 1) words ≡ payload q ++ (codes (unwrapped q ++ qs) ++ rest)
   behind = behind-word words from opened
@@ -290,7 +290,7 @@ ahead-next {q} {qs} a e =
 -- ---- measuring
 
 -- what is left of wrapped paths that are measured
-pub record Left (words : List ℕ) (paths : List Paths) (rest : List ℕ) (at from left nodes : ℕ) : Type 0 where
+pub record HeadsLeft (words : List ℕ) (paths : List Paths) (rest : List ℕ) (at from left nodes : ℕ) : Type 0 where
   pub qs : List Paths
   pub ahead : Ahead words rest qs from left
   pub counted : nodes + nodesOfAll qs ≡ nodesOfAll paths
@@ -299,7 +299,7 @@ pub record Left (words : List ℕ) (paths : List Paths) (rest : List ℕ) (at fr
 -- whatever stands there
 abbrev pub Measuring : List ℕ → ℕ → ℕ → ℕ → ℕ → ℕ → Type 0
 Measuring words at count from left nodes =
-    (paths : List Paths) (rest : List ℕ) → length paths ≡ count → drop at words ≡ codes paths ++ rest → Left words paths rest at from left nodes
+    (paths : List Paths) (rest : List ℕ) → length paths ≡ count → drop at words ≡ codes paths ++ rest → HeadsLeft words paths rest at from left nodes
 
 pub measuring-first : (words : List ℕ) (at count : ℕ) → Measuring words at count at count 0
 measuring-first words at count paths rest many e =
@@ -317,7 +317,7 @@ measured {words} {at} {count} {from} {left} {nodes} m none-left paths rest many 
     go [] a b c = (omega arith, omega arith)
     go (q ∷ qs) a b c = absurd (omega arith)
 
-module _ {words rest : List ℕ} {paths : List Paths} {at from left nodes : ℕ} (l : Left words paths rest at from left nodes) where
+module _ {words rest : List ℕ} {paths : List Paths} {at from left nodes : ℕ} (l : HeadsLeft words paths rest at from left nodes) where
   pub left-few : left ≤ length words
   left-few =
       omega (arith, l .ahead .as-many, many-nodes (l .qs), many-words (l .qs), stands-short words (codes (l .qs)) rest from (l .ahead .coded))
@@ -339,7 +339,7 @@ module _ {words rest : List ℕ} {paths : List Paths} {at from left nodes : ℕ}
       pub left-room : from + (1 + sizeOf h) ≤ length words
       left-room = rw (said ∙ next-head now-ahead) (next-room now-ahead)
 
-      pub left-next : Left words paths rest at (from + (1 + sizeOf h)) (left - 1 + wrapsOf h) (nodes + 1)
+      pub left-next : HeadsLeft words paths rest at (from + (1 + sizeOf h)) (left - 1 + wrapsOf h) (nodes + 1)
       left-next =
           let (q, more, same) = next in
           let a = now-ahead in
@@ -417,7 +417,7 @@ module _ {words rest : List ℕ} {qs : List Paths} {from left : ℕ} where
   unfolding pathsAt pathAt
   own-path Empty a = refl
   own-path (AccessPath path) a =
-      let steps : getD words from 0 / 8 ≡ length path = omega (arith, next-word a) in
+      let steps : getD words from 0 / 8 ≡ length path = omega (arith, next-head-word a) in
       rw (steps, next-payload a)
   own-path (Union l r) a = refl
   own-path (RecordLiteral fields) a = refl
@@ -426,7 +426,7 @@ module _ {words rest : List ℕ} {qs : List Paths} {from left : ℕ} where
   own-within : (q : Paths) → Ahead words rest (q ∷ qs) from left → AllWithin words (placesFor (headFor q) from)
   unfolding AllWithin
   own-within Empty a = tt
-  own-within (AccessPath path) a = (omega (arith, next-word a, next-room a), tt)
+  own-within (AccessPath path) a = (omega (arith, next-head-word a, next-room a), tt)
   own-within (Union l r) a = tt
   own-within (RecordLiteral fields) a = tt
   own-within (SetLiteral elements) a = tt

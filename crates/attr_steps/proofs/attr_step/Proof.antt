@@ -10,7 +10,7 @@ use Rattle.wrapped_paths.specs.Code.{codes, Grew}
 use Rattle.result_stack.specs.Stacks.{stackPaths, Held}
 use Rattle.wrap_steps.specs.WrapLaws.{held-top, tries-end-room}
 use Rattle.attr_steps.specs.AttrStepLaws.{attr-grows, attr-few, attr-set, attr-room, attr-judging, attr-paths, attr-rows, attr-done}
-use Rattle.result_stack.specs.JudgingLaws.{too-deep, copied-top}
+use Rattle.result_stack.specs.JudgingLaws.{judging-deep, copied-top}
 use Rattle.result_stack.specs.StackLaws.{top-code, top-standing, top-at, code-end, tries-end}
 use borrow.Author.Needs.{needs}
 use Rattle.attr_steps.proofs.attr_step.Statement.{statement}
@@ -98,7 +98,7 @@ returns-3 : tie.Need-returns-3
 returns-3 c results held place =
     let start = c .before .before .before .before .before .before .before .before .before .before .before .before .before .before .before .before .before .before .before .before in
     let (top, rest, same, h) = topped (c .before .before .before .before .before .before .before .before .before .before .before .before .before .before) results held in
-    rw same (too-deep (attr-judging h (start .args .name) (start .pre .1 .0) (grew (c .before .before .before .before .before) top rest h)) (sym (c .before .is-too-deep .ensures) ∙ c .if2 .taken) place)
+    rw same (judging-deep (attr-judging h (start .args .name) (start .pre .1 .0) (grew (c .before .before .before .before .before) top rest h)) (sym (c .before .is-too-deep .ensures) ∙ c .if2 .taken) place)
 
 copy-trie-requires : tie.Need-copy-trie-requires
 copy-trie-requires c κs =

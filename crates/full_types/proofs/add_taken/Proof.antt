@@ -12,7 +12,7 @@ use mathlib.Core.Path.{_∙_, sym}
 use borrow.Author.Tests.{not-true, not-false}
 use Rattle.schema.specs.Items.{itemsOf}
 use Rattle.full_types.specs.Pairs.{pairPlace, pairType}
-use Rattle.full_types.specs.FullLaws.{AddingTaken, adding-none, adding-all, adding-over, adding-next, pair-at, taken-path, taken-near}
+use Rattle.full_types.specs.FullLaws.{AddingTaken, adding-none, pairs-added, pairs-over, pairs-next, pair-at, taken-path, taken-near}
 use Rattle.full_types.proofs.add_taken.Statement.{statement}
 use Rattle.full_types.proofs.add_taken.Tie as tie
 
@@ -75,7 +75,7 @@ same-length : tie.Need-same-length Inv-loop μ-loop
 same-length c = added (c .before .before .before) .still .state-length ∙ sym (c .before .before .before .before .before .before .before .before .before .before .before .before .before .before .before .pre .state .state-length)
 
 returns : tie.Need-returns Inv-loop μ-loop
-returns c = adding-over (c .before .before .before .before .before .before .before .before .before .loop .inv) (c .before .before .before .before .before .before .before .before .loop-test .taken) (added (c .before .before .before)) (not-true _ (c .if1 .taken))
+returns c = pairs-over (c .before .before .before .before .before .before .before .before .before .loop .inv) (c .before .before .before .before .before .before .before .before .loop-test .taken) (added (c .before .before .before)) (not-true _ (c .if1 .taken))
 
 add-i : tie.Need-add-i Inv-loop μ-loop
 add-i c = search needs
@@ -84,13 +84,13 @@ loop-less : tie.Need-loop-less Inv-loop μ-loop
 loop-less c = search needs
 
 loop-again : tie.Need-loop-again Inv-loop μ-loop
-loop-again c = adding-next (c .before .before .before .before .before .before .before .before .before .loop .inv) (c .before .before .before .before .before .before .before .before .loop-test .taken) (added (c .before .before .before)) (not-false _ (c .if1 .left))
+loop-again c = pairs-next (c .before .before .before .before .before .before .before .before .before .loop .inv) (c .before .before .before .before .before .before .before .before .loop-test .taken) (added (c .before .before .before)) (not-false _ (c .if1 .left))
 
 same-length-2 : tie.Need-same-length-2 Inv-loop μ-loop
 same-length-2 c = c .before .loop .inv .state .state-length ∙ sym (c .before .before .before .before .before .before .before .pre .state .state-length)
 
 returns-2 : tie.Need-returns-2 Inv-loop μ-loop
-returns-2 c = adding-all (c .before .loop .inv) (c .loop-test .left)
+returns-2 c = pairs-added (c .before .loop .inv) (c .loop-test .left)
 
 pub add-taken-spec : {M : Type 1} → statement M
 add-taken-spec =

@@ -2,7 +2,7 @@
 -- Assumes nothing.
 use native.Mathlib.Omega.{arith}
 use borrow.Author.Needs.{needs}
-use Rattle.full_types.specs.FullLaws.{too-many, too-many-sized, few-sized}
+use Rattle.full_types.specs.FullLaws.{pairs-too-many, too-many-sized, few-sized}
 use Rattle.type_table.specs.TypeTableLaws.{tabled-inside}
 use Rattle.full_types.proofs.add_typed.Statement.{statement}
 use Rattle.full_types.proofs.add_typed.Tie as tie
@@ -16,7 +16,7 @@ returns : tie.Need-returns
 returns c =
     let start = c .before .before .before .before .before .before in
     let sized = start .pre .type .types .tabled .1 (start .args .t) (start .pre .type .known) in
-    too-many (start .args .words .now) (start .args .trie .now) (start .args .path .now) (start .args .t) (start .pre .state)
+    pairs-too-many (start .args .words .now) (start .args .trie .now) (start .args .path .now) (start .args .t) (start .pre .state)
     (too-many-sized sized (rw (c .before .size-at .ensures .1 .1) at (c .if1 .taken)))
 
 slice-aggregate-add-typed-by : tie.Need-slice-aggregate-add-typed-by

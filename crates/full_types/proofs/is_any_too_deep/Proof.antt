@@ -8,7 +8,7 @@ use lib.ListN.{length, getD}
 use Rattle.wrapped_paths.specs.Code.{stepsAt}
 use Rattle.type_table.specs.Tables.{typeDepth}
 use Rattle.full_types.specs.Pairs.{pairPlace, pairType}
-use Rattle.full_types.specs.FullLaws.{LookingTaken, looking-none, looking-all, looking-deep, looking-next, pair-at}
+use Rattle.full_types.specs.FullLaws.{LookingTaken, looking-none, pairs-looked, pairs-deep, pairs-look-next, pair-at}
 use Rattle.full_types.proofs.is_any_too_deep.Statement.{statement}
 use Rattle.full_types.proofs.is_any_too_deep.Tie as tie
 
@@ -59,7 +59,7 @@ add-if1 : tie.Need-add-if1 Inv-loop μ-loop
 add-if1 c = omega (arith, pair (c .before .before .before .before .before), steps (c .before .before), deep (c .before))
 
 returns : tie.Need-returns Inv-loop μ-loop
-returns c = looking-deep (c .before .before .before .before .before .before .before .loop .inv) (c .before .before .before .before .before .before .loop-test .taken) (rw (steps (c .before .before .before), deep (c .before .before)) at (c .if1 .taken))
+returns c = pairs-deep (c .before .before .before .before .before .before .before .loop .inv) (c .before .before .before .before .before .before .loop-test .taken) (rw (steps (c .before .before .before), deep (c .before .before)) at (c .if1 .taken))
 
 add-i : tie.Need-add-i Inv-loop μ-loop
 add-i c = search needs
@@ -68,10 +68,10 @@ loop-less : tie.Need-loop-less Inv-loop μ-loop
 loop-less c = search needs
 
 loop-again : tie.Need-loop-again Inv-loop μ-loop
-loop-again c = looking-next (c .before .before .before .before .before .before .before .loop .inv) (c .before .before .before .before .before .before .loop-test .taken) (rw (steps (c .before .before .before), deep (c .before .before)) at (c .if1 .left))
+loop-again c = pairs-look-next (c .before .before .before .before .before .before .before .loop .inv) (c .before .before .before .before .before .before .loop-test .taken) (rw (steps (c .before .before .before), deep (c .before .before)) at (c .if1 .left))
 
 returns-2 : tie.Need-returns-2 Inv-loop μ-loop
-returns-2 c = looking-all (c .before .loop .inv) (c .loop-test .left)
+returns-2 c = pairs-looked (c .before .loop .inv) (c .loop-test .left)
 
 pub is-any-too-deep-spec : {M : Type 1} → statement M
 is-any-too-deep-spec =

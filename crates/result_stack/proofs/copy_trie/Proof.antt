@@ -1,9 +1,9 @@
--- `result_stack::copy_trie` meets its contract: as many words as the trie has are copied.
+-- `result_stack::copy_trie` meets its contract: as many words as the trie has are trie-copied.
 -- Assumes nothing.
 use Prim.Native.Nat.{_-_}
 use native.Mathlib.Omega.{arith}
 use lib.ListN.{drop, length-take}
-use Rattle.result_stack.specs.StackLaws.{at-few, copied}
+use Rattle.result_stack.specs.StackLaws.{at-few, trie-copied}
 use borrow.Author.Needs.{needs}
 use Rattle.result_stack.proofs.copy_trie.Statement.{statement}
 use Rattle.result_stack.proofs.copy_trie.Tie as tie
@@ -41,7 +41,7 @@ same-length c = search needs
 returns : tie.Need-returns
 returns c =
     let start = c .before .before .before .before .before .before .before .before in
-    copied (start .pre .0) (start .pre .1) (c .before .before .before .before .before .trie-end .ensures .0) (c .before .before .copy-words .ensures)
+    trie-copied (start .pre .0) (start .pre .1) (c .before .before .before .before .before .trie-end .ensures .0) (c .before .before .copy-words .ensures)
 
 pub copy-trie-spec : {M : Type 1} → statement M
 copy-trie-spec =

@@ -10,12 +10,12 @@ use lib.Seq.{getD-set-same}
 use Rattle.rules.specs.Tries.{union}
 use Rattle.rows.specs.States.{rowsOf, rowsIn}
 use Rattle.path_tries.specs.Nodes.{Became}
-use Rattle.result_stack.specs.StackLaws.{at-within, Going, going-first, going-at, going-nodes, going-next, going-over, going-done}
+use Rattle.result_stack.specs.StackLaws.{at-within, MergingTries, going-first, going-at, going-nodes, going-next, going-over, merging-done}
 use Rattle.result_stack.proofs.merge_tries.Statement.{statement}
 use Rattle.result_stack.proofs.merge_tries.Tie as tie
 
 abbrev Inv-loop : tie.InvT-loop
-Inv-loop tries at count merged₀ end₀ i₀ merged end i = Going tries at count merged end i
+Inv-loop tries at count merged₀ end₀ i₀ merged end i = MergingTries tries at count merged end i
 
 abbrev μ-loop : tie.MeasureT-loop
 μ-loop tries at count merged₀ end₀ i₀ merged end i = count - i
@@ -121,7 +121,7 @@ same-length-4 c = c .before .before .before .before .before .before .loop .inv .
 returns-2 : tie.Need-returns-2 Inv-loop μ-loop
 returns-2 c =
     let at-loop = c .before .before .before .before .before .before in
-    going-done (at-loop .loop .inv) (c .before .before .before .before .before .loop-test .left) (c .before .before .put-trie .ensures)
+    merging-done (at-loop .loop .inv) (c .before .before .before .before .before .loop-test .left) (c .before .before .put-trie .ensures)
 
 pub merge-tries-spec : {M : Type 1} → statement M
 merge-tries-spec =

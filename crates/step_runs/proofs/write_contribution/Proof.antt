@@ -4,13 +4,13 @@ use Prim.Native.Nat.{_+_, _≤_}
 use native.Mathlib.Omega.{arith}
 use lib.ListN.{length, getD, length-set}
 use borrow.Author.Needs.{needs}
-use Rattle.step_runs.specs.StepRunLaws.{trie-within, trie-fits, trie-written}
+use Rattle.step_runs.specs.StepRunLaws.{contribution-within, trie-fits, trie-written}
 use Rattle.step_runs.proofs.write_contribution.Statement.{statement}
 use Rattle.step_runs.proofs.write_contribution.Tie as tie
 
 -- the trie stands in the words
 within : (c : tie.Start) → (getD (c .args .tries .now) (c .args .at) 0 ≤ 1024) × (c .args .at + 1 + getD (c .args .tries .now) (c .args .at) 0 ≤ length (c .args .tries .now))
-within c = trie-within (c .args .tries .now) (c .args .at) (c .pre .0)
+within c = contribution-within (c .args .tries .now) (c .args .at) (c .pre .0)
 
 mul-count : tie.Need-mul-count
 mul-count c = omega (arith, within (c .before .before), c .before .before .good .1 .0)

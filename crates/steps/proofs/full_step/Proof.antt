@@ -15,7 +15,7 @@ use Rattle.full_types.specs.Required.{TypesTook}
 use Rattle.result_stack.specs.Stacks.{stackPaths, Held}
 use Rattle.wrap_steps.specs.WrapLaws.{held-top, code-end-room, tries-end-room}
 use Rattle.steps.specs.FullStepLaws.{full-missing, full-few, full-mismatch, full-places, full-paths, full-judging, full-rows, full-done}
-use Rattle.result_stack.specs.JudgingLaws.{too-deep, copied-top}
+use Rattle.result_stack.specs.JudgingLaws.{judging-deep, copied-top}
 use Rattle.result_stack.specs.StackLaws.{top-code, top-at, tries-end, top-stands}
 use borrow.Author.Needs.{needs}
 use Rattle.steps.proofs.full_step.Statement.{statement}
@@ -131,7 +131,7 @@ returns-4 c results held place =
     let start = type-test .before .before .before .before .before .before in
     let (top, rest, same, h) = topped some-there results held in
     rw same
-    (too-deep (full-judging (start .args .words .now) (start .pre .0 .good-items) (start .args .t) (known type-test) h (took at-pairs top rest h))
+    (judging-deep (full-judging (start .args .words .now) (start .pre .0 .good-items) (start .args .t) (known type-test) h (took at-pairs top rest h))
     ((sym (at-deep .is-any-too-deep .ensures (start .args .words .now) (typesIn (itemsOf (start .args .words .now))) (types start .tabled) (took at-pairs top rest h .all-pairs))) ∙ c .if3 .taken) place)
 
 copy-trie-requires : tie.Need-copy-trie-requires

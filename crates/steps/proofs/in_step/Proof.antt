@@ -15,7 +15,7 @@ use Rattle.path_tries.specs.Nodes.{anyDeep}
 use Rattle.result_stack.specs.Stacks.{stackPaths, Held}
 use Rattle.wrap_steps.specs.WrapLaws.{two-few, code-end-room, tries-end-room}
 use Rattle.steps.specs.AncestorLaws.{held-two, longest-short, in-judging, in-over, in-rows, in-done}
-use Rattle.result_stack.specs.JudgingLaws.{too-deep, copied-top, run-nodes, run-rows}
+use Rattle.result_stack.specs.JudgingLaws.{judging-deep, copied-top, judging-nodes, run-rows}
 use Rattle.result_stack.specs.StackLaws.{at-within, below-held, top-code, top-good, top-stands, top-standing, top-at, code-end, tries-end}
 use borrow.Author.Needs.{needs}
 use Rattle.steps.proofs.in_step.Statement.{statement}
@@ -141,7 +141,7 @@ returns-2 c results held place =
     let enough = at-right .before .before .before in
     let (right, left, rest, same, h) = two enough results held in
     rw same
-    (too-deep (in-judging h ((found-left at-left right left rest h) .there) ((found-right at-right right (left ∷ rest) h) .there))
+    (judging-deep (in-judging h ((found-left at-left right left rest h) .there) ((found-right at-right right (left ∷ rest) h) .there))
     (deep-told at-deep ∙ c .if2 .taken) place)
 
 trie-end-requires : tie.Need-trie-end-requires
@@ -265,7 +265,7 @@ union-into-requires c κs =
     let enough = at-end .before .before .before .before .before .before .before .before .before .before .before .before .before .before .before .before .before .before in
     let start = enough .before .before .before .before .before in
     let (right, left, rest, same, held) = two enough (start .pre .holding .results) (start .pre .holding .held) in
-    (at-ancestors .with-ancestors-required .ensures .still, run-nodes held (at-end .trie-end .ensures .0))
+    (at-ancestors .with-ancestors-required .ensures .still, judging-nodes held (at-end .trie-end .ensures .0))
 
 same-length-5 : tie.Need-same-length-5
 same-length-5 c = search needs

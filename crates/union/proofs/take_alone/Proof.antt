@@ -5,7 +5,7 @@ use borrow.Author.Needs.{needs}
 use lib.ListN.{length}
 use Rattle.rules.specs.Facts.{compared}
 use Rattle.union.specs.Merge.{keyAt}
-use Rattle.union.specs.MergeLaws.{first-in, second-in, stored-left, stored-right, room-left, room-right}
+use Rattle.union.specs.MergeLaws.{first-in, second-in, stored-left, stored-right, merge-room-left, room-right}
 use Rattle.union.proofs.take_alone.Statement.{statement}
 use Rattle.union.proofs.take_alone.Tie as tie
 
@@ -37,7 +37,7 @@ key-at-requires-2 : tie.Need-key-at-requires-2
 key-at-requires-2 c κs = search needs
 
 copy-trie-requires : tie.Need-copy-trie-requires
-copy-trie-requires c κs = (left-next (c .before) .0, room-left (start (c .before .before) .pre .0))
+copy-trie-requires c κs = (left-next (c .before) .0, merge-room-left (start (c .before .before) .pre .0))
 
 sub-t12 : tie.Need-sub-t12
 sub-t12 c = search needs

@@ -7,7 +7,7 @@ use lib.ListN.{length}
 use Rattle.union.specs.Unions.{unionWords}
 use Rattle.union.specs.Merge.{left}
 use Rattle.rows.specs.States.{Counted}
-use Rattle.union.specs.MergeLaws.{left-ended, counted-none, counted-entry, counted-node}
+use Rattle.union.specs.MergeLaws.{left-ended, size-none, size-entry, size-node}
 use Rattle.union.proofs.union_size.Statement.{statement}
 use Rattle.union.proofs.union_size.Tie as tie
 
@@ -19,7 +19,7 @@ abbrev μ-loop : tie.MeasureT-loop
 μ-loop a b entries₀ nodes₀ i₀ j₀ entries nodes i j = length a + length b - (i + j)
 
 loop-holds : tie.Need-loop-holds Inv-loop μ-loop
-loop-holds c = (omega arith, omega arith, omega arith, counted-none _ _)
+loop-holds c = (omega arith, omega arith, omega arith, size-none _ _)
 
 next-key-requires : tie.Need-next-key-requires Inv-loop μ-loop
 next-key-requires c κs = search needs
@@ -43,7 +43,7 @@ loop-again : tie.Need-loop-again Inv-loop μ-loop
 loop-again c =
     let turn = c .before .before .next-row .ensures in
     let inv = c .before .before .before .before .before .loop .inv in
-    (turn .in-a, turn .in-b, omega (arith, inv .2, turn .more), counted-entry (inv .3) turn (sym (c .before .depth .ensures) ∙ c .if2 .taken))
+    (turn .in-a, turn .in-b, omega (arith, inv .2, turn .more), size-entry (inv .3) turn (sym (c .before .depth .ensures) ∙ c .if2 .taken))
 
 loop-less-2 : tie.Need-loop-less-2 Inv-loop μ-loop
 loop-less-2 c = search needs
@@ -52,7 +52,7 @@ loop-again-2 : tie.Need-loop-again-2 Inv-loop μ-loop
 loop-again-2 c =
     let turn = c .before .before .next-row .ensures in
     let inv = c .before .before .before .before .before .loop .inv in
-    (turn .in-a, turn .in-b, omega (arith, inv .2, turn .more), counted-node (inv .3) turn (λ e. c .if2 .left (c .before .depth .ensures ∙ e)))
+    (turn .in-a, turn .in-b, omega (arith, inv .2, turn .more), size-node (inv .3) turn (λ e. c .if2 .left (c .before .depth .ensures ∙ e)))
 
 returns : tie.Need-returns Inv-loop μ-loop
 returns c =

@@ -8,7 +8,7 @@ use Rattle.rules.specs.StepLaws.{grownIn}
 use Rattle.wrapped_paths.specs.Code.{code}
 use Rattle.wrapped_paths.specs.declared.Turn.the-variants.{Next}
 use Rattle.wrapped_paths.specs.Turns.{Turned, sidesOf}
-use Rattle.wrapped_paths.specs.AttrLaws.{Going, Extending, extending-first, going-few, going-done, going-within, going-more, going-refused, going-room, going-fits, going-on, going-turn}
+use Rattle.wrapped_paths.specs.AttrLaws.{ExtendingPaths, Extending, extending-first, going-few, extending-done, going-within, going-more, going-refused, going-room, going-fits, going-on, going-turn}
 use borrow.Author.Needs.{needs}
 use Rattle.wrapped_paths.proofs.get_or_has_attr.Statement.{statement}
 use Rattle.wrapped_paths.proofs.get_or_has_attr.Tie as tie
@@ -24,7 +24,7 @@ going :
     (c : tie.At-loop Inv-loop μ-loop) →
     let start = c .before .before .before .before in
     let l = c .loop in
-    Going (start .args .code .now) (start .pre .0 .result .rest) (start .args .name) (start .pre .0 .result .paths) (l .out) (l .places) (l .from) (l .to) (l .left) (l .grown)
+    ExtendingPaths (start .args .code .now) (start .pre .0 .result .rest) (start .args .name) (start .pre .0 .result .paths) (l .out) (l .places) (l .from) (l .to) (l .left) (l .grown)
 going c = let p = c .before .before .before .before .pre .0 .result in c .loop .inv .1 .1 (p .paths) (p .rest) (p .coded)
 
 large :
@@ -51,7 +51,7 @@ after :
     let l = c .before .before .before .before .before .before .before .before .before .before .before .before .before .before .before .loop in
     let moved = c .before .before .before .before .before .before .moved .given .0 .0 in
     let noted = c .before .before .before .note-path in
-    Going (start .args .code .now) (start .pre .0 .result .rest) (start .args .name) (start .pre .0 .result .paths) (c .before .before .before .before .before .before .before .before .before .before .extend .last .1 .1 .1 .1 .0) (noted .last .1 .1 .0) (moved .from) (moved .to) (l .left - 1 + sidesOf (c .before .before .before .before .before .before .before .before .before .before .before .before .of .result)) (noted .result)
+    ExtendingPaths (start .args .code .now) (start .pre .0 .result .rest) (start .args .name) (start .pre .0 .result .paths) (c .before .before .before .before .before .before .before .before .before .before .extend .last .1 .1 .1 .1 .0) (noted .last .1 .1 .0) (moved .from) (moved .to) (l .left - 1 + sidesOf (c .before .before .before .before .before .before .before .before .before .before .before .before .of .result)) (noted .result)
 after c = going-turn (going (c .before .before .before .before .before .before .before .before .before .before .before .before .before .before .before)) (c .before .before .before .before .before .before .before .before .before .before .before .before .before .before .loop-test .taken) (c .before .before .before .before .before .before .before .before .before .before .before .before .of .ensures .0) (turned (c .before .before .before .before .before .before)) (fits (c .before .before .before .before .before .before)) (c .before .before .before .note-path .ensures)
 
 loop-holds : tie.Need-loop-holds Inv-loop μ-loop
@@ -109,7 +109,7 @@ same-length-4 : tie.Need-same-length-4 Inv-loop μ-loop
 same-length-4 c = c .before .loop .inv .1 .0 ∙ sym (c .before .before .before .before .before .pre .1)
 
 returns-2 : tie.Need-returns-2 Inv-loop μ-loop
-returns-2 c = λ paths rest e. going-done (c .before .loop .inv .1 .1 paths rest e) (c .loop-test .left)
+returns-2 c = λ paths rest e. extending-done (c .before .loop .inv .1 .1 paths rest e) (c .loop-test .left)
 
 pub get-or-has-attr-spec : {M : Type 1} → statement M
 get-or-has-attr-spec =

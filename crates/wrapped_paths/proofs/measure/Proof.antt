@@ -4,7 +4,7 @@ use Rattle.wrapped_paths.specs.Code.{sizeOf, wrapsOf}
 use Prim.Native.Nat.{_+_, _-_, _≤_}
 use native.Mathlib.Omega.{arith}
 use lib.ListN.{length}
-use Rattle.wrapped_paths.specs.CodeLaws.{Left, Measuring, measuring-first, measured, left-few, nodes-few, left-within, left-room, left-next}
+use Rattle.wrapped_paths.specs.CodeLaws.{HeadsLeft, Measuring, measuring-first, measured, left-few, nodes-few, left-within, left-room, left-next}
 use borrow.Author.Needs.{needs}
 use Rattle.wrapped_paths.proofs.measure.Statement.{statement}
 use Rattle.wrapped_paths.proofs.measure.Tie as tie
@@ -20,7 +20,7 @@ standing :
     (c : tie.At-loop Inv-loop μ-loop) →
     let a = c .before .before .args in
     let p = c .before .before .pre in
-    Left (a .code .now) (p .paths) (p .rest) (a .at) (c .loop .from) (c .loop .left) (c .loop .nodes)
+    HeadsLeft (a .code .now) (p .paths) (p .rest) (a .at) (c .loop .from) (c .loop .left) (c .loop .nodes)
 standing c = let p = c .before .before .pre in c .loop .inv (p .paths) (p .rest) (p .as-many) (p .coded)
 
 -- the next head's words are there
@@ -35,7 +35,7 @@ after :
     let start = c .before .before .before .before .before .before .before in
     let loop = c .before .before .before .before .before .loop in
     let h = c .before .before .of .result in
-    Left (start .args .code .now) (start .pre .paths) (start .pre .rest) (start .args .at) (loop .from + (1 + sizeOf h)) (loop .left - 1 + wrapsOf h) (loop .nodes + 1)
+    HeadsLeft (start .args .code .now) (start .pre .paths) (start .pre .rest) (start .args .at) (loop .from + (1 + sizeOf h)) (loop .left - 1 + wrapsOf h) (loop .nodes + 1)
 after c = left-next (standing (c .before .before .before .before .before)) (c .before .before .before .before .loop-test .taken) (c .before .before .of .ensures .0)
 
 loop-holds : tie.Need-loop-holds Inv-loop μ-loop

@@ -8,7 +8,7 @@ use mathlib.Core.Bool.{cond, _&&_, and-true, and-false}
 use mathlib.Core.Path.{_≡_, sym, _∙_}
 use lib.Dec.{leb, eqb}
 use Rattle.rows.specs.States.{formOf, lawfulState}
-use Rattle.rows.proofs.LawfulLaws.{within, lawful-short, lawful-found}
+use Rattle.rows.proofs.LawfulLaws.{limitsMet, lawful-short, lawful-found}
 use Rattle.rows.proofs.lawful.is_lawful.Statement.{statement}
 use Rattle.rows.proofs.lawful.is_lawful.Tie as tie
 
@@ -41,7 +41,7 @@ found-judged :
     (c : tie.After-count-rows) →
     let a = c .before .before .before .before .before .before .args in
     let found = c .count-rows .result in
-    lawfulState (formOf (a .kind)) (a .state .now) ≡ found .ordered && within (formOf (a .kind)) (found .entries) (found .nodes)
+    lawfulState (formOf (a .kind)) (a .state .now) ≡ found .ordered && limitsMet (formOf (a .kind)) (found .entries) (found .nodes)
 found-judged c =
     let (judged, counts) = c .count-rows .ensures in
     lawful-found _ _ (omega arith) (rw add-sub-cancel) judged (counts .0) (counts .1)
@@ -60,7 +60,7 @@ returns-4 c =
     let over = lt-leb _ _ (c .if4 .taken) in
     sym (found-judged (c .before .before .before .before .before .before) ∙ rw (← limits .ensures .2, over, and-false, and-false))
 
--- rows in order with nodes within the limit are judged by their entries
+-- rows in order with nodes limitsMet the limit are judged by their entries
 entries-judged :
     (c : tie.Else4) →
     let before = c .before .before .before .before .before .before in

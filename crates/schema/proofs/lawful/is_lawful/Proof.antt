@@ -2,14 +2,14 @@
 -- Assumes nothing.
 use native.Mathlib.Omega.{arith}
 use mathlib.Core.Path.{sym, _∙_}
-use Rattle.schema.specs.ItemLaws.{lawful-short, lawful-over, lawful-words}
+use Rattle.schema.specs.ItemLaws.{schema-too-short, lawful-over, lawful-words}
 use native.Mathlib.Nat.{add-sub-cancel}
 use borrow.Author.Needs.{needs}
 use Rattle.schema.proofs.lawful.is_lawful.Statement.{statement}
 use Rattle.schema.proofs.lawful.is_lawful.Tie as tie
 
 returns : tie.Need-returns
-returns c = sym (lawful-short (c .before .before .args .state .now) (c .if1 .taken))
+returns c = sym (schema-too-short (c .before .before .args .state .now) (c .if1 .taken))
 
 shared-slice-read-count : tie.Need-shared-slice-read-count
 shared-slice-read-count c = search needs

@@ -9,7 +9,7 @@ use lib.Seq.{length-take-le, take-all}
 use Rattle.rules.specs.Text.{decimalOf}
 use Rattle.rules.specs.Schema.{valueOf}
 use Rattle.text.specs.Answers.{numberOf}
-use Rattle.schema.specs.Items.{fieldsBehind}
+use Rattle.schema.specs.Items.{fieldsAfterKind}
 use borrow.Author.Needs.{needs}
 use Rattle.schema.proofs.line.typed.Statement.{statement}
 use Rattle.schema.proofs.line.typed.Tie as tie
@@ -32,7 +32,7 @@ number-read c = sym (c .before .before .read .ensures) ∙ ap numberOf (c .key .
 kind-read : (c : tie.After-tag) → decimalOf (take (c .before .before .before .before .before .before .before .before .kind-end .result) (c .before .before .before .before .before .before .before .before .before .before .before .args .rest .now)) ≡ some (c .tag .given .0 .0)
 kind-read c = sym (c .before .before .read2 .ensures) ∙ ap numberOf (c .tag .given .1)
 
-value-read : (c : tie.After-value) → valueOf (c .before .before .before .before .before .tag .given .0 .0) (fieldsBehind (drop (c .before .before .before .before .before .before .before .before .before .before .before .before .before .kind-end .result) (c .before .before .before .before .before .before .before .before .before .before .before .before .before .before .before .before .args .rest .now))) ≡ some (c .value .given .0 .0)
+value-read : (c : tie.After-value) → valueOf (c .before .before .before .before .before .tag .given .0 .0) (fieldsAfterKind (drop (c .before .before .before .before .before .before .before .before .before .before .before .before .before .kind-end .result) (c .before .before .before .before .before .before .before .before .before .before .before .before .before .before .before .before .args .rest .now))) ≡ some (c .value .given .0 .0)
 value-read c = sym (rw (behind-all (c .before .before .before .before .before .before .before .before .before .before .before .before .before)) at (c .before .before .value-of .ensures)) ∙ ap numberOf (c .value .given .1)
 
 kind-end-requires : tie.Need-kind-end-requires

@@ -9,7 +9,7 @@ use mathlib.Core.Logic.{inl, inr, ⊎-elim}
 use lib.ListN.{length, take, drop, length-drop}
 use lib.Seq.{take-all}
 use Rattle.rules.specs.Schema.{valueOf}
-use Rattle.schema.specs.Items.{fieldsBehind}
+use Rattle.schema.specs.Items.{fieldsAfterKind}
 use Rattle.schema.specs.LineLaws.{behind-none, behind-tab}
 use borrow.Author.Needs.{needs}
 use Rattle.schema.proofs.line.value_of.Statement.{statement}
@@ -28,7 +28,7 @@ valued-requires : tie.Need-valued-requires
 valued-requires c κs = search needs
 
 -- nothing is behind the kind
-no-more : (c : tie.Else1) → fieldsBehind (c .before .before .args .behind .now) ≡ []
+no-more : (c : tie.Else1) → fieldsAfterKind (c .before .before .args .behind .now) ≡ []
 no-more c = behind-none (c .before .before .args .behind .now) (omega (arith, c .if1 .left))
 
 returns : tie.Need-returns

@@ -8,13 +8,13 @@ use mathlib.Core.Logic.{⊎-elim}
 use Rattle.text.specs.declared.Line.the-variants.{Whole}
 use Rattle.text.proofs.Laws.{whole-within}
 use Rattle.schema.specs.ItemLaws.{bounded-none}
-use Rattle.schema.specs.ReadLaws.{Reading, reading-none, few-items, reading-all, reading-cut, reading-stopped, reading-next}
+use Rattle.schema.specs.ReadLaws.{ReadingItems, items-none, few-items, items-all, reading-cut, items-stopped, items-next}
 use borrow.Author.Needs.{needs}
 use Rattle.schema.proofs.reading.read_items.Statement.{statement}
 use Rattle.schema.proofs.reading.read_items.Tie as tie
 
 abbrev Inv-loop : tie.InvT-loop
-Inv-loop text words₀ known₀ count₀ at₀ words known count at = Reading text known words at count × (length words ≡ length words₀)
+Inv-loop text words₀ known₀ count₀ at₀ words known count at = ReadingItems text known words at count × (length words ≡ length words₀)
 
 abbrev μ-loop : tie.MeasureT-loop
 μ-loop text words₀ known₀ count₀ at₀ words known count at = length text - at
@@ -29,7 +29,7 @@ new-requires c κs = search needs
 loop-holds : tie.Need-loop-holds Inv-loop μ-loop
 loop-holds c =
     let s = c .before .before .before in
-    (reading-none (s .args .text .now) (s .args .words .now) _ (c .new .ensures) bounded-none (s .pre), refl)
+    (items-none (s .args .text .now) (s .args .words .now) _ (c .new .ensures) bounded-none (s .pre), refl)
 
 at-requires : tie.Need-at-requires Inv-loop μ-loop
 at-requires c κs = search needs
@@ -68,7 +68,7 @@ same-length-2 c = c .before .before .before .before .take-line .kept .1 .0 ∙ c
 
 returns-2 : tie.Need-returns-2 Inv-loop μ-loop
 returns-2 c = (
-  reading-stopped (c .before .before .before .before .before .before .before .before .before .before .before .before .loop .inv .0) (c .before .before .before .before .before .before .before .before .before .before .at .ensures) (c .before .before .before .before .before .before .before .before .end .given .1) (rw (c .enum-told .given .1) at (c .before .before .before .before .take-line .ensures)),
+  items-stopped (c .before .before .before .before .before .before .before .before .before .before .before .before .loop .inv .0) (c .before .before .before .before .before .before .before .before .before .before .at .ensures) (c .before .before .before .before .before .before .before .before .end .given .1) (rw (c .enum-told .given .1) at (c .before .before .before .before .take-line .ensures)),
   omega arith,
 )
 
@@ -85,13 +85,13 @@ loop-again : tie.Need-loop-again Inv-loop μ-loop
 loop-again c =
     let (reading, kept) = c .before .before .before .before .before .before .before .before .before .before .before .before .before .loop .inv in
     let passed = rw (c .before .took .given .1) at (c .before .before .before .before .before .take-line .ensures) in
-    (reading-next reading (c .before .before .before .before .before .before .before .before .before .before .before .at .ensures) (c .before .before .before .before .before .before .before .before .before .end .given .1) passed, c .before .before .before .before .before .take-line .kept .1 .0 ∙ kept)
+    (items-next reading (c .before .before .before .before .before .before .before .before .before .before .before .at .ensures) (c .before .before .before .before .before .before .before .before .before .end .given .1) passed, c .before .before .before .before .before .take-line .kept .1 .0 ∙ kept)
 
 same-length-3 : tie.Need-same-length-3 Inv-loop μ-loop
 same-length-3 c = c .before .loop .inv .1
 
 returns-3 : tie.Need-returns-3 Inv-loop μ-loop
-returns-3 c = (reading-all (c .before .loop .inv .0) (c .loop-test .left), few-items (c .before .loop .inv .0))
+returns-3 c = (items-all (c .before .loop .inv .0) (c .loop-test .left), few-items (c .before .loop .inv .0))
 
 pub read-items-spec : {M : Type 1} → statement M
 read-items-spec =

@@ -12,7 +12,7 @@ use mathlib.Core.Bool.{false}
 use lib.Dec.{ltb}
 use lib.ListN.{length, take, drop, length-set}
 use Rattle.rules.specs.Text.{decimalOf}
-use Rattle.text.specs.Answers.{numberOf, Kept}
+use Rattle.text.specs.Answers.{numberOf, NamesKept}
 use Rattle.text.proofs.NameLaws.{Scanned, scanned, Naming, naming-first, naming-past, naming-bad, naming-low, naming-room, naming-full, naming-next, naming-last}
 use Rattle.text.proofs.Laws.{value-most}
 use Rattle.text.proofs.Names.read.Statement.{statement}
@@ -44,7 +44,7 @@ most c = value-most _ _ _ (c .before .before .read .ensures) (c .name .given .1)
 keeps : (c : tie.Joined2 Inv-loop μ-loop) →
     let name = c .before .before .before in
     let naming = name .before .before .before .before .before .before .loop .inv .2 in
-    Kept (some (naming .done ++ (name .name .given .0 .0 ∷ []))) (c .if2 .names)
+    NamesKept (some (naming .done ++ (name .name .given .0 .0 ∷ []))) (c .if2 .names)
 keeps c =
     let name = c .before .before .before in
     let naming = name .before .before .before .before .before .before .loop .inv .2 in

@@ -11,13 +11,13 @@ use Rattle.rules.specs.Schema.{readSchema}
 use Rattle.words.specs.RunLaws.{by-parts, counted, copied}
 use Rattle.words.specs.Runs.{stored}
 use Rattle.schema.specs.Reads.{itemWords}
-use Rattle.schema.specs.ReadLaws.{read-short, read-refused, read-stored}
+use Rattle.schema.specs.ReadLaws.{schema-short, schema-refused, schema-stored}
 use borrow.Author.Needs.{needs}
 use Rattle.schema.proofs.reading.Schema.read.Statement.{statement}
 use Rattle.schema.proofs.reading.Schema.read.Tie as tie
 
 returns : tie.Need-returns
-returns c = let a = c .before .before .before .args in by-parts (read-short (a .text .now) (a .out .now) (c .if1 .taken))
+returns c = let a = c .before .before .before .args in by-parts (schema-short (a .text .now) (a .out .now) (c .if1 .taken))
 
 -- what was read, where it is items: their words are stored, and fit a state
 words-read :
@@ -58,7 +58,7 @@ copy-rows-requires c κs =
 returns-2 : tie.Need-returns-2
 returns-2 c =
     let a = c .before .before .before .before .before .before .before .before .before .args in
-    by-parts (read-refused (a .text .now) (a .out .now) (c .before .before .before .before .before .before .if1 .left) (rw (c .before .line .given .1) at (c .before .before .before .before .read-items .ensures .0)))
+    by-parts (schema-refused (a .text .now) (a .out .now) (c .before .before .before .before .before .before .if1 .left) (rw (c .before .line .given .1) at (c .before .before .before .before .read-items .ensures .0)))
 
 same-length : tie.Need-same-length
 same-length c = c .before .before .copy-rows .kept .1 .0
@@ -67,7 +67,7 @@ returns-3 : tie.Need-returns-3
 returns-3 c =
     let a = c .before .before .before .before .before .before .before .before .before .before .before .before .before .before .args in
     let read = c .before .before .before .before .before .before in
-    let (reply, buffer) = by-parts (read-stored (a .text .now) (a .out .now) (c .before .before .before .before .before .before .before .before .before .before .before .if1 .left) (words-read read)) in (
+    let (reply, buffer) = by-parts (schema-stored (a .text .now) (a .out .now) (c .before .before .before .before .before .before .before .before .before .before .before .if1 .left) (words-read read)) in (
       reply,
       c .before .before .copy-rows .ensures
           ∙ ap (λ (l : List ℕ). sets (a .out .now) 0 l) (copied (c .before .before .before .before .before .before .before .before .before .read-items .last .1 .0) (read .count .given .0 .0) (count-fits read))
