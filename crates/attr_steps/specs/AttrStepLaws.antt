@@ -22,8 +22,7 @@ use Rattle.path_tries.specs.Nodes.{Became, anyDeep}
 use Rattle.wrapped_paths.specs.Turns.{Growing}
 use Rattle.result_stack.specs.Stacks.{trieWords, Held, Reached, Placed, Scratch}
 use Rattle.result_stack.specs.declared.Stack.{Stack}
-use Rattle.result_stack.specs.StackLaws.{top-good, below, below-held, top-stands, code-end, tries-end}
-use Rattle.wrap_steps.specs.WrapLaws.{top-few}
+use Rattle.result_stack.specs.StackLaws.{top-good, below, below-held, top-stands, code-end, tries-end, top-few}
 use Rattle.result_stack.specs.JudgingLaws.{any-deep, none-deep, Judging, unfit, judging-stored}
 
 grown-some : (f : ℕ) (paths : Paths) → Each (λ path. 0 < length path) (grownIn f paths)

@@ -14,7 +14,7 @@ use Rattle.rules.specs.Numbers.{accepted, refused}
 use Rattle.rules.specs.Tries.{Row, at, union}
 use Rattle.rules.specs.TrieLaws.{Ordered, ordered-true, union-sum-length}
 use Rattle.rules.specs.Paths.{Paths, nodesOf, unionAll}
-use Rattle.rules.specs.Steps.{Result, result, judged, isTooDeep}
+use Rattle.rules.specs.Steps.{Result, result, judged, isTooDeep, twoStep}
 use Rattle.rules.specs.StepLaws.{Each, Plain, IsTrie, GoodResult, AllGood, all-length}
 use Rattle.rows.specs.Words.{rowIn, wordOf}
 use Rattle.rows.specs.WordLaws.{words-rows, row-word}
@@ -622,3 +622,34 @@ merging-done {words} {state} {words′} {place} {count} {end} {i} {start} going 
       there = p .there ∙ rw (there, ← same);
     })
     go (trie ∷ ahead) many there same = absurd (omega arith)
+
+-- ---- the top
+
+pub held-top :
+    {codeRun tries : List ℕ} {stack : Stack} (results : List Result)
+    → Held codeRun tries stack results
+    → 0 < stack .results
+    → (top : Result) × (rest : List Result) × (results ≡ top ∷ rest) × Held codeRun tries stack (top ∷ rest)
+held-top [] held some-result = absurd (omega (arith, held .layout .as-many))
+held-top (top ∷ rest) held some-result = (top, rest, refl, held)
+
+module _ {codeRun tries : List ℕ} {stack : Stack} {top : Result} {rest : List Result} (held : Held codeRun tries stack (top ∷ rest)) where
+  pub top-few : length rest < 32
+  top-few = omega (arith, held .few)
+
+  -- there is room for another top
+  pub code-end-room : {end : ℕ} → 256 ≤ stack .code → end ≡ below held .code → (0 < end) × (end ≤ length codeRun)
+  code-end-room room e = (omega arith, omega (arith, below-held held .layout .in-code))
+
+  pub tries-end-room : {end : ℕ} → 1025 ≤ stack .tries → end ≡ below held .tries → (1025 ≤ end) × (end ≤ length tries)
+  tries-end-room room e = (omega arith, omega (arith, below-held held .layout .in-tries))
+
+-- a step of two results finds fewer
+module _ {codeRun tries : List ℕ} {stack : Stack} (results : List Result) (held : Held codeRun tries stack results) where
+  pub two-few : (of : Result → Result → Result) → stack .results < 2 → (place : ℕ) → twoStep of place results ≡ refused 6 place
+  two-few of few place = go results (held .layout .as-many)
+    where
+      go : (results : List Result) → stack .results ≡ length results → twoStep of place results ≡ refused 6 place
+      go [] many = refl
+      go (right ∷ []) many = refl
+      go (right ∷ left ∷ rest) many = absurd (omega arith)

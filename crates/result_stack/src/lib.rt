@@ -4,7 +4,7 @@ ghost use Prim.Native.Nat.{_+_, _≤_, _<_};
 ghost use lib.ListN.{length, getD};
 ghost use Rattle.rows.specs.States.{rowsIn};
 ghost use Rattle.path_tries.specs.Nodes.{IsState};
-ghost use Rattle.result_stack.specs.Stacks.{Holding, Placed, TrieAt, CopiedFrom, trieWords, Pushed, TriesAt, MergedFrom};
+ghost use Rattle.result_stack.specs.Stacks.{Holding, Placed, TrieAt, CopiedFrom, trieWords, Pushed, TriesAt, MergedFrom, ReplacedBy};
 use path_tries::union_into;
 use words::copy_words;
 use wrapped_paths::WrappedAccessPaths;
@@ -124,4 +124,25 @@ pub fn merge_tries(tries: &mut [u64], at: usize, count: u64, merged: &mut [u64])
         i += 1;
     }
     put_trie(merged, tries, end)
+}
+
+// Puts a trie with empty paths in the place of results that end at two places.
+pub fn replace(
+    trie: &[u64],
+    code: &mut [u64],
+    code_end: usize,
+    tries: &mut [u64],
+    tries_end: usize,
+    results: u64,
+) -> Stepped
+    requires { ⌜ IsState (now trie) × ((0 < «code_end») × («code_end» ≤ length (now code))) ⌝ }
+    requires { ⌜ (getD (now trie) 0 0 < «tries_end») × («tries_end» ≤ length (now tries)) ⌝ }
+    ensures { λ r. ⌜ ReplacedBy (now (trie .entry)) (now (code .entry)) «code_end» (now (tries .entry)) «tries_end» results (now (code .exit)) (now (tries .exit)) r ⌝ }
+{
+    let empty = [WrappedAccessPaths::Empty.word()];
+    Stepped::Next(Stack {
+        code: put_before(&empty, code, code_end),
+        tries: put_trie(trie, tries, tries_end),
+        results,
+    })
 }

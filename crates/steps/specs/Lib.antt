@@ -1,4 +1,2 @@
--- What each step leaves on the stack.
+-- A step by its kind.
 pub mod StepsLaws
-pub mod AncestorLaws
-pub mod FullStepLaws

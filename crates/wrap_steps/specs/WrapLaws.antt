@@ -20,7 +20,7 @@ use Rattle.wrapped_paths.specs.CodeLaws.{codes-append}
 use Rattle.result_stack.specs.Stacks.{stackPaths, stackTries, trieWords, stacked, Held, Reached, Outcomes, Placed, TriesAt, Merges, MergedFrom, Wraps, WrapsBy}
 use Rattle.result_stack.specs.declared.Stack.{Stack}
 use Rattle.result_stack.specs.declared.Stepped.{Stepped}
-use Rattle.result_stack.specs.StackLaws.{judged-nodes, judged-rows, judged-good, top-good, below, below-held, code-end}
+use Rattle.result_stack.specs.StackLaws.{judged-nodes, judged-rows, judged-good, top-good, top-few, below, below-held, code-end}
 
 -- ---- results that are wrapped
 
@@ -160,14 +160,6 @@ unfolding code codes nodesOf nodesOfAll unionAll
 set-wraps top = record { coded = rw append-nil; nodes = omega arith; tries = sym (union-nil-left (top .trie)) }
 
 module _ {codeRun tries : List ℕ} {stack : Stack} (results : List Result) (held : Held codeRun tries stack results) where
-  pub two-few : (of : Result → Result → Result) → stack .results < 2 → (place : ℕ) → twoStep of place results ≡ refused 6 place
-  two-few of few place = go results (held .layout .as-many)
-    where
-      go : (results : List Result) → stack .results ≡ length results → twoStep of place results ≡ refused 6 place
-      go [] many = refl
-      go (right ∷ []) many = refl
-      go (right ∷ left ∷ rest) many = absurd (omega arith)
-
   pub union-done :
       (codeRun′ tries′ : List ℕ) (r : Stepped)
       → 2 ≤ stack .results
@@ -326,27 +318,6 @@ pub head-room :
     → (end ≤ length out′) × (end ≡ 1 + length names)
 head-room w names few written =
     (omega (arith, written .after, ap length (written .text), length-sets (set (replicate 33 0) 0 w) 1 names), written .after)
-
--- ---- the top
-
-pub held-top :
-    {codeRun tries : List ℕ} {stack : Stack} (results : List Result)
-    → Held codeRun tries stack results
-    → 0 < stack .results
-    → (top : Result) × (rest : List Result) × (results ≡ top ∷ rest) × Held codeRun tries stack (top ∷ rest)
-held-top [] held some-result = absurd (omega (arith, held .layout .as-many))
-held-top (top ∷ rest) held some-result = (top, rest, refl, held)
-
-module _ {codeRun tries : List ℕ} {stack : Stack} {top : Result} {rest : List Result} (held : Held codeRun tries stack (top ∷ rest)) where
-  pub top-few : length rest < 32
-  top-few = omega (arith, held .few)
-
-  -- there is room for another top
-  pub code-end-room : {end : ℕ} → 256 ≤ stack .code → end ≡ below held .code → (0 < end) × (end ≤ length codeRun)
-  code-end-room room e = (omega arith, omega (arith, below-held held .layout .in-code))
-
-  pub tries-end-room : {end : ℕ} → 1025 ≤ stack .tries → end ≡ below held .tries → (1025 ≤ end) × (end ≤ length tries)
-  tries-end-room room e = (omega arith, omega (arith, below-held held .layout .in-tries))
 
 -- empty paths
 pub drop-few :

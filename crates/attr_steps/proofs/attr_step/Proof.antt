@@ -8,10 +8,9 @@ use lib.Seq.{length-take-le}
 use Rattle.rules.specs.Steps.{Result}
 use Rattle.wrapped_paths.specs.Code.{codes, Grew}
 use Rattle.result_stack.specs.Stacks.{stackPaths, Held}
-use Rattle.wrap_steps.specs.WrapLaws.{held-top, tries-end-room}
 use Rattle.attr_steps.specs.AttrStepLaws.{attr-grows, attr-few, attr-set, attr-room, attr-judging, attr-paths, attr-rows, attr-done}
 use Rattle.result_stack.specs.JudgingLaws.{judging-deep, copied-top}
-use Rattle.result_stack.specs.StackLaws.{top-code, top-standing, top-at, code-end, tries-end}
+use Rattle.result_stack.specs.StackLaws.{top-code, top-standing, top-at, code-end, tries-end, held-top, tries-end-room}
 use borrow.Author.Needs.{needs}
 use Rattle.attr_steps.proofs.attr_step.Statement.{statement}
 use Rattle.attr_steps.proofs.attr_step.Tie as tie

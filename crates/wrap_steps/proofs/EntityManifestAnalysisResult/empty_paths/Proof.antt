@@ -1,7 +1,8 @@
 -- `wrap_steps::EntityManifestAnalysisResult::empty_paths` meets its contract: empty paths take the place of the top's paths.
 -- Assumes nothing.
 use native.Mathlib.Omega.{arith}
-use Rattle.wrap_steps.specs.WrapLaws.{held-top, code-end-room, drop-few, drop-done}
+use Rattle.result_stack.specs.StackLaws.{held-top, code-end-room}
+use Rattle.wrap_steps.specs.WrapLaws.{drop-few, drop-done}
 use Rattle.result_stack.specs.StackLaws.{top-standing, code-end}
 use borrow.Author.Needs.{needs}
 use Rattle.wrap_steps.proofs.EntityManifestAnalysisResult.empty_paths.Statement.{statement}

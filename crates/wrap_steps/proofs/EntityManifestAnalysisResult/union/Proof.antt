@@ -2,7 +2,8 @@
 -- Assumes nothing.
 use native.Mathlib.Omega.{arith}
 use Rattle.rules.specs.Steps.{unionResults}
-use Rattle.wrap_steps.specs.WrapLaws.{two-few, union-done}
+use Rattle.result_stack.specs.StackLaws.{two-few}
+use Rattle.wrap_steps.specs.WrapLaws.{union-done}
 use borrow.Author.Needs.{needs}
 use Rattle.wrap_steps.proofs.EntityManifestAnalysisResult.union.Statement.{statement}
 use Rattle.wrap_steps.proofs.EntityManifestAnalysisResult.union.Tie as tie

@@ -20,8 +20,7 @@ use Rattle.full_types.specs.Required.{TypesTook}
 use Rattle.result_stack.specs.Stacks.{Held, Outcomes, ReplacedBy}
 use Rattle.result_stack.specs.declared.Stack.{Stack}
 use Rattle.result_stack.specs.declared.Stepped.{Stepped}
-use Rattle.result_stack.specs.StackLaws.{top-good, below-held, tries-end}
-use Rattle.wrap_steps.specs.WrapLaws.{top-few}
+use Rattle.result_stack.specs.StackLaws.{top-good, below-held, tries-end, top-few}
 use Rattle.result_stack.specs.JudgingLaws.{Judging, unfit, replaced}
 
 -- paths that take a type are paths

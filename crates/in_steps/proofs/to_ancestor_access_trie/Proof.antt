@@ -1,11 +1,11 @@
--- `steps::to_ancestor_access_trie` meets its contract: nothing is below the marked leaf.
+-- `in_steps::to_ancestor_access_trie` meets its contract: nothing is below the marked leaf.
 -- Assumes nothing.
 use native.Mathlib.Omega.{arith}
 use Rattle.wrapped_paths.specs.Code.{pathsAt}
 use Rattle.result_stack.specs.JudgingLaws.{fit-none}
 use borrow.Author.Needs.{needs}
-use Rattle.steps.proofs.to_ancestor_access_trie.Statement.{statement}
-use Rattle.steps.proofs.to_ancestor_access_trie.Tie as tie
+use Rattle.in_steps.proofs.to_ancestor_access_trie.Statement.{statement}
+use Rattle.in_steps.proofs.to_ancestor_access_trie.Tie as tie
 
 slice-aggregate-add-wrapped-access-paths : tie.Need-slice-aggregate-add-wrapped-access-paths
 slice-aggregate-add-wrapped-access-paths c = search needs

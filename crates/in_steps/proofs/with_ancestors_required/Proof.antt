@@ -1,4 +1,4 @@
--- `steps::with_ancestors_required` meets its contract: the right paths, marked, are what stands below each left one.
+-- `in_steps::with_ancestors_required` meets its contract: the right paths, marked, are what stands below each left one.
 -- Assumes nothing.
 use Prim.Native.Nat.{_+_, _-_}
 use native.Mathlib.Nat.{add-sub-cancel}
@@ -7,10 +7,10 @@ use borrow.Author.Tests.{not-true, not-false}
 use lib.ListN.{drop, getD, length-take}
 use Rattle.wrapped_paths.specs.Code.{pathsAt}
 use Rattle.result_stack.specs.StackLaws.{zero-state}
-use Rattle.steps.specs.AncestorLaws.{paths-many, paths-none, ancestors-none, ancestors-over, ancestors-fit, ancestors-done}
+use Rattle.in_steps.specs.AncestorLaws.{paths-many, paths-none, ancestors-none, ancestors-over, ancestors-fit, ancestors-done}
 use borrow.Author.Needs.{needs}
-use Rattle.steps.proofs.with_ancestors_required.Statement.{statement}
-use Rattle.steps.proofs.with_ancestors_required.Tie as tie
+use Rattle.in_steps.proofs.with_ancestors_required.Statement.{statement}
+use Rattle.in_steps.proofs.with_ancestors_required.Tie as tie
 
 returns : tie.Need-returns
 returns c =

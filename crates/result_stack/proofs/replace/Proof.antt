@@ -1,10 +1,10 @@
--- `steps::replace` meets its contract: empty paths and a trie are put before two places.
+-- `result_stack::replace` meets its contract: empty paths and a trie are put before two places.
 -- Assumes nothing.
 use mathlib.Core.Path.{refl}
 use Rattle.wrapped_paths.specs.Code.{code}
 use borrow.Author.Needs.{needs}
-use Rattle.steps.proofs.replace.Statement.{statement}
-use Rattle.steps.proofs.replace.Tie as tie
+use Rattle.result_stack.proofs.replace.Statement.{statement}
+use Rattle.result_stack.proofs.replace.Tie as tie
 
 word-requires : tie.Need-word-requires
 word-requires c κs = search needs

@@ -1,4 +1,4 @@
--- `steps::in_step` meets its contract: the left result's trie takes the left paths with the ancestors of the right ones, and then the
+-- `in_steps::in_step` meets its contract: the left result's trie takes the left paths with the ancestors of the right ones, and then the
 -- right result's trie.
 -- Assumes nothing.
 use Prim.Native.Nat.{_+_, _-_}
@@ -13,13 +13,12 @@ use Rattle.rules.specs.TypeLaws.{longest}
 use Rattle.wrapped_paths.specs.Code.{codes, pathsAt, Found}
 use Rattle.path_tries.specs.Nodes.{anyDeep}
 use Rattle.result_stack.specs.Stacks.{stackPaths, Held}
-use Rattle.wrap_steps.specs.WrapLaws.{two-few, code-end-room, tries-end-room}
-use Rattle.steps.specs.AncestorLaws.{held-two, longest-short, in-judging, in-over, in-rows, in-done}
+use Rattle.in_steps.specs.AncestorLaws.{held-two, longest-short, in-judging, in-over, in-rows, in-done}
 use Rattle.result_stack.specs.JudgingLaws.{judging-deep, copied-top, judging-nodes, run-rows}
-use Rattle.result_stack.specs.StackLaws.{at-within, below-held, top-code, top-good, top-stands, top-standing, top-at, code-end, tries-end}
+use Rattle.result_stack.specs.StackLaws.{at-within, below-held, top-code, top-good, top-stands, top-standing, top-at, code-end, tries-end, two-few, code-end-room, tries-end-room}
 use borrow.Author.Needs.{needs}
-use Rattle.steps.proofs.in_step.Statement.{statement}
-use Rattle.steps.proofs.in_step.Tie as tie
+use Rattle.in_steps.proofs.in_step.Statement.{statement}
+use Rattle.in_steps.proofs.in_step.Tie as tie
 
 -- the two results on top
 two :

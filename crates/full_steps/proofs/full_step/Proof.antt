@@ -1,4 +1,4 @@
--- `steps::full_step` meets its contract: every path of the top takes the trie of its type, and all go into the top's trie.
+-- `full_steps::full_step` meets its contract: every path of the top takes the trie of its type, and all go into the top's trie.
 -- Assumes nothing.
 use Prim.Native.Nat.{_<_}
 use mathlib.Core.Path.{_≡_, refl, sym, _∙_}
@@ -13,13 +13,12 @@ use Rattle.wrapped_paths.specs.Code.{codes}
 use Rattle.type_table.specs.Tables.{GoodTypes}
 use Rattle.full_types.specs.Required.{TypesTook}
 use Rattle.result_stack.specs.Stacks.{stackPaths, Held}
-use Rattle.wrap_steps.specs.WrapLaws.{held-top, code-end-room, tries-end-room}
-use Rattle.steps.specs.FullStepLaws.{full-missing, full-few, full-mismatch, full-places, full-paths, full-judging, full-rows, full-done}
+use Rattle.full_steps.specs.FullStepLaws.{full-missing, full-few, full-mismatch, full-places, full-paths, full-judging, full-rows, full-done}
 use Rattle.result_stack.specs.JudgingLaws.{judging-deep, copied-top}
-use Rattle.result_stack.specs.StackLaws.{top-code, top-at, tries-end, top-stands}
+use Rattle.result_stack.specs.StackLaws.{top-code, top-at, tries-end, top-stands, held-top, code-end-room, tries-end-room}
 use borrow.Author.Needs.{needs}
-use Rattle.steps.proofs.full_step.Statement.{statement}
-use Rattle.steps.proofs.full_step.Tie as tie
+use Rattle.full_steps.proofs.full_step.Statement.{statement}
+use Rattle.full_steps.proofs.full_step.Tie as tie
 
 -- the type is one of the schema, and the table says its sizes
 known : (c : tie.Else1) → c .before .before .before .before .before .before .args .t < typesIn (itemsOf (c .before .before .before .before .before .before .args .words .now))

@@ -1,0 +1,2 @@
+-- What the step `full` leaves on the stack.
+pub mod FullStepLaws

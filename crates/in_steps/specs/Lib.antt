@@ -1,0 +1,2 @@
+-- What the step `in` leaves on the stack.
+pub mod AncestorLaws
