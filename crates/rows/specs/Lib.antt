@@ -4,3 +4,4 @@ pub mod States
 pub mod WordLaws
 pub mod CountLaws
 pub mod StateLaws
+pub mod LentLaws

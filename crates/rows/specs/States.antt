@@ -1,5 +1,5 @@
--- What a lent state holds (docs/FORMS.md, 'Lent buffers'), and what each operation of `trie` answers and leaves.
-use Prim.Native.Nat.{ℕ, _+_}
+-- What a lent state holds (docs/FORMS.md, 'Lent buffers'), and what each operation of `rows` answers and leaves.
+use Prim.Native.Nat.{ℕ, _+_, _≤_}
 use mathlib.Core.Bool.{Bool, true, false, cond, _&&_}
 use mathlib.Core.List.{List, [], _∷_, map}
 use mathlib.Core.Option.{Option, none, some}
@@ -50,6 +50,12 @@ rowsIn state = rowsOf (wordsIn state)
 -- 'a lent state that isn't a lawful one': the count, each word and the rows are judged
 unfoldable pub lawfulState : Form → List ℕ → Bool
 lawfulState form state = ltb (getD state 0 0) (length state) && (allWords (wordsIn state) && lawful form (rowsIn state))
+
+-- A lent state of a kind: it is long enough, lawful, and has these rows.
+pub record Lent (kind : Kind) (state : List ℕ) (rows : List Row) : Type 0 where
+  pub long : wordsOf kind ≤ length state
+  pub lawful-state : lawfulState (formOf kind) state ≡ true
+  pub has-rows : rowsIn state ≡ rows
 
 -- a buffer that holds rows, what follows them as it was
 abbrev pub holding : List ℕ → List Row → List ℕ
