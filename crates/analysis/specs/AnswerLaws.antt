@@ -1,17 +1,18 @@
--- Laws of what `analyse` answers, by the tests that it makes in turn. No contract cites this file.
-use Prim.Native.Nat.{ℕ, _^_, _≤_, _<_}
-use mathlib.Core.Bool.{true, false, _&&_}
+-- Laws of what `analyse` and `add_policy` answer, by the tests that they make in turn. No contract cites this file.
+use Prim.Native.Nat.{ℕ, _≤_, _<_}
+use mathlib.Core.Bool.{Bool, true, false, _&&_}
 use mathlib.Core.List.{List}
 use mathlib.Core.Path.{_≡_}
-use borrow.Author.Tests.{le-leb, lt-leb, lt-ltb, le-ltb, ltb-true}
+use borrow.Author.Tests.{le-leb, lt-leb, ltb-true}
 use lib.Dec.{leb, ltb}
 use lib.ListN.{length, getD}
-use Rattle.rules.specs.Steps.{analyse}
+use Rattle.rules.specs.Numbers.{Answer}
+use Rattle.rules.specs.Tries.{Row}
 use Rattle.words.specs.Runs.{wordsIn, refusing}
 use Rattle.rows.specs.States.{storing}
 use Rattle.rules.specs.Facts.{both-true}
-use Rattle.schema.specs.Items.{lawfulSchema, goodItems, itemsIn}
-use Rattle.analysis.specs.Outcomes.{analyseIn}
+use Rattle.schema.specs.Items.{lawfulSchema, goodItems}
+use Rattle.analysis.specs.Outcomes.{withSchema}
 
 -- a lawful schema counts its items within its length, and they are good
 pub lawful-count : (schema : List ℕ) → lawfulSchema schema ≡ true → getD schema 0 0 < 142337
@@ -22,29 +23,24 @@ pub lawful-items : (schema : List ℕ) → lawfulSchema schema ≡ true → good
 unfolding lawfulSchema
 lawful-items schema h = both-true (ltb (getD schema 0 0) 142337) (goodItems (wordsIn schema)) (both-true (leb 142337 (length schema)) (ltb (getD schema 0 0) 142337 && goodItems (wordsIn schema)) h .1) .1
 
-module _ (schema : List ℕ) (request : ℕ) (text out : List ℕ) where
-  -- 31 for the schema, and for the output
-  pub short-schema : length schema < 142337 → analyseIn schema request text out ≡ refusing 31 0 out
-  unfolding analyseIn
+module _ (schema : List ℕ) (words : ℕ) (else-lawful : Bool) (out : List ℕ) (answer : Answer (List Row)) where
+  -- 31 for the schema, and for the buffer
+  pub short-schema : length schema < 142337 → withSchema schema words else-lawful out answer ≡ refusing 31 0 out
   short-schema h = rw (lt-leb 142337 (length schema) h)
 
   module _ (long : 142337 ≤ length schema) where
-    pub short-out : length out < 1026 → analyseIn schema request text out ≡ refusing 31 0 out
-    unfolding analyseIn
-    short-out h = rw (le-leb 142337 (length schema) long, lt-leb 1026 (length out) h)
+    pub short-out : length out < words → withSchema schema words else-lawful out answer ≡ refusing 31 0 out
+    short-out h = rw (le-leb 142337 (length schema) long, lt-leb words (length out) h)
 
-    module _ (room : 1026 ≤ length out) where
-      -- 1 at 0 for the schema, and for the request type
-      pub unlawful : lawfulSchema schema ≡ false → analyseIn schema request text out ≡ refusing 1 0 out
-      unfolding analyseIn
-      unlawful h = rw (le-leb 142337 (length schema) long, le-leb 1026 (length out) room, h)
+    module _ (room : words ≤ length out) where
+      -- 1 at 0 for the schema, and for what else is lent
+      pub unlawful-schema : lawfulSchema schema ≡ false → withSchema schema words else-lawful out answer ≡ refusing 1 0 out
+      unlawful-schema h = rw (le-leb 142337 (length schema) long, le-leb words (length out) room, h)
 
       module _ (lawful : lawfulSchema schema ≡ true) where
-        pub no-request : 2 ^ 48 ≤ request → analyseIn schema request text out ≡ refusing 1 0 out
-        unfolding analyseIn
-        no-request h = rw (le-leb 142337 (length schema) long, le-leb 1026 (length out) room, lawful, le-ltb request (2 ^ 48) h)
+        pub unlawful-else : else-lawful ≡ false → withSchema schema words else-lawful out answer ≡ refusing 1 0 out
+        unlawful-else h = rw (le-leb 142337 (length schema) long, le-leb words (length out) room, lawful, h)
 
         -- otherwise what the text gives
-        pub analysed : request < 2 ^ 48 → analyseIn schema request text out ≡ storing out (analyse (itemsIn schema) request text)
-        unfolding analyseIn
-        analysed h = rw (le-leb 142337 (length schema) long, le-leb 1026 (length out) room, lawful, lt-ltb request (2 ^ 48) h)
+        pub all-lawful : else-lawful ≡ true → withSchema schema words else-lawful out answer ≡ storing out answer
+        all-lawful h = rw (le-leb 142337 (length schema) long, le-leb words (length out) room, lawful, h)

@@ -1,4 +1,5 @@
 -- What `analysis` answers and leaves.
 pub mod Outcomes
 pub mod ContributionLaws
+pub mod PolicyAnswerLaws
 pub mod AnswerLaws

@@ -6,7 +6,7 @@ ghost use Rattle.rows.specs.States.{hasOf};
 ghost use Rattle.listing.specs.Outcomes.{readListingIn, writeIn};
 ghost use Rattle.manifest.specs.Outcomes.{emptyIn, addIn};
 ghost use Rattle.schema.specs.Items.{readSchemaIn};
-ghost use Rattle.analysis.specs.Outcomes.{analyseIn};
+ghost use Rattle.analysis.specs.Outcomes.{analyseIn, addPolicyIn};
 ghost use Rattle.rows.specs.declared.Kind.the-variants.{Contribution, Manifest};
 ghost use Rattle.entity_manifest.specs.Numbers.{replyNumber, replyPlace, ToldAs, writtenNumber, writtenValue, heldNumber, heldValue};
 use listing::Written;
@@ -176,4 +176,17 @@ pub extern "C" fn terbagyl_analyse(
     ensures { λ r. ⌜ ToldAs (analyseIn (now (schema .entry)) request (now (text .entry)) (now (out .entry))) r (now (value .exit)) (now (out .exit)) ⌝ }
 {
     tell(crate::analyse(schema, request, text, out), value)
+}
+
+// Adds all contributions of a policy text to a manifest.
+#[no_mangle]
+pub extern "C" fn terbagyl_add_policy(
+    schema: &[u64],
+    text: &[u8],
+    manifest: &mut [u64],
+    value: &mut u64,
+) -> u64
+    ensures { λ r. ⌜ ToldAs (addPolicyIn (now (schema .entry)) (now (text .entry)) (now (manifest .entry))) r (now (value .exit)) (now (manifest .exit)) ⌝ }
+{
+    tell(crate::add_policy(schema, text, manifest), value)
 }

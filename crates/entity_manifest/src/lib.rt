@@ -8,7 +8,7 @@ ghost use Rattle.rows.specs.States.{hasOf};
 ghost use Rattle.listing.specs.Outcomes.{readListingIn, writeIn};
 ghost use Rattle.manifest.specs.Outcomes.{emptyIn, addIn};
 ghost use Rattle.schema.specs.Items.{readSchemaIn};
-ghost use Rattle.analysis.specs.Outcomes.{analyseIn};
+ghost use Rattle.analysis.specs.Outcomes.{analyseIn, addPolicyIn};
 pub use listing::Written;
 use manifest::EntityManifest;
 pub use rows::Held;
@@ -70,4 +70,11 @@ pub fn analyse(schema: &[u64], request: u64, text: &[u8], out: &mut [u64]) -> Re
     ensures { λ r. ⌜ (r ≡ analyseIn (now (schema .entry)) request (now (text .entry)) (now (out .entry)) .reply) × (now (out .exit) ≡ analyseIn (now (schema .entry)) request (now (text .entry)) (now (out .entry)) .buffer) ⌝ }
 {
     analysis::analyse(schema, request, text, out)
+}
+
+// Adds all contributions of a policy text to a manifest, in order, with a schema; a refusal leaves the manifest as it was.
+pub fn add_policy(schema: &[u64], text: &[u8], manifest: &mut [u64]) -> Reply
+    ensures { λ r. ⌜ (r ≡ addPolicyIn (now (schema .entry)) (now (text .entry)) (now (manifest .entry)) .reply) × (now (manifest .exit) ≡ addPolicyIn (now (schema .entry)) (now (text .entry)) (now (manifest .entry)) .buffer) ⌝ }
+{
+    analysis::add_policy(schema, text, manifest)
 }

@@ -3,11 +3,11 @@ use Prim.Native.Nat.{ℕ, suc, _+_, _-_, _≤_, _<_}
 use native.Mathlib.Nat.{add-sub-cancel-left}
 use native.Mathlib.Numerals.{add-one}
 use native.Mathlib.Omega.{arith}
-use mathlib.Core.Path.{_≡_, sym, _∙_, subst}
+use mathlib.Core.Path.{_≡_, refl, sym, _∙_, subst}
 use mathlib.Core.Bool.{true, false}
 use mathlib.Core.List.{List, [], _∷_, _++_}
 use mathlib.Core.Option.{Option}
-use mathlib.Core.Logic.{_⊎_, inl, inr}
+use mathlib.Core.Logic.{_≢_, _⊎_, inl, inr}
 use borrow.Author.Tests.{lt-ltb}
 use lib.ListN.{length, take, drop, getD, set, length-drop, length-set, drop-of-length-le}
 use lib.Seq.{length-take-le}
@@ -19,7 +19,7 @@ use Rattle.rules.specs.Listing.{read}
 use Rattle.rules.specs.ListingLaws.{refused-not}
 use Rattle.rules.specs.Schema.{Item, fromType}
 use Rattle.rules.specs.Paths.{getOrHasAttr, fullTypeRequired, addTaken, RecordLiteral, SetLiteral}
-use Rattle.rules.specs.Steps.{Result, result, fromRoot, defaultResult, restored, unionResults, emptyPaths, inResult, wrapped, Step, root, nothing, attr, both, dropped, full, inside, set as setOf, rec, stepFrom, judged, attrStep, recStep, fullStep, apply, stepped, stepLine, run}
+use Rattle.rules.specs.Steps.{Result, result, fromRoot, defaultResult, restored, unionResults, emptyPaths, inResult, wrapped, Step, root, nothing, attr, both, dropped, full, inside, set as setOf, rec, stepFrom, judged, attrStep, recStep, fullStep, apply, stepped, stepLine, run, ended}
 use Rattle.rules.specs.StepLaws.{Each, AllGood, GoodSchema, judged-accepted, step-good, apply-good}
 use Rattle.text.specs.Answers.{lineAt}
 use Rattle.text.proofs.Laws.{whole-line, cut-line}
@@ -35,7 +35,7 @@ use Rattle.step_lines.specs.Lines.{stepRead, GoodRead}
 use Rattle.result_stack.specs.Stacks.{trieWords, stacked, Held, Holding, Reached, TrieAt}
 use Rattle.type_table.specs.TypeTableLaws.{good-all, good-lawful}
 use Rattle.full_types.specs.FullLaws.{item-keys}
-use Rattle.result_stack.specs.StackLaws.{trie-count, trie-rows, at-within, at-few, code-left, tries-left}
+use Rattle.result_stack.specs.StackLaws.{trie-count, trie-rows, at-within, at-few, code-left, tries-left, top-trie, top-at}
 use Rattle.step_runs.specs.StepRuns.{Ready, NotLarge, TookLine, Finished}
 use Rattle.step_lines.specs.declared.Step.{Step as StepRead}
 use Rattle.step_lines.specs.declared.Step.the-variants.{Root, None, Attr, Union, Drop, Full, In, Set, Rec, Bad}
@@ -226,6 +226,42 @@ module _ {words text code tries : List ℕ} {stack : Stack} {at line : ℕ} (run
     running-next steps =
         let took = steps (running .results) (running .held) in
         record { results = took .after; held = took .held; came = came-next (running .came) (whole-line text at end r ensured e) (took .steps line) }
+
+-- ---- the one result that a stack holds
+
+module _ {code tries : List ℕ} {stack : Stack} {results : List Result} (held : Held code tries stack results) (one : stack .results ≡ 1) where
+  pub only-result : (top : Result) × (results ≡ top ∷ [])
+  only-result = go results (held .layout .as-many)
+    where
+      go : (results : List Result) → stack .results ≡ length results → (top : Result) × (results ≡ top ∷ [])
+      go [] e = absurd (omega arith)
+      go (top ∷ []) e = (top, refl)
+      go (top ∷ next ∷ results) e = absurd (omega arith)
+
+  only-held : Held code tries stack (only-result .0 ∷ [])
+  only-held = rw (only-result .1) at held
+
+  -- its trie stands at the top
+  pub only-there : drop (stack .tries) tries ≡ trieWords (only-result .0 .trie) ++ []
+  unfolding stacked
+  only-there = top-trie only-held
+
+  pub only-trie : TrieAt tries (stack .tries)
+  only-trie = top-at only-held
+
+-- not one result is left
+pub ended-many :
+    {code tries : List ℕ} {stack : Stack} {results : List Result}
+    → Held code tries stack results
+    → stack .results ≢ 1
+    → (request lines : ℕ)
+    → ended request lines results ≡ refused 6 lines
+ended-many {stack = stack} {results} held many request lines = go results (held .layout .as-many)
+  where
+    go : (results : List Result) → stack .results ≡ length results → ended request lines results ≡ refused 6 lines
+    go [] e = refl
+    go (top ∷ []) e = absurd (many e)
+    go (top ∷ next ∷ results) e = refl
 
 -- ---- the contribution of a result
 

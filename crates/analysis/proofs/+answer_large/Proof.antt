@@ -66,7 +66,7 @@ answer-large-answer-in-requires :
     answer-large.Post
 answer-large-answer-in-requires t c κs =
     let start = c .before .before .before .before .before .before .before .before in
-    (start .pre .1 .0, (start .pre .1 .1, (omega (arith, length-replicate {A = ℕ} 212448 0), λ n in-code few. omega (arith, length-replicate {A = ℕ} 6656 0))))
+    (start .pre .1, (omega (arith, length-replicate {A = ℕ} 212448 0), λ n in-code few. omega (arith, length-replicate {A = ℕ} 6656 0)))
 
 answer-large-enum-known-reply :
     (t : ℕ)

@@ -6,12 +6,15 @@ use mathlib.Core.Path.{_≡_, sym, _∙_}
 use native.Mathlib.Nat.{add-sub-cancel}
 use native.Mathlib.Omega.{arith}
 use borrow.Author.Needs.{needs}
-use borrow.Author.Tests.{not-true, not-false}
+use borrow.Author.Tests.{not-true, not-false, lt-ltb, le-ltb}
 use lib.ListN.{length, getD, take, drop, length-drop}
 use lib.Seq.{length-take-le}
+use lib.Dec.{ltb}
 use Rattle.words.specs.RunLaws.{by-parts}
-use Rattle.schema.specs.Items.{lawfulSchema}
-use Rattle.analysis.specs.AnswerLaws.{lawful-count, lawful-items, short-schema, short-out, unlawful, no-request, analysed}
+use Rattle.schema.specs.Items.{lawfulSchema, itemsIn}
+use Rattle.rules.specs.Steps.{analyse}
+use Rattle.analysis.specs.Outcomes.{analyseIn}
+use Rattle.analysis.specs.AnswerLaws.{lawful-count, lawful-items, short-schema, short-out, unlawful-schema, unlawful-else, all-lawful}
 use Rattle.analysis.proofs.analyse.Statement.{statement}
 use Rattle.analysis.proofs.analyse.Tie as tie
 
@@ -39,30 +42,34 @@ counted : (c : tie.After-shared-slice-known3) → let schema = tested (c .before
 counted c = (lawful-count _ (lawful (c .before .before)), long (c .before .before .before .before .before .before))
 
 returns : tie.Need-returns
+unfolding analyseIn
 returns c =
     let s = begun (c .before) .args in
-    by-parts (short-schema (s .schema .now) (s .request) (s .text .now) (s .out .now) (omega (arith, c .if1 .taken)))
+    by-parts (short-schema (s .schema .now) 1026 (ltb (s .request) (2 ^ 48)) (s .out .now) (analyse (itemsIn (s .schema .now)) (s .request) (s .text .now)) (omega (arith, c .if1 .taken)))
 
 words-requires : tie.Need-words-requires
 words-requires c κs = search needs
 
 returns-2 : tie.Need-returns-2
+unfolding analyseIn
 returns-2 c =
     let s = tested (c .before) .args in
-    by-parts (short-out (s .schema .now) (s .request) (s .text .now) (s .out .now) (long (c .before .before)) (omega (arith, c .before .words .ensures, c .if2 .taken)))
+    by-parts (short-out (s .schema .now) 1026 (ltb (s .request) (2 ^ 48)) (s .out .now) (analyse (itemsIn (s .schema .now)) (s .request) (s .text .now)) (long (c .before .before)) (omega (arith, c .before .words .ensures, c .if2 .taken)))
 
 is-lawful-requires : tie.Need-is-lawful-requires
 is-lawful-requires c κs = search needs
 
 returns-3 : tie.Need-returns-3
+unfolding analyseIn
 returns-3 c =
     let s = tested (c .before .before .before) .args in
-    by-parts (unlawful (s .schema .now) (s .request) (s .text .now) (s .out .now) (long (c .before .before .before .before)) (room (c .before .before)) (sym (c .before .is-lawful .ensures) ∙ not-true _ (c .if3 .taken)))
+    by-parts (unlawful-schema (s .schema .now) 1026 (ltb (s .request) (2 ^ 48)) (s .out .now) (analyse (itemsIn (s .schema .now)) (s .request) (s .text .now)) (long (c .before .before .before .before)) (room (c .before .before)) (sym (c .before .is-lawful .ensures) ∙ not-true _ (c .if3 .taken)))
 
 returns-4 : tie.Need-returns-4
+unfolding analyseIn
 returns-4 c =
     let s = tested (c .before .before .before .before) .args in
-    by-parts (no-request (s .schema .now) (s .request) (s .text .now) (s .out .now) (long (c .before .before .before .before .before)) (room (c .before .before .before)) (lawful (c .before)) (omega (arith, c .if4 .taken)))
+    by-parts (unlawful-else (s .schema .now) 1026 (ltb (s .request) (2 ^ 48)) (s .out .now) (analyse (itemsIn (s .schema .now)) (s .request) (s .text .now)) (long (c .before .before .before .before .before)) (room (c .before .before .before)) (lawful (c .before)) (le-ltb (s .request) (2 ^ 48) (omega (arith, c .if4 .taken))))
 
 shared-slice-read-end : tie.Need-shared-slice-read-end
 shared-slice-read-end c = search needs
@@ -70,17 +77,17 @@ shared-slice-read-end c = search needs
 add-end : tie.Need-add-end
 add-end c = omega (arith, counted c)
 
-sub-analyse-with : tie.Need-sub-analyse-with
-sub-analyse-with c = search needs
+sub-answer : tie.Need-sub-answer
+sub-answer c = search needs
 
-part-analyse-with-start : tie.Need-part-analyse-with-start
-part-analyse-with-start c = search needs
+part-answer-start : tie.Need-part-answer-start
+part-answer-start c = search needs
 
-part-analyse-with-end : tie.Need-part-analyse-with-end
-part-analyse-with-end c = omega (arith, counted c)
+part-answer-end : tie.Need-part-answer-end
+part-answer-end c = omega (arith, counted c)
 
-analyse-with-requires : tie.Need-analyse-with-requires
-analyse-with-requires c κs =
+answer-requires : tie.Need-answer-requires
+answer-requires c κs =
     let k = c .before .before in
     let fits = counted k in
     let schema = tested (k .before .before .before .before .before) .args .schema .now in
@@ -91,11 +98,12 @@ same-length : tie.Need-same-length
 same-length c = search needs
 
 returns-5 : tie.Need-returns-5
+unfolding analyseIn
 returns-5 c =
     let k = c .before .before .before .before .before in
     let s = tested (k .before .before .before .before .before) .args in
-    let answered = analysed (s .schema .now) (s .request) (s .text .now) (s .out .now) (long (k .before .before .before .before .before .before)) (room (k .before .before .before .before)) (lawful (k .before .before)) (request (k .before)) in
-    rw answered (simp add-sub-cancel at (c .before .before .analyse-with .ensures))
+    let answered = all-lawful (s .schema .now) 1026 (ltb (s .request) (2 ^ 48)) (s .out .now) (analyse (itemsIn (s .schema .now)) (s .request) (s .text .now)) (long (k .before .before .before .before .before .before)) (room (k .before .before .before .before)) (lawful (k .before .before)) (lt-ltb (s .request) (2 ^ 48) (request (k .before))) in
+    rw answered (simp add-sub-cancel at (c .before .before .answer .ensures))
 
 pub analyse-spec : {M : Type 1} → statement M
 analyse-spec =
@@ -109,9 +117,9 @@ analyse-spec =
     returns-4
     shared-slice-read-end
     add-end
-    sub-analyse-with
-    part-analyse-with-start
-    part-analyse-with-end
-    analyse-with-requires
+    sub-answer
+    part-answer-start
+    part-answer-end
+    answer-requires
     same-length
     returns-5)

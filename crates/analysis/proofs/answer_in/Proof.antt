@@ -1,30 +1,20 @@
--- `analysis::answer_in` meets its contract: what the text gives, and the contribution where one result is left.
+-- `analysis::answer_in` meets its contract: by what is asked.
 -- Assumes nothing.
-use mathlib.Core.Path.{refl, _∙_}
 use borrow.Author.Needs.{needs}
-use Rattle.schema.specs.Items.{itemsOf}
-use Rattle.step_runs.specs.StepRuns.{Finished}
-use Rattle.analysis.specs.ContributionLaws.{answered-refused, answered-many, only-trie, answered-one}
 use Rattle.analysis.proofs.answer_in.Statement.{statement}
 use Rattle.analysis.proofs.answer_in.Tie as tie
 
--- the text was run to its end
-finished :
-    (c : tie.After-stack)
-    → Finished (itemsOf (c .before .before .before .before .before .before .before .before .before .before .before .before .before .before .before .before .before .before .before .args .words .now)) (c .before .before .before .before .before .before .before .before .before .before .before .before .before .before .before .before .before .before .before .args .text .now) (c .before .before .before .before .before .before .before .before .run .last .1 .1 .1 .1 .0) (c .before .before .before .before .before .before .before .before .run .last .1 .1 .1 .1 .1 .0) (c .stack .given .0 .0) (c .stack .given .0 .1 .0)
-finished c = rw (c .stack .given .1) at (c .before .before .before .before .before .before .before .before .run .ensures)
+enum-known-job : tie.Need-enum-known-job
+enum-known-job c = search needs
 
-run-requires : tie.Need-run-requires
-run-requires c κs = (c .before .before .before .before .before .before .before .before .before .before .pre .0, c .before .before .before .before .before .before .before .before .before .before .pre .1 .1)
+answer-steps-requires : tie.Need-answer-steps-requires
+answer-steps-requires c κs = let pre = c .before .before .before .before .before .before .before .before .before .before .before .before .before .before .pre in ((pre .0 .0, rw (c .before .before .before .before .before .job .given .1) at (pre .0 .1)), pre .1)
 
 enum-told : tie.Need-enum-told
 enum-told c = search needs
 
-enum-known-number : tie.Need-enum-known-number
-enum-known-number c = search needs
-
-enum-known-stack : tie.Need-enum-known-stack
-enum-known-stack c = search needs
+answer-policy-requires : tie.Need-answer-policy-requires
+answer-policy-requires c κs = let pre = c .before .before .before .before .before .before .before .before .before .before .before .before .before .pre in ((pre .0 .0, rw (c .before .before .before .before .enum-told .given .1) at (pre .0 .1)), pre .1)
 
 same-length : tie.Need-same-length
 same-length c = search needs
@@ -35,16 +25,11 @@ same-length-2 c = search needs
 same-length-3 : tie.Need-same-length-3
 same-length-3 c = search needs
 
-returns : tie.Need-returns
-returns c =
-    let start = c .before .before .before .before .before .before .before .before .before .before .before .before .before .before .before .before .before .before .before .before .before .before in
-    (answered-many (finished (c .before .before .before)) (start .args .request) (start .args .out .now) (c .if1 .taken), tt)
-
-write-contribution-requires : tie.Need-write-contribution-requires
-write-contribution-requires c κs = (only-trie (finished (c .before .before .before .before .before)) (c .before .before .if1 .left), c .before .before .before .before .before .before .before .before .before .before .before .before .before .before .before .before .before .before .before .before .before .before .before .before .pre .1 .0)
-
 same-length-4 : tie.Need-same-length-4
 same-length-4 c = search needs
+
+returns : tie.Need-returns
+returns c = rw (c .before .before .before .before .before .before .before .before .before .before .before .before .before .before .job .given .1) (c .before .before .before .before .before .before .before .before .answer-steps .ensures)
 
 same-length-5 : tie.Need-same-length-5
 same-length-5 c = search needs
@@ -52,66 +37,30 @@ same-length-5 c = search needs
 same-length-6 : tie.Need-same-length-6
 same-length-6 c = search needs
 
-returns-2 : tie.Need-returns-2
-returns-2 c =
-    let ran = c .before .before .before .before .before .before .before .before .run in
-    let full = rw (c .enum-told .given .1) at (ran .ensures) in
-    (refl, λ code-length tries-length. full (ran .kept .1 .1 .1 .1 .0 ∙ code-length) (ran .kept .1 .1 .1 .1 .1 .0 ∙ tries-length))
-
 same-length-7 : tie.Need-same-length-7
 same-length-7 c = search needs
 
 same-length-8 : tie.Need-same-length-8
 same-length-8 c = search needs
 
-same-length-9 : tie.Need-same-length-9
-same-length-9 c = search needs
-
-returns-3 : tie.Need-returns-3
-returns-3 c =
-    let start = c .before .before .before .before .before .before .before .before .before .before .before .before .before .before .before .before .before .before .before .before in
-    (answered-refused _ (start .args .request) (start .args .text .now) (start .args .out .now) (rw (c .before .number .given .1) at (c .before .before .before .before .before .before .before .before .before .run .ensures)), tt)
-
-same-length-10 : tie.Need-same-length-10
-same-length-10 c = search needs
-
-same-length-11 : tie.Need-same-length-11
-same-length-11 c = search needs
-
-same-length-12 : tie.Need-same-length-12
-same-length-12 c = search needs
-
-same-length-13 : tie.Need-same-length-13
-same-length-13 c = search needs
-
-returns-4 : tie.Need-returns-4
-returns-4 c =
-    let start = c .before .before .before .before .before .before .before .before .before .before .before .before .before .before .before .before .before .before .before .before .before .before .before .before .before .before .before in
-    (answered-one (finished (c .before .before .before .before .before .before .before .before)) (c .before .before .before .before .before .if1 .left) (start .args .request) (start .args .out .now) (c .before .before .write-contribution .ensures), tt)
+returns-2 : tie.Need-returns-2
+returns-2 c = rw (c .before .before .before .before .before .before .before .before .before .before .before .before .before .enum-told .given .1) (c .before .before .before .before .before .before .before .before .answer-policy .ensures)
 
 pub answer-in-spec : {M : Type 1} → statement M
 answer-in-spec =
     tie.close
     (tie.spec
-    run-requires
+    enum-known-job
+    answer-steps-requires
     enum-told
-    enum-known-number
-    enum-known-stack
+    answer-policy-requires
     same-length
     same-length-2
     same-length-3
-    returns
-    write-contribution-requires
     same-length-4
+    returns
     same-length-5
     same-length-6
-    returns-2
     same-length-7
     same-length-8
-    same-length-9
-    returns-3
-    same-length-10
-    same-length-11
-    same-length-12
-    same-length-13
-    returns-4)
+    returns-2)

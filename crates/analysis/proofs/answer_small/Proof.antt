@@ -17,7 +17,7 @@ slice-aggregate-answer-in-3 : tie.Need-slice-aggregate-answer-in-3
 slice-aggregate-answer-in-3 c = search needs
 
 answer-in-requires : tie.Need-answer-in-requires
-answer-in-requires c κs = (c .before .before .before .before .before .before .before .before .pre .0, (c .before .before .before .before .before .before .before .before .pre .1, (omega (arith, length-replicate {A = ℕ} 1280 0), λ n in-code few. in-code)))
+answer-in-requires c κs = (c .before .before .before .before .before .before .before .before .pre, (omega (arith, length-replicate {A = ℕ} 1280 0), λ n in-code few. in-code))
 
 same-length : tie.Need-same-length
 same-length c = search needs
