@@ -125,7 +125,7 @@ module _ (m c : List Row) where
           lawful-manifest (union m c) .1 (order, fits)
 
 -- a build of lawful contributions is a lawful manifest
-build-lawful :
+pub build-lawful :
     (cs : List (List Row)) (m : List Row)
     → lawful manifest m ≡ true
     → Contributions cs

@@ -25,6 +25,7 @@ pub mod AnalysisLaws
 pub mod TypeLaws
 pub mod Policies
 pub mod PolicyLaws
+pub mod PolicyCalls
 pub mod Demand3Policies
 pub mod Starred
 pub mod Examples

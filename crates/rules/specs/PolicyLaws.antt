@@ -30,7 +30,7 @@ use Rattle.rules.specs.Text.{linesOf, fieldsOf}
 use Rattle.rules.specs.Facts.{by-test, by-option, cond-some, both-true, accepted-same, then-accepted}
 use Rattle.rules.specs.Lines.{Folded, folded, foldLines}
 use Rattle.rules.specs.LineLaws.{fold-kept, fold-alike}
-use Rattle.rules.specs.Tries.{Row, ids, isEntry, isRow, contribution, lawful}
+use Rattle.rules.specs.Tries.{Row, ids, isEntry, isRow}
 use Rattle.rules.specs.Listing.{rowOf}
 use Rattle.rules.specs.ListingLaws.{bind-some, refused-not, row-is-row}
 use Rattle.rules.specs.Schema.{Item}
@@ -55,13 +55,13 @@ use Rattle.rules.specs.Policies.{
 }
 
 -- a contribution behind those before it
-abbrev gatherAt : ℕ → List Row → List (List Row) → Answer (List (List Row))
+abbrev pub gatherAt : ℕ → List Row → List (List Row) → Answer (List (List Row))
 gatherAt place c cs = accepted (cs ++ (c ∷ []))
 
 -- ---- the contributions of a text are lawful
 
 -- the request type of an `A` line has 48 bits
-request-below : (line : List ℕ) (request : ℕ) → requestIn line ≡ some request → request < ids ^ 3
+pub request-below : (line : List ℕ) (request : ℕ) → requestIn line ≡ some request → request < ids ^ 3
 request-below line request e =
     bind-some (rowOf (fieldsOf line)) _ request e
     (λ row q e.
@@ -97,20 +97,32 @@ module _ (items : List Item) (schema : GoodSchema items) where
       let (c, one, given) = then-accepted (ended (b .request) place (b .results)) (λ c. gatherAt place c cs) e in
       rw (sym (accepted-same _ ds given)) (contributions-append cs (c ∷ []) lcs (ended-lawful (b .request) place (b .results) small good one, tt))
 
-  policy-kept : (place : ℕ) (line : List ℕ) (p then : Policy (List (List Row))) → GoodPolicy p → policyLine gatherAt items place line p ≡ accepted then → GoodPolicy then
+  policy-kept :
+      (place : ℕ) (line : List ℕ) (p then : Policy (List (List Row)))
+      → GoodPolicy p
+      → policyLine gatherAt items place line p ≡ accepted then
+      → GoodPolicy then
   unfolding Each
   policy-kept place line p then (lcs, good) e =
       by-option (requestIn line)
       (λ q. stepped (p .begun) good (rw (q, policyLine) at e))
       (λ request q. opened request (request-below line request q) (rw (q, policyLine) at e))
     where
-      stepped : (b : Option Begun) → GoodBegun b → policyStep gatherAt items place line (policy (p .sofar) b) ≡ accepted then → GoodPolicy then
+      stepped :
+          (b : Option Begun)
+          → GoodBegun b
+          → policyStep gatherAt items place line (policy (p .sofar) b) ≡ accepted then
+          → GoodPolicy then
       stepped none none-begun e = refused-not 1 place then e
       stepped (some b) (small, results-good) e =
           let (results, line-taken, given) = then-accepted (stepLine items place line (b .results)) (λ results. accepted (policy (p .sofar) (some (begin (b .request) results)))) e in
           rw (sym (accepted-same _ then given)) (lcs, (small, line-keeps items schema place line (b .results) results results-good line-taken))
 
-      opened : (request : ℕ) → request < ids ^ 3 → andThen (closed gatherAt items place p) (λ cs. accepted (policy cs (some (begin request [])))) ≡ accepted then → GoodPolicy then
+      opened :
+          (request : ℕ)
+          → request < ids ^ 3
+          → andThen (closed gatherAt items place p) (λ cs. accepted (policy cs (some (begin request [])))) ≡ accepted then
+          → GoodPolicy then
       opened request small e =
           let (cs, ended-all, given) = then-accepted (closed gatherAt items place p) (λ cs. accepted (policy cs (some (begin request [])))) e in
           rw (sym (accepted-same _ then given)) (closed-lawful place (p .begun) (p .sofar) cs lcs good ended-all, (small, tt))
@@ -141,14 +153,21 @@ abbrev pub AllAdd : List Row → List (List Row) → List Row → Type 0
 AllAdd m cs rows = (acceptedOf m cs ≡ cs) × (rows ≡ build m cs)
 
 -- so are some and then others
-all-then : (m : List Row) (cs ds : List (List Row)) {between rows : List Row} → AllAdd m cs between → AllAdd between ds rows → AllAdd m (cs ++ ds) rows
+all-then :
+    (m : List Row) (cs ds : List (List Row)) {between rows : List Row}
+    → AllAdd m cs between
+    → AllAdd between ds rows
+    → AllAdd m (cs ++ ds) rows
 all-then m cs ds (all, built) (all-more, built-more) = (
   rw (accepted-append cs ds m, all, ← built, all-more),
   rw (build-append cs ds m, ← built) built-more,
 )
 
 -- and where they are together, each part is
-all-parts : (m : List Row) (cs ds : List (List Row)) {rows : List Row} → AllAdd m (cs ++ ds) rows → (acceptedOf m cs ≡ cs) × AllAdd (build m cs) ds rows
+all-parts :
+    (m : List Row) (cs ds : List (List Row)) {rows : List Row}
+    → AllAdd m (cs ++ ds) rows
+    → (acceptedOf m cs ≡ cs) × AllAdd (build m cs) ds rows
 all-parts m cs ds (all, built) =
     let parts : acceptedOf m cs ++ acceptedOf (build m cs) ds ≡ cs ++ ds = sym (accepted-append cs ds m) ∙ all in
     let long : length (acceptedOf m cs) + length (acceptedOf (build m cs) ds) ≡ length cs + length ds = simp length-append at (ap length parts) in
@@ -175,7 +194,10 @@ abbrev pub Adds : List Row → Answer (List Row) → Answer (List (List Row)) �
 Adds m added given = (rows : List Row) → (added ≡ accepted rows) ↔ ((cs : List (List Row)) × (given ≡ accepted cs) × AllAdd m cs rows)
 
 -- contributions are given, and all of them are added
-adds-given : (m : List Row) (cs : List (List Row)) (added : Answer (List Row)) → ((rows : List Row) → (added ≡ accepted rows) ↔ AllAdd m cs rows) → Adds m added (accepted cs)
+adds-given :
+    (m : List Row) (cs : List (List Row)) (added : Answer (List Row))
+    → ((rows : List Row) → (added ≡ accepted rows) ↔ AllAdd m cs rows)
+    → Adds m added (accepted cs)
 adds-given m cs added whole rows = (
   λ e. (cs, refl, whole rows .0 e),
   λ (ds, given, all). whole rows .1 (rw (sym (accepted-same cs ds given)) at all),
@@ -228,7 +250,7 @@ adds-then m added given next others first rest rows = (
 -- ---- a text, line by line
 
 -- the lines from one on, and then the end
-abbrev finish : {S : Type 0} → (ℕ → List Row → S → Answer S) → List Item → ℕ → List (List ℕ) → Policy S → Answer S
+abbrev pub finish : {S : Type 0} → (ℕ → List Row → S → Answer S) → List Item → ℕ → List (List ℕ) → Policy S → Answer S
 finish taking items place lines p = andThen (foldLines (policyLine taking items) place lines p) (λ all. closed taking items (all .lines) (all .state))
 
 module _ (items : List Item) (cs : List (List Row)) where
@@ -236,18 +258,26 @@ module _ (items : List Item) (cs : List (List Row)) where
   abbrev behindThem : Policy (List (List Row)) → Policy (List (List Row))
   behindThem p = policy (cs ++ p .sofar) (p .begun)
 
-  closed-behind : (place : ℕ) (p : Policy (List (List Row))) → closed gatherAt items place (behindThem p) ≡ inFront cs (closed gatherAt items place p)
+  closed-behind :
+      (place : ℕ) (p : Policy (List (List Row)))
+      → closed gatherAt items place (behindThem p) ≡ inFront cs (closed gatherAt items place p)
   closed-behind place p = go (p .begun)
     where
-      go : (b : Option Begun) → closed gatherAt items place (policy (cs ++ p .sofar) b) ≡ inFront cs (closed gatherAt items place (policy (p .sofar) b))
+      go :
+          (b : Option Begun)
+          → closed gatherAt items place (policy (cs ++ p .sofar) b) ≡ inFront cs (closed gatherAt items place (policy (p .sofar) b))
       go none = refl
       go (some b) = one (ended (b .request) place (b .results))
         where
-          one : (answer : Answer (List Row)) → andThen answer (λ c. gatherAt place c (cs ++ p .sofar)) ≡ inFront cs (andThen answer (λ c. gatherAt place c (p .sofar)))
+          one :
+              (answer : Answer (List Row))
+              → andThen answer (λ c. gatherAt place c (cs ++ p .sofar)) ≡ inFront cs (andThen answer (λ c. gatherAt place c (p .sofar)))
           one (accepted c) = rw append-assoc
           one (refused number at) = refl
 
-  line-behind : (place : ℕ) (line : List ℕ) (p : Policy (List (List Row))) → policyLine gatherAt items place line (behindThem p) ≡ andThen (policyLine gatherAt items place line p) (λ then. accepted (behindThem then))
+  line-behind :
+      (place : ℕ) (line : List ℕ) (p : Policy (List (List Row)))
+      → policyLine gatherAt items place line (behindThem p) ≡ andThen (policyLine gatherAt items place line p) (λ then. accepted (behindThem then))
   line-behind place line p =
       by-option (requestIn line)
       (λ q. rw (q, policyLine) (stepped (p .begun)))
@@ -272,7 +302,9 @@ module _ (items : List Item) (cs : List (List Row)) where
       opened request (accepted ds) = refl
       opened request (refused number at) = refl
 
-  finish-behind : (place : ℕ) (lines : List (List ℕ)) (b : Option Begun) → finish gatherAt items place lines (policy cs b) ≡ inFront cs (finish gatherAt items place lines (policy [] b))
+  pub finish-behind :
+      (place : ℕ) (lines : List (List ℕ)) (b : Option Begun)
+      → finish gatherAt items place lines (policy cs b) ≡ inFront cs (finish gatherAt items place lines (policy [] b))
   finish-behind place lines b =
       let same : policy cs b ≡ behindThem (policy [] b) = rw append-nil in
       rw (same, fold-alike (policyLine gatherAt items) (policyLine gatherAt items) behindThem line-behind lines place (policy [] b))
@@ -285,7 +317,9 @@ module _ (items : List Item) (cs : List (List Row)) where
       go (refused number at) = refl
 
 module _ (items : List Item) where
-  closed-adds : (place : ℕ) (b : Option Begun) (m : List Row) → Adds m (closed addAt items place (policy m b)) (closed gatherAt items place (policy [] b))
+  closed-adds :
+      (place : ℕ) (b : Option Begun) (m : List Row)
+      → Adds m (closed addAt items place (policy m b)) (closed gatherAt items place (policy [] b))
   closed-adds place none m = adds-none m
   closed-adds place (some b) m = adds-behind m (ended (b .request) place (b .results)) (λ c. adds-one place c m)
 

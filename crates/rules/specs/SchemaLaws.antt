@@ -35,7 +35,12 @@ ahead-accepted :
 ahead-accepted it (accepted others) items e then = then others refl (accepted-same (it ∷ others) items e)
 ahead-accepted it (refused number place) items e then = refused-not number place items e
 
-said-front : (known : Known) (it : Item) (items : List Item) → fits known it ≡ true → Said it → LawfulAndSaid (beyond known it) items → LawfulAndSaid known (it ∷ items)
+said-front :
+    (known : Known) (it : Item) (items : List Item)
+    → fits known it ≡ true
+    → Said it
+    → LawfulAndSaid (beyond known it) items
+    → LawfulAndSaid known (it ∷ items)
 unfolding lawfulItems Each
 said-front known it items fit said (rest, others) = rw fit (rest, (said, others))
 
@@ -43,7 +48,10 @@ said-none : (known : Known) (items : List Item) → accepted [] ≡ accepted ite
 unfolding lawfulItems Each
 said-none known items e = rw (sym (accepted-same [] items e)) (refl, tt)
 
-lines-said : (lines : List (List ℕ)) (known : Known) (place : ℕ) (items : List Item) → itemsFrom known place lines ≡ accepted items → LawfulAndSaid known items
+lines-said :
+    (lines : List (List ℕ)) (known : Known) (place : ℕ) (items : List Item)
+    → itemsFrom known place lines ≡ accepted items
+    → LawfulAndSaid known items
 unfolding itemsFrom
 lines-said [] known place items e = said-none known items e
 lines-said (line ∷ []) known place items e =
@@ -60,7 +68,10 @@ lines-said (line ∷ next ∷ lines) known place items e =
     (λ unfit. refused-not 1 place items (rw (q, itemsFrom, unfit) at e)))
 
 -- The items of a schema's text may stand one after the other, and each is said by a line.
-pub schema-said : (text : List ℕ) (items : List Item) → readSchema text ≡ accepted items → (lawfulItems unknown items ≡ true) × Each Said items
+pub schema-said :
+    (text : List ℕ) (items : List Item)
+    → readSchema text ≡ accepted items
+    → (lawfulItems unknown items ≡ true) × Each Said items
 schema-said text items e = lines-said (linesOf text) unknown 0 items e
 
 -- ---- keys
