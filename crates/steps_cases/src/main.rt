@@ -1,4 +1,5 @@
-// Replays the vectors of data/: step texts under request type (10, 500, 20) with their schema, in data/oracle also with the Rust's answer.
+// Replays the vectors of data/: step texts under request type (10, 500, 20), and policy texts, with their schema, in data/oracle also with the
+// Rust's answer.
 use cases::print;
 use listing::Written;
 use rows::Kind;
@@ -24,9 +25,9 @@ fn tell_refused(line: &[u8], number: u64, place: u64) {
     tell(line, b"", &out[..end]);
 }
 
-fn tell_contribution(line: &[u8], state: &[u64]) {
+fn tell_listing(line: &[u8], kind: Kind, state: &[u64]) {
     let mut out = [0u8; TEXT];
-    let written = listing::write_listing(Kind::Contribution, state, &mut out);
+    let written = listing::write_listing(kind, state, &mut out);
     match written {
         Written::Refused(number, place) => tell_refused(line, number, place),
         Written::Bytes(n) => {
@@ -45,11 +46,35 @@ fn ask_steps(line: &[u8], schema: &[u64]) {
     let reply = analysis::analyse(schema, 42_982_440_980, &text[..n], &mut state);
     match reply {
         Reply::Refused(number, place) => tell_refused(line, number, place),
-        Reply::Done => tell_contribution(line, &state),
+        Reply::Done => tell_listing(line, Kind::Contribution, &state),
     }
 }
 
-// Reads the schema of a line, and then its steps.
+// Adds the policy text of a field to a manifest, and answers whether it was accepted.
+fn add_text(line: &[u8], field: usize, schema: &[u64], manifest: &mut [u64]) -> bool {
+    let mut text = [0u8; TEXT];
+    let n = cases::decode_field(line, field, &mut text);
+    let reply = analysis::add_policy(schema, &text[..n], manifest);
+    if let Reply::Refused(number, place) = reply {
+        tell_refused(line, number, place);
+        return false;
+    }
+    true
+}
+
+// Adds the policy texts of a line to an empty manifest; where a field is missing its text is empty and adds nothing.
+fn ask_policies(line: &[u8], schema: &[u64]) {
+    let mut manifest = [0u64; 4_161];
+    if add_text(line, 2, schema, &mut manifest) {
+        if add_text(line, 4, schema, &mut manifest) {
+            if add_text(line, 5, schema, &mut manifest) {
+                tell_listing(line, Kind::Manifest, &manifest);
+            }
+        }
+    }
+}
+
+// Reads the schema of a line, and then its steps or its policy texts.
 fn ask(line: &[u8]) {
     let mut text = [0u8; TEXT];
     let n = cases::decode_field(line, 1, &mut text);
@@ -57,7 +82,13 @@ fn ask(line: &[u8]) {
     let reply = Schema::read(&text[..n], &mut state);
     match reply {
         Reply::Refused(number, place) => tell_refused(line, number, place),
-        Reply::Done => ask_steps(line, &state),
+        Reply::Done => {
+            if cases::is_word(line, 0, b"policy") {
+                ask_policies(line, &state);
+            } else {
+                ask_steps(line, &state);
+            }
+        }
     }
 }
 
@@ -105,5 +136,6 @@ fn main() {
     replay_file(b"cases5");
     replay_file(b"cases6");
     replay_file(b"cases7");
+    replay_file(b"cases8");
     replay_file(b"oracle");
 }

@@ -1,9 +1,9 @@
--- `steps_cases::tell_contribution` is safe: what was written lies within the buffer.
+-- `steps_cases::tell_listing` is safe: what was written lies within the buffer.
 use mathlib.Core.Path.{sym}
 use lib.Seq.{length-take-le}
 use borrow.Author.Needs.{needs}
-use Rattle.steps_cases.proofs.tell_contribution.Statement.{statement}
-use Rattle.steps_cases.proofs.tell_contribution.Tie as tie
+use Rattle.steps_cases.proofs.tell_listing.Statement.{statement}
+use Rattle.steps_cases.proofs.tell_listing.Tie as tie
 
 slice-aggregate-write-listing : tie.Need-slice-aggregate-write-listing
 slice-aggregate-write-listing c = search needs
@@ -41,8 +41,8 @@ returns-2 c = search needs
 returns-3 : tie.Need-returns-3
 returns-3 c = search needs
 
-pub tell-contribution-spec : {M : Type 1} → statement M
-tell-contribution-spec =
+pub tell-listing-spec : {M : Type 1} → statement M
+tell-listing-spec =
     tie.close
     (tie.spec
     slice-aggregate-write-listing
