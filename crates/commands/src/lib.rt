@@ -1,0 +1,102 @@
+// The program's commands: which words a command line has, and the job that they ask for.
+ghost use Prim.Native.Nat.{_≤_};
+use files::CANNOT;
+use jobs::To;
+use messages::say_cannot;
+use text::Decimal;
+
+// What stands for a word that is no id.
+const NO_ID: u64 = 65_536;
+
+// The id that word i writes, or NO_ID.
+fn id_word(line: &[u8], i: usize) -> u64
+    ensures { λ r. ⌜ r ≤ 65536 ⌝ }
+{
+    let mut word = io::buffer();
+    let n = files::word(line, i, &mut word);
+    let Decimal::Value(id) = Decimal::read(&word[..n]) else {
+        return NO_ID;
+    };
+    if NO_ID < id {
+        return NO_ID;
+    }
+    id
+}
+
+// `steps P A R SCHEMA FILE`: the request type of P, A and R, and what the steps come to under it.
+fn steps(to: To, line: &[u8]) -> u64 {
+    let principal = id_word(line, 2);
+    if principal == NO_ID {
+        return misused(to, b"P is an id from 0 to 65535", b"");
+    }
+    let action = id_word(line, 3);
+    if action == NO_ID {
+        return misused(to, b"A is an id from 0 to 65535", b"");
+    }
+    let resource = id_word(line, 4);
+    if resource == NO_ID {
+        return misused(to, b"R is an id from 0 to 65535", b"");
+    }
+    jobs::analyse(
+        to,
+        line,
+        (principal * 0x1_0000 + action) * 0x1_0000 + resource,
+    )
+}
+
+fn help(to: To) -> u64 {
+    files::write(
+        to.out,
+        to.err,
+        b"terbagyl build SCHEMA FILE...       analyses each FILE, a policy text, and writes the listing of the manifest\nterbagyl steps P A R SCHEMA FILE    analyses FILE, a step text, under request type (P, A, R) and writes the contribution\nterbagyl list FILE                  reads a listing and writes it again\nterbagyl merge FILE...              adds each FILE, a contribution's text, to an empty manifest and writes its listing\nterbagyl help                       this text\n",
+    )
+}
+
+// A command line that cannot be used.
+fn misused(to: To, reason: &[u8], about: &[u8]) -> u64 {
+    say_cannot(to.err, reason, about);
+    CANNOT
+}
+
+// The command that the first word names, with so many words.
+fn run_command(to: To, line: &[u8], count: usize, command: &[u8]) -> u64 {
+    if check::same(command, b"help") {
+        return help(to);
+    }
+    if check::same(command, b"list") {
+        if count != 3 {
+            return misused(to, b"list takes one file", b"");
+        }
+        return jobs::list(to, line);
+    }
+    if check::same(command, b"build") {
+        if count < 4 {
+            return misused(to, b"build takes a schema and a file or more", b"");
+        }
+        return jobs::build(to, line, count);
+    }
+    if check::same(command, b"steps") {
+        if count != 7 {
+            return misused(to, b"steps takes P A R, a schema and a file", b"");
+        }
+        return steps(to, line);
+    }
+    if check::same(command, b"merge") {
+        if count < 3 {
+            return misused(to, b"merge takes a file or more", b"");
+        }
+        return jobs::merge(to, line, count);
+    }
+    misused(to, b"there is no command ", command)
+}
+
+// Runs a command line, whose words are parted by a space; an empty one stands for the program's own arguments. Answers the status.
+pub fn run(to: To, line: &[u8]) -> u64 {
+    let count = files::count_words(line);
+    if count < 2 {
+        return misused(to, b"there is no command", b"");
+    }
+    let mut command = io::buffer();
+    let n = files::word(line, 1, &mut command);
+    run_command(to, line, count, &command[..n])
+}

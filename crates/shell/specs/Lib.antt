@@ -1,2 +1,0 @@
--- What the shell's functions say of what they read.
-pub mod Files
