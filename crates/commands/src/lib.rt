@@ -1,7 +1,7 @@
 // The program's commands: which words a command line has, and the job that they ask for.
 ghost use Prim.Native.Nat.{_≤_};
 use files::CANNOT;
-use jobs::To;
+use listing_jobs::To;
 use messages::say_cannot;
 use text::Decimal;
 
@@ -37,7 +37,7 @@ fn steps(to: To, line: &[u8]) -> u64 {
     if resource == NO_ID {
         return misused(to, b"R is an id from 0 to 65535", b"");
     }
-    jobs::analyse(
+    policy_jobs::analyse(
         to,
         line,
         (principal * 0x1_0000 + action) * 0x1_0000 + resource,
@@ -67,13 +67,13 @@ fn run_command(to: To, line: &[u8], count: usize, command: &[u8]) -> u64 {
         if count != 3 {
             return misused(to, b"list takes one file", b"");
         }
-        return jobs::list(to, line);
+        return listing_jobs::list(to, line);
     }
     if check::same(command, b"build") {
         if count < 4 {
             return misused(to, b"build takes a schema and a file or more", b"");
         }
-        return jobs::build(to, line, count);
+        return policy_jobs::build(to, line, count);
     }
     if check::same(command, b"steps") {
         if count != 7 {
@@ -85,7 +85,7 @@ fn run_command(to: To, line: &[u8], count: usize, command: &[u8]) -> u64 {
         if count < 3 {
             return misused(to, b"merge takes a file or more", b"");
         }
-        return jobs::merge(to, line, count);
+        return listing_jobs::merge(to, line, count);
     }
     misused(to, b"there is no command ", command)
 }

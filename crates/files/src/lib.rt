@@ -36,6 +36,12 @@ pub fn say_number(fd: i32, number: u64) {
     io::print_decimal(fd, number);
 }
 
+// A byte as two digits.
+fn say_hex(fd: i32, byte: u8) {
+    say(fd, b"\\x");
+    io::print_hex(fd, byte as u64, 2);
+}
+
 // A byte that a name or a line has: escaped, where a terminal would do something else than show it.
 fn say_byte(fd: i32, byte: u8) {
     match byte {
@@ -43,19 +49,30 @@ fn say_byte(fd: i32, byte: u8) {
         b'\n' => say(fd, b"\\n"),
         b'\r' => say(fd, b"\\r"),
         b'\\' => say(fd, b"\\\\"),
-        0..=31 | 127 => {
-            say(fd, b"\\x");
-            io::print_hex(fd, byte as u64, 2);
-        }
+        0..=31 | 127 => say_hex(fd, byte),
         _ => say(fd, &[byte]),
     }
 }
 
-// All bytes of a name, or of a part of a line.
-pub fn say_escaped(fd: i32, bytes: &[u8]) {
+// All bytes of a name. Those over 127 are left as they are, since a name may be UTF-8.
+pub fn say_name(fd: i32, name: &[u8]) {
     let mut i = 0;
-    while i < bytes.len() {
-        say_byte(fd, bytes[i]);
+    while i < name.len() {
+        say_byte(fd, name[i]);
+        i += 1;
+    }
+}
+
+// All bytes of a part of a line. No form has those over 127, so that they are escaped.
+pub fn say_line(fd: i32, line: &[u8]) {
+    let mut i = 0;
+    while i < line.len() {
+        let byte = line[i];
+        if 127 < byte {
+            say_hex(fd, byte);
+        } else {
+            say_byte(fd, byte);
+        }
         i += 1;
     }
 }
@@ -148,7 +165,7 @@ fn say_cause(fd: i32, error: i32) {
 // `terbagyl: cannot read FILE: cause`
 fn say_unread(fd: i32, name: &[u8], error: i32) {
     say(fd, b"terbagyl: cannot: read ");
-    say_escaped(fd, name);
+    say_name(fd, name);
     say(fd, b": ");
     say_cause(fd, error);
     say(fd, b"\n");
@@ -164,7 +181,7 @@ fn say_unwritten(fd: i32, error: i32) {
 // `terbagyl: FILE: refused 15 at 0: over 65,536 bytes`
 fn say_long(fd: i32, name: &[u8]) {
     say(fd, b"terbagyl: ");
-    say_escaped(fd, name);
+    say_name(fd, name);
     say(fd, b": refused 15 at 0: over 65,536 bytes\n");
 }
 

@@ -1,10 +1,10 @@
--- `jobs::build` ends: the words left fall.
+-- `policy_jobs::build` ends: the words left fall.
 use Prim.Native.Nat.{_-_}
 use mathlib.Core.Path.{_≡_}
 use borrow.Author.Needs.{needs}
 use lib.ListN.{length}
-use Rattle.jobs.proofs.build.Statement.{statement}
-use Rattle.jobs.proofs.build.Tie as tie
+use Rattle.policy_jobs.proofs.build.Statement.{statement}
+use Rattle.policy_jobs.proofs.build.Tie as tie
 
 abbrev Inv-loop : tie.InvT-loop
 Inv-loop to line count schema read manifest₀ i₀ manifest i = length manifest ≡ 4161

@@ -1,10 +1,10 @@
--- `jobs::write_listing` is safe: no more is written than there is room for.
+-- `listing_jobs::write_listing` is safe: no more is written than there is room for.
 use mathlib.Core.Path.{sym}
 use borrow.Author.Needs.{needs}
 use lib.Seq.{length-take-le}
 use borrow.Author.Needs.{needs}
-use Rattle.jobs.proofs.write_listing.Statement.{statement}
-use Rattle.jobs.proofs.write_listing.Tie as tie
+use Rattle.listing_jobs.proofs.write_listing.Statement.{statement}
+use Rattle.listing_jobs.proofs.write_listing.Tie as tie
 
 slice-aggregate-write-listing : tie.Need-slice-aggregate-write-listing
 slice-aggregate-write-listing c = search needs

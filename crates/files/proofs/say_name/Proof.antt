@@ -1,15 +1,15 @@
--- `files::say_escaped` ends: the bytes left fall.
+-- `files::say_name` ends: the bytes left fall.
 use Prim.Native.Nat.{_-_}
 use borrow.Author.Needs.{needs}
 use lib.ListN.{length}
-use Rattle.files.proofs.say_escaped.Statement.{statement}
-use Rattle.files.proofs.say_escaped.Tie as tie
+use Rattle.files.proofs.say_name.Statement.{statement}
+use Rattle.files.proofs.say_name.Tie as tie
 
 abbrev Inv-loop : tie.InvT-loop
-Inv-loop fd bytes i₀ i = Unit
+Inv-loop fd name i₀ i = Unit
 
 abbrev μ-loop : tie.MeasureT-loop
-μ-loop fd bytes i₀ i = length bytes - i
+μ-loop fd name i₀ i = length name - i
 
 loop-holds : tie.Need-loop-holds Inv-loop μ-loop
 loop-holds c = search needs
@@ -32,8 +32,8 @@ loop-again c = search needs
 returns : tie.Need-returns Inv-loop μ-loop
 returns c = search needs
 
-pub say-escaped-spec : {M : Type 1} → statement M
-say-escaped-spec =
+pub say-name-spec : {M : Type 1} → statement M
+say-name-spec =
     tie.close
     (tie.spec
     Inv-loop

@@ -1,10 +1,10 @@
--- `jobs::merge` ends: the words left fall.
+-- `listing_jobs::merge` ends: the words left fall.
 use Prim.Native.Nat.{_-_}
 use mathlib.Core.Path.{_≡_}
 use borrow.Author.Needs.{needs}
 use lib.ListN.{length}
-use Rattle.jobs.proofs.merge.Statement.{statement}
-use Rattle.jobs.proofs.merge.Tie as tie
+use Rattle.listing_jobs.proofs.merge.Statement.{statement}
+use Rattle.listing_jobs.proofs.merge.Tie as tie
 
 abbrev Inv-loop : tie.InvT-loop
 Inv-loop to line count manifest₀ i₀ manifest i = length manifest ≡ 4161

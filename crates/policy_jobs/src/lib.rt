@@ -1,0 +1,89 @@
+// The jobs on a schema: a manifest built of policy texts, and a step text analysed.
+use entity_manifest::Kind;
+use entity_manifest::Reply;
+use files::DONE;
+use listing_jobs::To;
+use listing_jobs::WORDS;
+use listing_jobs::refuse;
+use listing_jobs::write_listing;
+use messages::Form;
+
+// The words of a schema.
+const SCHEMA: usize = 142_337;
+
+// Reads the schema that word i names.
+fn load_schema(to: To, line: &[u8], i: usize, count: usize, schema: &mut [u64]) -> u64 {
+    let mut text = [0u8; 65_537];
+    let loaded = files::load(to.err, line, i, &mut text);
+    if loaded.status != DONE {
+        return loaded.status;
+    }
+    let n = loaded.bytes;
+    let reply = entity_manifest::read_schema(&text[..n], schema);
+    if let Reply::Refused(number, place) = reply {
+        return refuse(to, line, i, count, Form::Schema, number, place, &text[..n]);
+    }
+    DONE
+}
+
+// Adds the policy text that word i names to a manifest.
+fn add_policy(
+    to: To,
+    line: &[u8],
+    i: usize,
+    count: usize,
+    schema: &[u64],
+    manifest: &mut [u64],
+) -> u64 {
+    let mut text = [0u8; 65_537];
+    let loaded = files::load(to.err, line, i, &mut text);
+    if loaded.status != DONE {
+        return loaded.status;
+    }
+    let n = loaded.bytes;
+    let reply = entity_manifest::add_policy(schema, &text[..n], manifest);
+    if let Reply::Refused(number, place) = reply {
+        return refuse(to, line, i, count, Form::Policy, number, place, &text[..n]);
+    }
+    DONE
+}
+
+// `build SCHEMA FILE...`: adds all policy texts to an empty manifest, all or nothing, and writes the listing.
+pub fn build(to: To, line: &[u8], count: usize) -> u64 {
+    let mut schema = [0u64; SCHEMA];
+    let read = load_schema(to, line, 2, count, &mut schema);
+    if read != DONE {
+        return read;
+    }
+    let mut manifest = [0u64; WORDS];
+    let mut i = 3;
+    while i < count {
+        let status = add_policy(to, line, i, count, &schema, &mut manifest);
+        if status != DONE {
+            return status;
+        }
+        i += 1;
+    }
+    write_listing(to, Kind::Manifest, &manifest)
+}
+
+// Analyses the step text that word 6 names, with the schema that word 5 names, and writes the contribution.
+pub fn analyse(to: To, line: &[u8], request: u64) -> u64 {
+    let mut schema = [0u64; SCHEMA];
+    let read = load_schema(to, line, 5, 7, &mut schema);
+    if read != DONE {
+        return read;
+    }
+    let mut text = [0u8; 65_537];
+    let loaded = files::load(to.err, line, 6, &mut text);
+    if loaded.status != DONE {
+        return loaded.status;
+    }
+    let n = loaded.bytes;
+    let mut contribution = [0u64; 1_026];
+    let reply = entity_manifest::analyse(&schema, request, &text[..n], &mut contribution);
+    if let Reply::Refused(number, place) = reply {
+        return refuse(to, line, 6, 7, Form::Steps, number, place, &text[..n]);
+    }
+    write_listing(to, Kind::Contribution, &contribution)
+}
