@@ -2,7 +2,7 @@
 ghost use Prim.Native.Nat.{_≤_};
 use files::CANNOT;
 use listing_jobs::To;
-use messages::say_cannot;
+use messages::say_misused;
 use text::Decimal;
 
 // What stands for a word that is no id.
@@ -21,6 +21,12 @@ fn id_word(line: &[u8], i: usize) -> u64
         return NO_ID;
     }
     id
+}
+
+// A command line that cannot be used, for a reason and with a word that it is about.
+fn misused(to: To, reason: &[u8], about: &[u8]) -> u64 {
+    say_misused(to.err, reason, about);
+    CANNOT
 }
 
 // `steps P A R SCHEMA FILE`: the request type of P, A and R, and what the steps come to under it.
@@ -44,25 +50,45 @@ fn steps(to: To, line: &[u8]) -> u64 {
     )
 }
 
-fn help(to: To) -> u64 {
-    files::write(
-        to.out,
-        to.err,
-        b"terbagyl build SCHEMA FILE...       analyses each FILE, a policy text, and writes the listing of the manifest\nterbagyl steps P A R SCHEMA FILE    analyses FILE, a step text, under request type (P, A, R) and writes the contribution\nterbagyl list FILE                  reads a listing and writes it again\nterbagyl merge FILE...              adds each FILE, a contribution's text, to an empty manifest and writes its listing\nterbagyl help                       this text\n",
-    )
+// `help COMMAND`
+fn help_of(to: To, line: &[u8], i: usize) -> u64 {
+    let mut word = io::buffer();
+    let n = files::word(line, i, &mut word);
+    let status = help::say_command(to, &word[..n]);
+    if status == help::NONE {
+        return misused(to, b"there is no command ", &word[..n]);
+    }
+    status
 }
 
-// A command line that cannot be used.
-fn misused(to: To, reason: &[u8], about: &[u8]) -> u64 {
-    say_cannot(to.err, reason, about);
-    CANNOT
+// `help`, alone or with a command.
+fn help(to: To, line: &[u8], count: usize) -> u64 {
+    if count == 2 {
+        return help::say_all(to);
+    }
+    if count == 3 {
+        return help_of(to, line, 2);
+    }
+    misused(to, b"help takes one command", b"")
+}
+
+// Whether a word asks for help.
+fn is_help(word: &[u8]) -> bool {
+    check::same(word, b"--help") || check::same(word, b"-h")
+}
+
+// Whether word 2 of three asks for help.
+fn asks_help(line: &[u8], count: usize) -> bool {
+    if count != 3 {
+        return false;
+    }
+    let mut word = io::buffer();
+    let n = files::word(line, 2, &mut word);
+    is_help(&word[..n])
 }
 
 // The command that the first word names, with so many words.
 fn run_command(to: To, line: &[u8], count: usize, command: &[u8]) -> u64 {
-    if check::same(command, b"help") {
-        return help(to);
-    }
     if check::same(command, b"list") {
         if count != 3 {
             return misused(to, b"list takes one file", b"");
@@ -90,6 +116,20 @@ fn run_command(to: To, line: &[u8], count: usize, command: &[u8]) -> u64 {
     misused(to, b"there is no command ", command)
 }
 
+// What a command line asks for by its first word: help, the version, or a command.
+fn run_word(to: To, line: &[u8], count: usize, command: &[u8]) -> u64 {
+    if check::same(command, b"help") || is_help(command) {
+        return help(to, line, count);
+    }
+    if check::same(command, b"--version") {
+        return help::say_version(to);
+    }
+    if asks_help(line, count) {
+        return help_of(to, line, 1);
+    }
+    run_command(to, line, count, command)
+}
+
 // Runs a command line, whose words are parted by a space; an empty one stands for the program's own arguments. Answers the status.
 pub fn run(to: To, line: &[u8]) -> u64 {
     let count = files::count_words(line);
@@ -98,5 +138,5 @@ pub fn run(to: To, line: &[u8]) -> u64 {
     }
     let mut command = io::buffer();
     let n = files::word(line, 1, &mut command);
-    run_command(to, line, count, &command[..n])
+    run_word(to, line, count, &command[..n])
 }

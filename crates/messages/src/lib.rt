@@ -185,10 +185,10 @@ pub fn say_unadded(err: i32, name: &[u8], number: u64) {
     }
 }
 
-// `terbagyl: cannot: reason`
-pub fn say_cannot(err: i32, reason: &[u8], about: &[u8]) {
+// `terbagyl: cannot: reason; see terbagyl help`
+pub fn say_misused(err: i32, reason: &[u8], about: &[u8]) {
     say(err, b"terbagyl: cannot: ");
     say(err, reason);
     say_name(err, about);
-    say(err, b"\n");
+    say(err, b"; see terbagyl help\n");
 }

@@ -1,0 +1,103 @@
+// What the program says of itself.
+use files::write;
+use listing_jobs::To;
+
+fn say_build(to: To) -> u64 {
+    write(
+        to.out,
+        to.err,
+        b"terbagyl build SCHEMA FILE...\n\nReads a schema, analyses each FILE, a policy text, adds what its contributions read to an empty manifest and writes the listing of that:\nall of them, or nothing and a refusal. The order of the FILEs does not matter. An empty policy text has no contribution.\nNames and types of the steps are not checked against the schema: only full asks it, for a type by its number.\n",
+    )
+}
+
+fn say_steps(to: To) -> u64 {
+    write(
+        to.out,
+        to.err,
+        b"terbagyl steps P A R SCHEMA FILE\n\nAnalyses FILE, a step text, with a schema and under the request type of principal type P, action A and resource type R, ids from 0 to 65535,\nand writes the contribution: a listing of one request type.\n",
+    )
+}
+
+fn say_list(to: To) -> u64 {
+    write(
+        to.out,
+        to.err,
+        b"terbagyl list FILE\n\nReads FILE, a listing, and writes it again, byte for byte; or refuses it with the first line that is not lawful.\n",
+    )
+}
+
+fn say_merge(to: To) -> u64 {
+    write(
+        to.out,
+        to.err,
+        b"terbagyl merge FILE...\n\nAdds all entries of each FILE, a listing or a contribution with one entry or more, to an empty manifest and writes the listing of that:\nall of them, or nothing and a refusal. The order of the FILEs does not matter.\n",
+    )
+}
+
+fn say_commands(to: To) -> u64 {
+    write(
+        to.out,
+        to.err,
+        b"usage: terbagyl COMMAND ...\n\n  build SCHEMA FILE...      analyse policy texts, and write the listing of their manifest\n  steps P A R SCHEMA FILE   analyse a step text under a request type, and write the contribution\n  list FILE                 read a listing, and write it again\n  merge FILE...             add listings or contributions to each other, and write the listing\n  help [COMMAND]            this text, or more of a command; also -h and --help\n  --version                 which version this is\n\n",
+    )
+}
+
+fn say_forms(to: To) -> u64 {
+    write(
+        to.out,
+        to.err,
+        b"A FILE may be a pipe or /dev/stdin and is read once. A line ends in LF, and one tab parts two fields.\n\n  listing       A lines (request types), each with its N lines (what is read)\n  contribution  a listing with one A line\n  policy text   A lines, each with the step lines of a contribution\n  step text     step lines: var lit none attr union drop full in set rec\n  schema        T, E, F, L and C lines\n\ndocs/FORMS.md has every form, and every number with which a text is refused.\n\n",
+    )
+}
+
+fn say_statuses(to: To) -> u64 {
+    write(
+        to.out,
+        to.err,
+        b"Status 0: done, and the result is on standard output.\nStatus 1: a text is refused, `FILE: refused N at P (line L): reason`.\nStatus 2: the command line, a file or standard output cannot be used, `cannot: reason`.\n",
+    )
+}
+
+// All commands, forms and statuses.
+pub fn say_all(to: To) -> u64 {
+    let commands = say_commands(to);
+    if commands != files::DONE {
+        return commands;
+    }
+    let forms = say_forms(to);
+    if forms != files::DONE {
+        return forms;
+    }
+    say_statuses(to)
+}
+
+// A command; answers NONE where there is no such.
+pub fn say_command(to: To, command: &[u8]) -> u64 {
+    if check::same(command, b"build") {
+        return say_build(to);
+    }
+    if check::same(command, b"steps") {
+        return say_steps(to);
+    }
+    if check::same(command, b"list") {
+        return say_list(to);
+    }
+    if check::same(command, b"merge") {
+        return say_merge(to);
+    }
+    if check::same(command, b"help") {
+        return say_all(to);
+    }
+    NONE
+}
+
+// What stands for a command that is not there: no status.
+pub const NONE: u64 = 3;
+
+pub fn say_version(to: To) -> u64 {
+    write(
+        to.out,
+        to.err,
+        b"terbagyl 0.1, after entity_manifest of cedar-policy-validator 4.4.1\n",
+    )
+}
