@@ -127,6 +127,9 @@ fn run_word(to: To, line: &[u8], count: usize, command: &[u8]) -> u64 {
     if asks_help(line, count) {
         return help_of(to, line, 1);
     }
+    if files::has_input_twice(line, count) {
+        return misused(to, b"/dev/stdin is named twice, and can be read once", b"");
+    }
     run_command(to, line, count, command)
 }
 

@@ -207,10 +207,18 @@ fn read_all(fd: i32, text: &mut [u8]) -> Read
     Read { error: 0, bytes: n }
 }
 
-// Opens a file and reads it, once.
+// Whether a name stands for standard input.
+fn is_input(name: &[u8]) -> bool {
+    check::same(name, b"/dev/stdin")
+}
+
+// Opens a file and reads it, once. Standard input is open: to open it again by its name would fail where it is a socket or another user's.
 fn read_file(name: &[u8], text: &mut [u8]) -> Read
     ensures { λ r. ⌜ Counts (r .bytes) (now (text .exit)) ⌝ }
 {
+    if is_input(name) {
+        return read_all(libc::STDIN_FILENO, text);
+    }
     let fd = os::open_read(name);
     if fd < 0 {
         return Read {
@@ -221,6 +229,29 @@ fn read_file(name: &[u8], text: &mut [u8]) -> Read
     let read = read_all(fd, text);
     libc::close(fd);
     read
+}
+
+// Whether word i stands for standard input.
+fn is_input_word(line: &[u8], i: usize) -> bool {
+    let mut name = io::buffer();
+    let n = word(line, i, &mut name);
+    is_input(&name[..n])
+}
+
+// Whether two words or more stand for standard input, which gives its bytes once.
+pub fn has_input_twice(line: &[u8], count: usize) -> bool {
+    let mut is_named = false;
+    let mut i = 2;
+    while i < count {
+        if is_input_word(line, i) {
+            if is_named {
+                return true;
+            }
+            is_named = true;
+        }
+        i += 1;
+    }
+    false
 }
 
 // Reads the file that word i names into `text`, which is a byte longer than the longest text, or says why not.
