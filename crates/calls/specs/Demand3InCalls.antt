@@ -2,7 +2,7 @@
 -- statements need be read; the other files beside this one have the proofs.
 --
 -- What each call promises is said in its own crate: `emptyIn` and `addIn` (manifest), `writeIn` and `readListingIn` (listing), `readSchemaIn`
--- (schema), `analyseIn` (analysis), `addPolicyIn` (policies). Calls says what a sequence of them leaves and answers: `builtIn` and
+-- (schema), `analyseIn` and `addPolicyIn` (analysis). Calls says what a sequence of them leaves and answers: `builtIn` and
 -- `buildReplies` for contributions, `policiesIn` and `policyReplies` for policy texts, each from an empty manifest made in a buffer.
 -- `Lent kind state rows`: the state is long enough for its kind, lawful, and has these rows. `rowsIn` are the rows that a buffer holds,
 -- `build [] cs` is the manifest of Demand3; `ExactlyThose cs rows` (Demand3Listed): the rows have the places and marks of the accepted ones of
