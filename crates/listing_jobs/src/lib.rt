@@ -7,7 +7,7 @@ use entity_manifest::Reply;
 use entity_manifest::Written;
 use files::DONE;
 use files::REFUSED;
-use messages::Form;
+use forms::Form;
 
 // The words of a manifest, and the bytes of a listing.
 pub const WORDS: usize = 4_161;

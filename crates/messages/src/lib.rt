@@ -1,23 +1,14 @@
 // Refusals in words: the number and its place, the line as editors count it, what was expected, and what was met.
-mod forms;
-
 ghost use Prim.Native.Nat.{_≤_};
 ghost use lib.ListN.{length};
 use files::say;
 use files::say_line;
 use files::say_name;
 use files::say_number;
+use forms::Form;
 use pieces::depth_of;
 use pieces::is_word;
 use pieces::line_of;
-
-// The text that was refused.
-pub enum Form {
-    Listing,
-    Steps,
-    Policy,
-    Schema,
-}
 
 // As much of a line as a message shows.
 const SHOWN: usize = 80;
@@ -58,12 +49,26 @@ fn say_order(err: i32, line: &[u8], before: &[u8], place: u64) {
 // 4: too many nodes.
 fn say_nodes(err: i32, form: Form, is_end: bool) {
     if is_end {
-        say(err, b"the manifest would have over 4,096 nodes");
+        say(
+            err,
+            b"with the contribution that ends here the manifest would have over 4,096 nodes",
+        );
         return;
     }
     match form {
         Form::Listing | Form::Schema => say(err, b"over 4,096 nodes"),
         Form::Steps | Form::Policy => say(err, b"over 1,024 nodes in a contribution"),
+    }
+}
+
+// 5: too many request types.
+fn say_types(err: i32, form: Form) {
+    match form {
+        Form::Policy => say(
+            err,
+            b"the contribution that ends here has a 65th request type",
+        ),
+        Form::Listing | Form::Steps | Form::Schema => say(err, b"a 65th request type"),
     }
 }
 
@@ -89,7 +94,6 @@ fn say_reason(err: i32, number: u64, line: &[u8], before: &[u8], place: u64) {
     match number {
         2 => say_order(err, line, before, place),
         3 => say(err, b"a position would exceed 24 steps"),
-        5 => say(err, b"a 65th request type"),
         7 => say(err, b"a set is dereferenced"),
         8 => say(err, b"a literal against its type"),
         15 => say(err, b"over 256 path nodes in a result"),
@@ -117,6 +121,7 @@ fn say_expected(err: i32, form: Form, number: u64, place: u64, text: &[u8]) {
     match number {
         1 => forms::say_form(err, form, place, text, from, to),
         4 => say_nodes(err, form, is_end(text, line, from)),
+        5 => say_types(err, form),
         6 => say_results(err, line, is_end(text, line, from)),
         _ => {
             let last = before_of(text, place);

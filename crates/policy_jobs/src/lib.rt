@@ -2,11 +2,11 @@
 use entity_manifest::Kind;
 use entity_manifest::Reply;
 use files::DONE;
+use forms::Form;
 use listing_jobs::To;
 use listing_jobs::WORDS;
 use listing_jobs::refuse;
 use listing_jobs::write_listing;
-use messages::Form;
 
 // The words of a schema.
 const SCHEMA: usize = 142_337;

@@ -1,7 +1,6 @@
-// 1: a line or field is not of the stated form, and how.
+// Refusal 1 in words: how a line or field is not of the stated form.
 ghost use Prim.Native.Nat.{_≤_};
 ghost use lib.ListN.{length};
-use crate::Form;
 use files::say;
 use files::say_line;
 use pieces::field_of;
@@ -10,6 +9,14 @@ use pieces::has_fields;
 use pieces::has_gap;
 use pieces::is_decimal;
 use pieces::is_word;
+
+// The text that was refused.
+pub enum Form {
+    Listing,
+    Steps,
+    Policy,
+    Schema,
+}
 
 // What no line of any text may have; answers whether that was it.
 fn say_shape(err: i32, line: &[u8]) -> bool {
