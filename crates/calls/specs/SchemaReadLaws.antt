@@ -8,25 +8,27 @@ use mathlib.Core.List.{List, [], _∷_, map}
 use mathlib.Core.Option.{none, some, Option·none-ne-some, Option·some-injective}
 use borrow.Author.Tests.{eqb-true, leb-true, le-leb, lt-leb, lt-ltb, eq-eqb, ne-eqb}
 use lib.Dec.{leb, ltb, eqb}
-use lib.ListN.{length, getD, length-map}
+use lib.ListN.{length, length-map}
 use lib.Seq.{sets, length-sets}
 use Rattle.rules.specs.Numbers.{Answer, accepted, refused}
-use Rattle.rules.specs.Facts.{by-test, compared, cond-some, cond-other, cond-true, both-true}
+use Rattle.rules.specs.Facts.{by-test, compared, cond-some, cond-other, cond-true}
 use Rattle.rules.specs.Text.{bytes, decimalOf}
 use Rattle.rules.specs.TextLaws.{decimal-written}
 use Rattle.rules.specs.Listing.{isLetter, placeIn}
 use Rattle.rules.specs.ListingLaws.{bind-some, place-read}
 use Rattle.rules.specs.Schema.{Item, Known, item, unknown, setType, entityType, entityLine, attributeLine, lastType, ascending, namesOf, valueOf, typeOf, pairOf, itemOf, fits, beyond, lawfulItems, readSchema}
 use Rattle.rules.specs.SchemaLaws.{Said, schema-said}
-use Rattle.rules.specs.StepLaws.{Each, AllKeys, GoodSchema}
+use Rattle.rules.specs.StepLaws.{Each, GoodSchema}
 use Rattle.words.specs.Runs.{wordsIn}
 use Rattle.words.specs.RunLaws.{held-count}
 use Rattle.words.specs.declared.Reply.the-variants.{Done}
-use Rattle.schema.specs.Items.{itemIn, itemWord, isItem, allItems, itemsOf, itemsIn, goodItems, schemaWords, lawfulSchema, storingItems, readSchemaIn}
-use Rattle.schema.specs.ItemLaws.{item-key, bounded-none}
+use Rattle.schema.specs.Items.{itemIn, itemWord, isItem, allItems, itemsOf, itemsIn, schemaWords, lawfulSchema, storingItems, readSchemaIn}
+use Rattle.schema.specs.ItemLaws.{bounded-none}
 use Rattle.schema.specs.Reads.{mostLines, Bounded}
 use Rattle.schema.specs.KnownLaws.{most-lines, bounded-beyond, counted-beyond}
 use Rattle.schema.specs.ReadLaws.{ItemFits, item-fits}
+use Rattle.step_runs.specs.StepRunLaws.{schema-good}
+use Rattle.analysis.specs.AnswerLaws.{lawful-items}
 
 -- ---- what a line says is an item by itself
 
@@ -185,20 +187,6 @@ schema-read text out done =
     go long (accepted items) e done = let (order, said) = schema-said text items e in (items, refl, stored-schema out items long order said)
     go long (refused number place) e done = absurd (let z : _≡_ {A = ℕ} 0 1 = cc in omega arith)
 
--- ---- the items of a lawful schema
-
-keys-small : (words : List ℕ) → allItems words ≡ true → AllKeys (itemsOf words)
-unfolding Each allItems
-keys-small [] all = tt
-keys-small (w ∷ words) all =
-    let (one, rest) = cond-true (isItem (itemIn w)) (allItems words) .0 all in
-    (item-key (itemIn w) one, keys-small words rest)
-
--- are a good schema
+-- the items of a lawful schema are a good schema
 pub items-good : (schema : List ℕ) → lawfulSchema schema ≡ true → GoodSchema (itemsIn schema)
-unfolding lawfulSchema
-items-good schema h =
-    let good : goodItems (wordsIn schema) ≡ true =
-    both-true (ltb (getD schema 0 0) schemaWords) _ (both-true (leb schemaWords (length schema)) _ h .1) .1 in
-    let (all, order) = both-true (allItems (wordsIn schema)) _ good in
-    (order, keys-small (wordsIn schema) all)
+items-good schema h = schema-good (wordsIn schema) (lawful-items schema h)

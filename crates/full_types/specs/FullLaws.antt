@@ -2,11 +2,11 @@
 use Prim.Native.Nat.{ℕ, zero, suc, _+_, _/_, _%_, _^_, _≤_, _<_}
 use native.Mathlib.Numerals.{add-one}
 use native.Mathlib.Omega.{arith}
-use mathlib.Core.Bool.{Bool, true, false, _&&_, _||_, and-eq-true-iff, false≢true}
+use mathlib.Core.Bool.{Bool, true, false, _&&_, _||_, false≢true}
 use mathlib.Core.List.{List, [], _∷_, map}
 use mathlib.Core.Option.{Option, none, some, Option·none-ne-some}
 use mathlib.Core.Path.{_≡_, refl, sym, ap, _∙_}
-use borrow.Author.Tests.{ltb-false, leb-true, leb-false, lt-ltb, le-ltb, le-leb, lt-leb, ne-eqb}
+use borrow.Author.Tests.{ltb-false, leb-false, lt-ltb, le-ltb, le-leb, lt-leb, ne-eqb}
 use lib.Dec.{ltb, leb, eqb}
 use lib.ListN.{length, take, drop, getD, length-take, length-map, drop-of-length-le}
 use lib.Seq.{drop-cons}
@@ -22,6 +22,7 @@ use Rattle.rows.specs.Words.{wordOf, rowIn, depthIn, stepIn, markIn, typeIn}
 use Rattle.rows.specs.States.{rowsOf, rowsIn}
 use Rattle.words.specs.Runs.{wordsIn, Wrote}
 use Rattle.schema.specs.Items.{itemIn, itemsOf, isItem, allItems}
+use Rattle.schema.specs.ItemLaws.{item-key}
 use Rattle.words.specs.RunLaws.{taken-back, wrote-length}
 use Rattle.wrapped_paths.specs.Code.{pathAt, namePlace, namesIn}
 use Rattle.path_tries.specs.NodeLaws.{path-steps}
@@ -184,11 +185,11 @@ type-rows (suc n) items t keys =
     (λ e. rw e (type-rows n items t keys))
 
 pub item-keys : (words : List ℕ) → allItems words ≡ true → AllKeys (itemsOf words)
-unfolding Each allItems isItem
+unfolding Each allItems
 item-keys [] all = tt
 item-keys (w ∷ words) all =
     let (first, rest) = cond-true (isItem (itemIn w)) (allItems words) .0 all in
-    (leb-true _ _ (and-eq-true-iff (leb (w / 2 ^ 40) 65535) _ .0 first .0), item-keys words rest)
+    (item-key (itemIn w) first, item-keys words rest)
 
 -- The words that pack them.
 

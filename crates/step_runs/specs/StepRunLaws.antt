@@ -102,7 +102,7 @@ read-good Set names fields e = tt
 read-good (Rec count) names fields e = tt
 read-good Bad names fields e = tt
 
-schema-good : (words : List ℕ) → goodItems words ≡ true → GoodSchema (itemsOf words)
+pub schema-good : (words : List ℕ) → goodItems words ≡ true → GoodSchema (itemsOf words)
 schema-good words e = (good-lawful words e, item-keys words (good-all words e))
 
 -- a step that is accepted leaves results that a step may take
