@@ -23,8 +23,8 @@ pub entry-word : (w : ℕ) → depthIn w ≡ 0 → isWord w ≡ (ltb (stepIn w) 
 unfolding isWord
 entry-word w e = simp (e, and-true)
 
--- a type's number is at most 1,024
-type-small : (n : ℕ) → isType (typeFrom n) ≡ leb n 1024
+-- a type's number is at most 1,026
+type-small : (n : ℕ) → isType (typeFrom n) ≡ leb n 1026
 type-small zero = refl
 type-small (suc t) = refl
 
@@ -33,7 +33,7 @@ pub node-word :
     (w : ℕ)
     → (depthIn w ≡ 0 → ⊥)
     → isWord w
-    ≡ ((cond (eqb (depthIn w) 1) (isRoot (stepIn w)) (isStep (stepIn w)) && leb (w / 2 ^ 25 % 2 ^ 11) 1024)
+    ≡ ((cond (eqb (depthIn w) 1) (isRoot (stepIn w)) (isStep (stepIn w)) && leb (w / 2 ^ 25 % 2 ^ 11) 1026)
     && ltb w (2 ^ 36))
 unfolding isWord
 node-word w n = simp (ne-eqb (depthIn w) 0 n, type-small)
@@ -210,9 +210,9 @@ words-rows (w ∷ ws) h =
 -- What a row's form says of its parts.
 
 -- a type's number is small
-type-numbers : (t : Option ℕ) → isType t ≡ true → numberFor t ≤ 1024
+type-numbers : (t : Option ℕ) → isType t ≡ true → numberFor t ≤ 1026
 type-numbers none h = omega arith
-type-numbers (some t) h = ltb-true t 1024 h
+type-numbers (some t) h = ltb-true t 1026 h
 
 -- an entry has no type
 untyped-none : (t : Option ℕ) → untyped t ≡ true → t ≡ none
@@ -225,7 +225,7 @@ entry-untyped row whole e =
     untyped-none (row .type) (and-eq-true-iff (not (row .mark)) _ .0 plain .1)
 
 -- a node's step is of six kinds, and its type has a small number
-node-small : (row : Row) → isRow row ≡ true → isEntry row ≡ false → (row .step < 2 ^ 19) × (numberFor (row .type) ≤ 1024)
+node-small : (row : Row) → isRow row ≡ true → isEntry row ≡ false → (row .step < 2 ^ 19) × (numberFor (row .type) ≤ 1026)
 node-small row whole e =
     let (_, typed) = and-eq-true-iff (cond (eqb (row .depth) 1) (isRoot (row .step)) (isStep (row .step))) _ .0 (rw e at whole) in
     let few : row .step / 65536 ≤ 5 = leb-true _ _ (and-eq-true-iff (leb (row .step / 65536) 5) _ .0 (node-step row whole e) .0) in

@@ -49,3 +49,7 @@ nextWord x y = cond (ltb (rankIn x) (rankIn y)) first (cond (ltb (rankIn y) (ran
 -- the word of two that pack one node: the left one, marked if either is
 unfoldable pub joinedWord : ℕ → ℕ → ℕ
 joinedWord x y = cond (markIn x) x (cond (markIn y) (x + 32) x)
+
+-- the word of a node with another type
+abbrev pub typedWord : ℕ → ℕ → ℕ
+typedWord number w = w % 2 ^ 25 + number * 2 ^ 25

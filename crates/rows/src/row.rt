@@ -1,10 +1,10 @@
 // A row is one word (docs/FORMS.md, 'Words'). Taking it apart and putting it together.
 ghost use mathlib.Core.Path.{_≡_};
 ghost use mathlib.Core.Bool.{false};
-ghost use Prim.Native.Nat.{_<_, _^_};
+ghost use Prim.Native.Nat.{_<_, _≤_, _^_};
 ghost use Rattle.rules.specs.Tries.{kindOf, idOf, isStep, isRoot, principalOf, actionOf, resourceOf};
 ghost use Rattle.rules.specs.Listing.{read};
-ghost use Rattle.rows.specs.Words.{wordOf, depthIn, markIn, stepIn, rankIn, joinedWord, isWord};
+ghost use Rattle.rows.specs.Words.{wordOf, depthIn, markIn, stepIn, rankIn, joinedWord, typedWord, isWord};
 
 // Whether a number is a step: a field or a literal with its id, or another root with id 0.
 fn is_step(step: u64) -> bool
@@ -79,6 +79,9 @@ impl Row {
 
     pub const END: u64 = 0x20_0000_0000_0000;
 
+    // The largest number of a type: 0 for none, t + 1 for type t, and two more for the types of the entry's principal and resource.
+    pub const TYPES: u64 = 1_026;
+
     // The row of an entry.
     pub fn entry(request: u64) -> Row
         requires { ⌜ request < 2 ^ 48 ⌝ }
@@ -147,6 +150,16 @@ impl Row {
         self
     }
 
+    // The row of a node with a type, by its number.
+    pub fn with_type(self, number: u64) -> Row
+        requires { ⌜ (self .word < 2 ^ 36) × (number ≤ 1026) ⌝ }
+        ensures { λ r. ⌜ r .word ≡ typedWord number (self .word) ⌝ }
+    {
+        Row {
+            word: self.word % 0x200_0000 + number * 0x200_0000,
+        }
+    }
+
     // Whether the word packs a row of its form and nothing else.
     pub fn is_word(self) -> bool
         ensures { λ r. ⌜ r ≡ isWord (self .word) ⌝ }
@@ -159,7 +172,7 @@ impl Row {
             }
             return false;
         }
-        if 1_024 < word / 0x200_0000 {
+        if Row::TYPES < word / 0x200_0000 {
             return false;
         }
         if word % 32 == 1 {

@@ -18,7 +18,8 @@ use Rattle.rules.specs.PolicyLaws.{text-lawful, texts-lawful, contributi
 
 -- a contribution of some texts: one of the contributions of one of them
 abbrev pub ContributionOf : List Item → List (List ℕ) → List Row → Type 0
-ContributionOf items texts c = (text : List ℕ) × Member text texts × (cs : List (List Row)) × (contributionsOf items text ≡ accepted cs) × Member c cs
+ContributionOf items texts c =
+    (text : List ℕ) × Member text texts × (cs : List (List Row)) × (contributionsOf items text ≡ accepted cs) × Member c cs
 
 -- 1. A policy text is added exactly where its contributions are given and all of them are accepted, one after the other; then the manifest
 -- is their build.
@@ -33,8 +34,8 @@ module _ (items : List Item) (schema : GoodSchema items) where
   pub policy-lawful : (text : List ℕ) (cs : List (List Row)) → contributionsOf items text ≡ accepted cs → Contributions cs
   policy-lawful = text-lawful items schema
 
-  -- 2. Where all of some policy texts are accepted, the same ones in any order, with any repeats, are all accepted too, and the manifest has
-  -- the same listing, byte for byte.
+  -- 2. Where all of some policy texts are accepted, the same ones in any order, with any repeats, are all accepted too, and the
+  -- manifest has the same listing, byte for byte.
   pub policies-order-free :
       (texts others : List (List ℕ)) (rows : List Row)
       → addPolicies items [] texts ≡ accepted rows

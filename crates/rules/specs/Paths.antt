@@ -137,7 +137,9 @@ unfoldable pub childrenOf : (ℕ → List Row) → List Item → List Row
 childrenOf fieldsOfType [] = []
 childrenOf fieldsOfType (it ∷ more) = read 1 (it .key) false ∷ (deeper 1 (fieldsOfType (it .value)) ++ childrenOf fieldsOfType more)
 
--- the nodes below a node of type t, where t is one of the types below n. 'A type refers only to lower-numbered types, so a walk over it ends.'
+-- The nodes below a node of type t, where t is one of the types below n. 'A type refers only to lower-numbered types, so a walk over it
+-- ends': n falls at each call and is there for that alone. At n = t + 1 the attributes of t are written out, each with the types below t;
+-- at a larger n nothing is done but to go on with n - 1; so any n above t gives the same nodes.
 unfoldable pub typeBelow : ℕ → List Item → ℕ → List Row
 typeBelow zero items t = []
 typeBelow (suc n) items t = cond (eqb t n) (childrenOf (typeBelow n items) (attributesAt items t)) (typeBelow n items t)
@@ -176,7 +178,8 @@ unfoldable mutual
     l ← fullTypeRequired items left t
     some (r ++ l)
   fullTypeRequired items (RecordLiteral fields) t =
-      cond (eqb (kindAt items t) recordType && hasAll fields (attributesAt items t)) (fieldsRequired items fields (attributesAt items t)) none
+      cond (eqb (kindAt items t) recordType && hasAll fields (attributesAt items t))
+      (fieldsRequired items fields (attributesAt items t)) none
   fullTypeRequired items (SetLiteral elements) t =
       cond (eqb (kindAt items t) setType) (fullTypeRequired items elements (elementAt items t)) none
 

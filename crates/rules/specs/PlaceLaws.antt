@@ -4,16 +4,17 @@ use native.Mathlib.Omega.{arith}
 use native.Mathlib.Nat.{le-refl, le-of-lt}
 use native.Mathlib.Numerals.{add-one}
 use mathlib.Core.Path.{_≡_, refl, sym, ap, _∙_}
-use mathlib.Core.Logic.{inl, inr, _↔_}
+use mathlib.Core.Logic.{inl, inr, _↔_, _⊎_, ⊎-elim}
 use mathlib.Core.Bool.{Bool, true, and-eq-true-iff, false≢true}
-use mathlib.Core.List.{List, [], _∷_}
+use mathlib.Core.List.{List, [], _∷_, _++_}
 use mathlib.Core.Option.{Option, none, some, Option·none-ne-some}
 use lib.Dec.{eqb}
-use lib.ListN.{length, take, getD}
-use lib.Seq.{take-all, take-suc, take-take}
+use lib.ListN.{length, take, getD, length-append, length-take}
+use lib.Seq.{take-all, take-suc, take-take, take-append-le, length-take-le}
 use borrow.Author.Tests.{eqb-true, eq-eqb}
-use Rattle.rules.specs.Facts.{by-test}
+use Rattle.rules.specs.Facts.{by-test, compared}
 use Rattle.rules.specs.Tries.{Row, at, Has, Marked, ordered, sameList, found}
+use Rattle.rules.specs.WalkLaws.{kept-down}
 use Rattle.rules.specs.TrieLaws.{Ordered, ordered-true, length-at, step-at, above-at, marked-stands, first-stands, take-above}
 
 -- What `found` answers.
@@ -217,3 +218,47 @@ module _
       sought-here ends =
           q .left
           ∙ found-here (q .last) row rows place (together _ _ _ step (omega (arith, size)) (omega arith))
+
+-- ---- what lawful rows have is closed under prefixes
+
+-- a place without its last step, and that step
+last-step : (p q : List ℕ) (x y : ℕ) → p ++ (x ∷ []) ≡ q ++ (y ∷ []) → p ≡ q
+last-step p q x y e =
+    let same : length p ≡ length q = omega (arith, ap length e, length-append p (x ∷ []), length-append q (y ∷ [])) in
+    let left : take (length p) (p ++ (x ∷ [])) ≡ p = take-append-le (length p) p (x ∷ []) (omega arith) ∙ take-all (length p) p (omega arith) in
+    let right : take (length p) (q ++ (y ∷ [])) ≡ q =
+    take-append-le (length p) q (y ∷ []) (omega arith) ∙ take-all (length p) q (omega arith) in
+    sym left ∙ ap (λ (l : List ℕ). take (length p) l) e ∙ right
+
+module _ (p : List ℕ) (x : ℕ) where
+  -- the place above one that rows have is that of a row too, or leads to the place before them
+  above-had : (s : List ℕ) (rows : List Row) → Ordered s rows → Has s rows (p ++ (x ∷ [])) → (p ≡ take (length p) s) ⊎ Has s rows p
+  unfolding Ordered Has
+  above-had s (row ∷ rows) (whole, after, shallow, rest) (inl here) =
+      let there : p ≡ take (row .depth) s = last-step p (take (row .depth) s) x (row .step) here in
+      let deep : length p ≡ row .depth = ap length there ∙ length-take-le (row .depth) s (after .near) in
+      inl (there ∙ rw deep)
+  above-had s (row ∷ rows) (whole, after, shallow, rest) (inr later) =
+      ⊎-elim
+      (λ leads.
+      compared (row .depth) (length p)
+      (λ over.
+      let long : length (at s row) ≤ length p = omega (arith, length-at s row (after .near)) in
+      inr (inl (leads ∙ take-all (length p) (at s row) long)))
+      (λ within.
+      let short : length p ≤ length s = omega (arith, after .near) in
+      inl (leads ∙ kept-down s row (row .step) (length p) short within)))
+      (λ had. inr (inr had))
+      (above-had (at s row) rows rest later)
+
+-- 'A trie is a set of positions closed under taking prefixes': with a place the rows have every place above it, down to its entry.
+pub prefix-had :
+    (rows : List Row) → ordered [] rows ≡ true → (p : List ℕ) (x : ℕ) → 0 < length p → Has [] rows (p ++ (x ∷ [])) → Has [] rows p
+prefix-had rows in-order p x some-step had =
+    ⊎-elim
+    (λ leads. absurd (omega (arith, some-step, ap length leads, length-take (length p) nothing)))
+    (λ above. above)
+    (above-had p x [] rows (ordered-true [] rows in-order) had)
+  where
+    nothing : List ℕ
+    nothing = []

@@ -49,7 +49,9 @@ module _ {S : Type 0} (taking : ℕ → List Row → S → Answer S) (items : Li
   policyStep place line p =
       elim (p .begun) [
         | none ↦ refused 1 place
-        | some b ↦ andThen (stepLine items place line (b .results)) (λ results. accepted (policy (p .sofar) (some (begin (b .request) results))))
+        | some b ↦
+            andThen (stepLine items place line (b .results))
+            (λ results. accepted (policy (p .sofar) (some (begin (b .request) results))))
       ]
 
   -- an `A` line ends the contribution before it and begins one; any other line is a step line
@@ -72,7 +74,8 @@ contributionsOf items text = policyText (λ place c cs. accepted (cs ++ (c ∷ [
 abbrev pub addAt : ℕ → List Row → List Row → Answer (List Row)
 addAt place c m = elim (add m c) [ accepted rows ↦ accepted rows | refused number _ ↦ refused number place ]
 
--- a policy text added to a manifest, all of its contributions in order or nothing: each is analysed and added in turn, up to the first refusal
+-- a policy text added to a manifest, all of its contributions in order or nothing: each is analysed and added in turn, up to the first
+-- refusal
 abbrev pub addPolicy : List Item → List Row → List ℕ → Answer (List Row)
 addPolicy items m text = policyText addAt items text m
 

@@ -58,7 +58,8 @@ policy-examples :
     ∷ refused 1 0
     ∷ refused 6 3
     ∷ []
-unfolding parted numberFrom decimalUpTo decimalIn sameList union unionOnto next count listing lineOf placeIn rowOf ascending pathsIn nodesOf fieldOf getOrHasAttr deeper chain toRootAccessTrieWithLeaf unionAll stepFrom wrapped isTooDeep apply foldLines
+unfolding parted numberFrom decimalUpTo decimalIn sameList union unionOnto next count listing lineOf placeIn rowOf ascending pathsIn
+    nodesOf fieldOf getOrHasAttr deeper chain toRootAccessTrieWithLeaf unionAll stepFrom wrapped isTooDeep apply foldLines
 policy-examples = refl
 
 -- a text of so many request types, and 5 for the 65th at the line that ends its contribution
@@ -67,5 +68,6 @@ types zero = []
 types (suc n) = types n ++ (bytes "A\t1\t1\t" ++ (decimal n ++ bytes "\nnone\n"))
 
 one-type-too-many : addPolicy [] [] (types 65) ≡ refused 5 130
-unfolding parted numberFrom decimalUpTo decimalIn sameList union unionOnto next count listing lineOf placeIn rowOf ascending pathsIn nodesOf fieldOf getOrHasAttr deeper chain toRootAccessTrieWithLeaf unionAll stepFrom wrapped isTooDeep apply foldLines types
+unfolding parted numberFrom decimalUpTo decimalIn sameList union unionOnto next count listing lineOf placeIn rowOf ascending pathsIn
+    nodesOf fieldOf getOrHasAttr deeper chain toRootAccessTrieWithLeaf unionAll stepFrom wrapped isTooDeep apply foldLines types
 one-type-too-many = refl

@@ -45,6 +45,9 @@ attributeLine = 12
 abbrev pub literalLine : ℕ
 literalLine = 13
 
+abbrev pub contextLine : ℕ
+contextLine = 14
+
 -- decimals that ascend strictly, the first at least `least`
 unfoldable pub ascending : ℕ → List (List ℕ) → Option (List ℕ)
 ascending least [] = some []
@@ -100,8 +103,10 @@ mostOf section = cond (eqb section 2) 8192 1024
 abbrev pub mostAttributes : ℕ
 mostAttributes = 64
 
--- Where a schema has come to: its section, how many lines that has beside attributes and the least key that the next may have; the
--- number of types; how many attributes may follow, the least field that the next may have, and past the types that it may have.
+-- Where a schema has come to. Which section: `section`, how many lines that has beside attributes (`lines`, for its limit and for a type's
+-- number), and the least key that its next line may have (`least`). Which types: how many there are so far (`types`). Which attribute:
+-- how many may still follow the line above (`room`), the least field that the next may have (`field`), and the number past the types that
+-- it may have (`bound`: a record's own number, or for an entity type the number of all types).
 pub record Known : Type 0 where
   pub section : ℕ
   pub lines : ℕ
@@ -140,7 +145,8 @@ fits known it =
 
 -- how many attributes may follow a line: records, actions and entity types have them
 abbrev pub roomAfter : ℕ → ℕ
-roomAfter tag = cond (eqb tag recordType) mostAttributes (cond (eqb tag actionType) mostAttributes (cond (eqb tag entityLine) mostAttributes 0))
+roomAfter tag =
+    cond (eqb tag recordType) mostAttributes (cond (eqb tag actionType) mostAttributes (cond (eqb tag entityLine) mostAttributes 0))
 
 -- where the schema has come to after a line
 abbrev pub beyond : Known → Item → Known
@@ -182,7 +188,9 @@ itemsFrom known place (line ∷ []) = cond (eqb (length line) 0) (accepted []) (
 itemsFrom known place (line ∷ next ∷ lines) =
     elim (itemOf (fieldsOf line)) [
       | none ↦ refused 1 place
-      | some it ↦ let rest : Answer (List Item) = itemsFrom (beyond known it) (place + 1) (next ∷ lines) in cond (fits known it) (ahead it rest) (refused 1 place)
+      | some it ↦
+          let rest : Answer (List Item) = itemsFrom (beyond known it) (place + 1) (next ∷ lines) in
+          cond (fits known it) (ahead it rest) (refused 1 place)
     ]
 
 -- a schema's text read

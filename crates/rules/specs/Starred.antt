@@ -121,5 +121,6 @@ cases =
 
 -- Every case comes out as the table says.
 pub starred : map (λ case. outcome (case .texts)) cases ≡ cases
-unfolding parted numberFrom decimalUpTo decimalIn sameList union unionOnto next ordered count listing lineOf placeIn build ascending pathsIn nodesOf fieldOf getOrHasAttr deeper chain toRootAccessTrieWithLeaf unionAll stepFrom wrapped isTooDeep apply foldLines
+unfolding parted numberFrom decimalUpTo decimalIn sameList union unionOnto next ordered count listing lineOf placeIn build ascending
+    pathsIn nodesOf fieldOf getOrHasAttr deeper chain toRootAccessTrieWithLeaf unionAll stepFrom wrapped isTooDeep apply foldLines
 starred = refl

@@ -117,7 +117,7 @@ ordered-stepwise s (row ∷ rows) (whole, after, shallow, rest) =
     (after .near, rw (length-at s row (after .near)) at (ordered-stepwise (at s row) rows rest))
 
 -- after x, a row that is no deeper than x has the place that it has before x
-place-past : (s : List ℕ) (x y : Row) → x .depth ≤ length s → y .depth ≤ x .depth → at (at s x) y ≡ at s y
+pub place-past : (s : List ℕ) (x y : Row) → x .depth ≤ length s → y .depth ≤ x .depth → at (at s x) y ≡ at s y
 place-past s x y near no-deeper = rw (take-above s x (y .depth) near no-deeper)
 
 -- Which of two rows comes first.
@@ -220,7 +220,7 @@ union-turns (x ∷ a) b = onto (union-turns a) b
 
 -- Union keeps the listing's order.
 
-no-deeper : {x y : Row} → Before x y → y .depth ≤ x .depth
+pub no-deeper : {x y : Row} → Before x y → y .depth ≤ x .depth
 no-deeper (deeper h) = omega arith
 no-deeper (smaller e h) = omega arith
 
@@ -237,7 +237,7 @@ follows-past s {x} {y} fx before fy =
     go (smaller e h) = rw (← e, step-at s x (fx .near)) h
 
 -- rows that come after x, and may come after the place s, may come after the place of x
-ordered-past :
+pub ordered-past :
     (s : List ℕ) (x y : Row) (rows : List Row) → Follows s x → Before x y → Ordered s (y ∷ rows) → Ordered (at s x) (y ∷ rows)
 unfolding Ordered
 ordered-past s x y rows fx before o =
@@ -266,7 +266,7 @@ isRow-joined x y h ix iy =
     (λ e. rw e (rw e at ix))
 
 -- rows that have one place after one place
-at-same : (s : List ℕ) (x y : Row) → SamePlace x y → at s y ≡ at s x
+pub at-same : (s : List ℕ) (x y : Row) → SamePlace x y → at s y ≡ at s x
 at-same s x y h = rw (h .depths, h .steps)
 
 -- turn by turn, rows in listing order give rows in listing order
@@ -288,15 +288,15 @@ turns-ordered (both {x = x} {y = y} h more) s oa ob = (
 -- The places of a union.
 
 -- of the rows after s, one that passes a test stands at a place
-pub Stands : (Row → Bool) → List ℕ → List Row → List ℕ → Type 0
+unfoldable pub Stands : (Row → Bool) → List ℕ → List Row → List ℕ → Type 0
 Stands test s [] place = ⊥
 Stands test s (row ∷ rows) place = ((place ≡ at s row) × (test row ≡ true)) ⊎ Stands test (at s row) rows place
 
-abbrev always : Row → Bool
+abbrev pub always : Row → Bool
 always row = true
 
 -- to have a place is that any row stands there, and to mark it that a marked row does
-has-stands : (s : List ℕ) (rows : List Row) (place : List ℕ) → Has s rows place ↔ Stands always s rows place
+pub has-stands : (s : List ℕ) (rows : List Row) (place : List ℕ) → Has s rows place ↔ Stands always s rows place
 unfolding Has Stands
 has-stands s [] place = Iff·rfl
 has-stands s (row ∷ rows) place = either (λ e. (e, refl), λ h. h .0) (has-stands (at s row) rows place)

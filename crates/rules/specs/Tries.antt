@@ -61,10 +61,10 @@ pub record Row : Type 0 where
 abbrev pub isEntry : Row → Bool
 isEntry row = eqb (row .depth) 0
 
--- a type number, 'types 0..1,023', or none
+-- a type number, 'types 0..1,023' or one of two more for the entry's principal and resource (Typing), or none
 abbrev pub isType : Option ℕ → Bool
 isType none = true
-isType (some t) = ltb t 1024
+isType (some t) = ltb t 1026
 
 abbrev pub untyped : Option ℕ → Bool
 untyped none = true
@@ -87,7 +87,16 @@ abbrev pub at : List ℕ → Row → List ℕ
 at s row = keptWith s row (row .step)
 
 -- 'Listing': 'nodes in preorder; siblings strictly in order'. A row may come after the place s where it is at most one
--- deeper and, if it is not deeper, past the last earlier sibling.
+-- deeper and, if it is not deeper, past the last earlier sibling. Case *L, with the request type (10, 500, 20) written q:
+--
+--   place before      row             place after        may it come?
+--   (none)            A 10 500 20     q                  at depth 0, and no place is before it
+--   q                 N 1 p           q, p               one deeper
+--   q, p              N 2 f 7         q, p, f7           one deeper
+--   q, p, f7          N 2 r           q, p, r            not deeper: r is past f7
+--   q, p, r           N 3 f 3         q, p, r, f3        one deeper
+--   q, p, r, f3       N 1 r           q, r               not deeper: r is past p
+--   q, r              N 2 f 3         q, r, f3           one deeper
 abbrev pub follows : List ℕ → Row → Bool
 follows s row = cond (ltb (row .depth) (length s)) (ltb (getD s (row .depth) 0) (row .step)) (eqb (row .depth) (length s))
 
@@ -166,7 +175,11 @@ next x y =
 abbrev pub joined : Row → Row → Row
 joined x y = record { depth = x .depth; step = x .step; mark = x .mark || y .mark; type = x .type }
 
--- Union: take the next row of either, again and again.
+-- Union: take the next row of either, again and again. With x and y the next rows, it is
+--   union [] b                  = b, and union a [] = a;
+--   union (x ∷ a) (y ∷ b)       = x ∷ union a (y ∷ b)  where x comes first, and y ∷ union (x ∷ a) b where y does;
+--   union (x ∷ a) (y ∷ b)       = joined x y ∷ union a b  where both are the same node.
+-- It is written as two functions because each falls on a list of its own.
 unfoldable pub unionOnto : Row → (List Row → List Row) → List Row → List Row → List Row
 unionOnto x rest a [] = x ∷ a
 unionOnto x rest a (y ∷ b) =

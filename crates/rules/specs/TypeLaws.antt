@@ -250,7 +250,7 @@ record TypeFits (known : Known) (it : Item) : Type 0 where
   element : it .tag ≡ setType → it .value < it .key
 
 -- a type's line is in section 0, is no attribute, and leads on with the next number
-type-section : (tag : ℕ) → tag ≤ lastType → sectionOf tag ≡ 0
+pub type-section : (tag : ℕ) → tag ≤ lastType → sectionOf tag ≡ 0
 type-section tag h = simp le-leb
 
 other-section : (tag : ℕ) → lastType < tag → 0 < sectionOf tag
@@ -351,7 +351,7 @@ module _ (known : Known) (it : Item) (sound : Sound known) (fit : fits known it 
       rw (le-leb (it .tag) lastType h, ne-eqb (it .key) t other))
 
 -- the first of lawful lines fits, and the others are lawful after it
-lawful-first :
+pub lawful-first :
     (known : Known) (it : Item) (items : List Item)
     → lawfulItems known (it ∷ items) ≡ true
     → (fits known it ≡ true) × (lawfulItems (beyond known it) items ≡ true)
@@ -558,6 +558,9 @@ attributes known (a ∷ items) lawful =
       few = rw e (omega (arith, few, ltb-true 0 (known .room) room));
     })
     (λ e. record { below = rw e tt; ascends = rw e tt; few = rw e (omega arith) })
+
+pub lawful-ascends : (known : Known) (items : List Item) → lawfulItems known items ≡ true → Ascends (known .field) (attributesOf items)
+lawful-ascends known items lawful = attributes known items lawful .ascends
 
 -- a type's line that fits, and the lawful lines after it
 lines-here :

@@ -49,7 +49,7 @@ kept-stored array len row k near inside =
     rw (add-one, take-suc-set array (row .depth) k inside, take-take (row .depth) len array near)
 
 -- what is kept as something else is kept alike
-take-map : {A B : Type 0} (f : A → B) (n : ℕ) (l : List A) → take n (map f l) ≡ map f (take n l)
+pub take-map : {A B : Type 0} (f : A → B) (n : ℕ) (l : List A) → take n (map f l) ≡ map f (take n l)
 take-map f zero l = refl
 take-map f (suc n) [] = refl
 take-map {B = B} f (suc n) (x ∷ l) = ap (λ (m : List B). f x ∷ m) (take-map f n l)

@@ -36,10 +36,10 @@ returns-2 c =
 returns-3 : tie.Need-returns-3
 returns-3 c =
     let word = c .before .before .before .args .self .word in
-    let large : 1024 < word / 2 ^ 25 = c .if3 .taken in
+    let large : 1026 < word / 2 ^ 25 = c .if3 .taken in
     rw (node-word word (c .before .if1 .left))
     (compared word (2 ^ 36)
-    (λ low. rw (lt-leb (word / 2 ^ 25 % 2 ^ 11) 1024 (omega (arith, low, large))) (simp and-false))
+    (λ low. rw (lt-leb (word / 2 ^ 25 % 2 ^ 11) 1026 (omega (arith, low, large))) (simp and-false))
     (λ high. rw (le-ltb word (2 ^ 36) high, and-false)))
 
 -- all but the step of a node's word is good
@@ -49,10 +49,10 @@ node-step :
     isWord word ≡ cond (eqb (word % 32) 1) (isRoot (stepIn word)) (isStep (stepIn word))
 node-step c =
     let word = c .before .before .before .args .self .word in
-    let small : word / 2 ^ 25 ≤ 1024 = c .if3 .left in
+    let small : word / 2 ^ 25 ≤ 1026 = c .if3 .left in
     rw (
       node-word word (c .before .if1 .left),
-      le-leb (word / 2 ^ 25 % 2 ^ 11) 1024 (omega (arith, small)),
+      le-leb (word / 2 ^ 25 % 2 ^ 11) 1026 (omega (arith, small)),
       lt-ltb word (2 ^ 36) (omega (arith, small)),
     )
     (simp and-true)
