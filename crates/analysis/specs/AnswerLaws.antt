@@ -1,27 +1,16 @@
 -- Laws of what `analyse` and `add_policy` answer, by the tests that they make in turn. No contract cites this file.
 use Prim.Native.Nat.{ℕ, _≤_, _<_}
-use mathlib.Core.Bool.{Bool, true, false, _&&_}
+use mathlib.Core.Bool.{Bool, true, false}
 use mathlib.Core.List.{List}
 use mathlib.Core.Path.{_≡_}
-use borrow.Author.Tests.{le-leb, lt-leb, ltb-true}
-use lib.Dec.{leb, ltb}
-use lib.ListN.{length, getD}
+use borrow.Author.Tests.{le-leb, lt-leb}
+use lib.ListN.{length}
 use Rattle.rules.specs.Numbers.{Answer}
 use Rattle.rules.specs.Tries.{Row}
-use Rattle.words.specs.Runs.{wordsIn, refusing}
+use Rattle.words.specs.Runs.{refusing}
 use Rattle.rows.specs.States.{storing}
-use Rattle.rules.specs.Facts.{both-true}
-use Rattle.schema.specs.Items.{lawfulSchema, goodItems}
+use Rattle.schema.specs.Items.{lawfulSchema}
 use Rattle.analysis.specs.Outcomes.{withSchema}
-
--- a lawful schema counts its items within its length, and they are good
-pub lawful-count : (schema : List ℕ) → lawfulSchema schema ≡ true → getD schema 0 0 < 142337
-unfolding lawfulSchema
-lawful-count schema h = ltb-true (getD schema 0 0) 142337 (both-true (ltb (getD schema 0 0) 142337) (goodItems (wordsIn schema)) (both-true (leb 142337 (length schema)) (ltb (getD schema 0 0) 142337 && goodItems (wordsIn schema)) h .1) .0)
-
-pub lawful-items : (schema : List ℕ) → lawfulSchema schema ≡ true → goodItems (wordsIn schema) ≡ true
-unfolding lawfulSchema
-lawful-items schema h = both-true (ltb (getD schema 0 0) 142337) (goodItems (wordsIn schema)) (both-true (leb 142337 (length schema)) (ltb (getD schema 0 0) 142337 && goodItems (wordsIn schema)) h .1) .1
 
 module _ (schema : List ℕ) (words : ℕ) (else-lawful : Bool) (out : List ℕ) (answer : Answer (List Row)) where
   -- 31 for the schema, and for the buffer

@@ -1,6 +1,5 @@
 -- What `analysis` answers, and what the lent buffer then holds.
 use Prim.Native.Nat.{ℕ, _^_, _≤_, _<_}
-use mathlib.Core.Path.{_≡_}
 use mathlib.Core.Bool.{Bool, cond, _&&_}
 use mathlib.Core.List.{List}
 use lib.Dec.{leb, ltb}
@@ -10,16 +9,12 @@ use Rattle.rules.specs.Tries.{Row, manifest}
 use Rattle.rules.specs.Schema.{Item}
 use Rattle.rules.specs.Steps.{analyse}
 use Rattle.rules.specs.Policies.{addPolicy}
-use Rattle.step_runs.specs.StepRuns.{NotLarge}
 use Rattle.words.specs.Runs.{Outcome, refusing}
 use Rattle.rows.specs.States.{lawfulState, rowsIn, Lent, storing}
 use Rattle.rows.specs.declared.Kind.the-variants.{Manifest}
-use Rattle.words.specs.declared.Reply.{Reply}
 use Rattle.schema.specs.Items.{schemaWords, lawfulSchema, itemsIn}
 use Rattle.analysis.specs.declared.Job.{Job}
 use Rattle.analysis.specs.declared.Job.the-variants.{Steps, Policy}
-use Rattle.analysis.specs.declared.Answered.{Answered}
-use Rattle.analysis.specs.declared.Answered.the-variants.{Reply as Replied, Full as Filled}
 
 -- an operation with a schema that stores rows: 31 where it or the buffer is too short, then 1 at 0 where it or what else is lent is not
 -- lawful, then what the text gives by line
@@ -46,18 +41,3 @@ answerTo items Policy text out = addPolicy items (rowsIn out) text
 abbrev pub JobLent : Job → List ℕ → Type 0
 JobLent (Steps request) out = (request < 2 ^ 48) × (1026 ≤ length out)
 JobLent Policy out = Lent Manifest out (rowsIn out)
-
--- a reply, and what the buffer then holds
-abbrev pub AnswerStored : List Item → Job → List ℕ → List ℕ → List ℕ → Reply → Type 0
-AnswerStored items job text out out′ reply =
-    (reply ≡ storing out (answerTo items job text out) .reply) × (out′ ≡ storing out (answerTo items job text out) .buffer)
-
--- where the runs are full, the buffer is as it was
-abbrev pub AnsweredBy : List Item → Job → List ℕ → List ℕ → List ℕ → Answered → Type 0
-AnsweredBy items job text out out′ (Replied reply) = AnswerStored items job text out out′ reply
-AnsweredBy items job text out out′ Filled = out′ ≡ out
-
--- and they are not the large ones
-abbrev pub FullBy : List ℕ → List ℕ → Answered → Type 0
-FullBy code tries (Replied reply) = Unit
-FullBy code tries Filled = NotLarge code tries

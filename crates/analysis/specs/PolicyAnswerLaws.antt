@@ -12,8 +12,7 @@ use Rattle.rows.specs.States.{rowsIn}
 use Rattle.rows.specs.LentLaws.{stored-lent, lent-lawful, lent-copied}
 use Rattle.rows.specs.declared.Kind.the-variants.{Manifest}
 use Rattle.policy_runs.specs.PolicyRuns.{LentManifest, PolicyAdded}
-use Rattle.analysis.specs.Outcomes.{AnswerStored}
-use Rattle.analysis.specs.declared.Job.the-variants.{Policy}
+use Rattle.step_runs.specs.StepRuns.{AnswerStored}
 
 module _ (m out : List ℕ) (lent : LentManifest m) (room : 4161 ≤ length out) where
   -- a copy of its rows is a lent manifest too, and has its rows
@@ -31,7 +30,7 @@ module _ (items : List Item) (text m rows : List ℕ) (same : rowsIn rows ≡ ro
   pub added-refused :
       {number place : ℕ}
       → addPolicy items (rowsIn rows) text ≡ refused number place
-      → AnswerStored items Policy text m m (Refused number place)
+      → AnswerStored (addPolicy items (rowsIn m) text) m m (Refused number place)
   added-refused e = rw (rw same at e) (refl, refl)
 
   -- all was added, and the copy's rows take the manifest's place
@@ -39,5 +38,5 @@ module _ (items : List Item) (text m rows : List ℕ) (same : rowsIn rows ≡ ro
       {rows′ m′ : List ℕ}
       → PolicyAdded items text rows rows′
       → m′ ≡ sets m 0 (take (getD rows′ 0 0 + 1) rows′)
-      → AnswerStored items Policy text m m′ Done
+      → AnswerStored (addPolicy items (rowsIn m) text) m m′ Done
   added-done {rows′} added e = rw (rw same at (added .adds)) (refl, e ∙ lent-copied Manifest rows′ m (rowsIn rows′) (added .lent))

@@ -7,16 +7,18 @@ ghost use lib.ListN.{length};
 ghost use Rattle.schema.specs.Items.{itemsOf, goodItems};
 ghost use Rattle.type_table.specs.Tables.{GoodTypes};
 ghost use Rattle.result_stack.specs.Stacks.{Scratch};
-ghost use Rattle.analysis.specs.declared.Job.the-variants.{Steps, Policy};
-ghost use Rattle.analysis.specs.Outcomes.{analyseIn, addPolicyIn, JobLent, AnswerStored, AnsweredBy, FullBy};
+ghost use Rattle.rules.specs.Policies.{addPolicy};
+ghost use Rattle.rows.specs.States.{rowsIn};
+ghost use Rattle.step_runs.specs.StepRuns.{AnswerStored, AnsweredBy, FullBy};
+ghost use Rattle.analysis.specs.declared.Job.the-variants.{Policy};
+ghost use Rattle.analysis.specs.Outcomes.{analyseIn, addPolicyIn, answerTo, JobLent};
 use manifest::EntityManifest;
 use policy_runs::PolicyRan;
 use policy_runs::run_policy;
 use result_stack::Stack;
 use rows::Kind;
-use step_runs::Ran;
-use step_runs::run;
-use step_runs::write_contribution;
+use step_runs::Answered;
+use step_runs::answer_steps;
 use type_table::TypeSize;
 use type_table::fill_table;
 use words::Reply;
@@ -26,41 +28,6 @@ use wrapped_paths::WrappedAccessPaths;
 enum Job {
     Steps(u64),
     Policy,
-}
-
-// The reply to a text, or that the runs of the stack are full.
-enum Answered {
-    Reply(Reply),
-    Full,
-}
-
-// The contribution of a step text, by a stack in two runs of any length; `paths` is scratch.
-fn answer_steps(
-    words: &[u64],
-    table: &[u64],
-    types: u64,
-    request: u64,
-    text: &[u8],
-    out: &mut [u64],
-    code: &mut [u64],
-    tries: &mut [u64],
-    paths: &mut [u64],
-) -> Answered
-    requires { ⌜ GoodTypes (now words) (now table) types × JobLent (Steps request) (now out) ⌝ }
-    requires { ⌜ (length (now code) < 2 ^ 53) × Scratch (now code) (now paths) ⌝ }
-    ensures { λ r. ⌜ AnsweredBy (itemsOf (now (words .entry))) (Steps request) (now (text .entry)) (now (out .entry)) (now (out .exit)) r × FullBy (now (code .entry)) (now (tries .entry)) r ⌝ }
-{
-    match run(words, table, types, text, code, tries, paths) {
-        Ran::Full => Answered::Full,
-        Ran::Refused(number, line) => Answered::Reply(Reply::Refused(number, line)),
-        Ran::Stack(stack, lines) => {
-            if stack.results != 1 {
-                return Answered::Reply(Reply::Refused(6, lines));
-            }
-            write_contribution(request, tries, stack.tries, out);
-            Answered::Reply(Reply::Done)
-        }
-    }
 }
 
 // All contributions of a policy text, added to a copy of the manifest that takes its place at the end; `paths` is scratch.
@@ -76,7 +43,7 @@ fn answer_policy(
 ) -> Answered
     requires { ⌜ GoodTypes (now words) (now table) types × JobLent Policy (now manifest) ⌝ }
     requires { ⌜ (length (now code) < 2 ^ 53) × Scratch (now code) (now paths) ⌝ }
-    ensures { λ r. ⌜ AnsweredBy (itemsOf (now (words .entry))) Policy (now (text .entry)) (now (manifest .entry)) (now (manifest .exit)) r × FullBy (now (code .entry)) (now (tries .entry)) r ⌝ }
+    ensures { λ r. ⌜ AnsweredBy (addPolicy (itemsOf (now (words .entry))) (rowsIn (now (manifest .entry))) (now (text .entry))) (now (manifest .entry)) (now (manifest .exit)) r × FullBy (now (code .entry)) (now (tries .entry)) r ⌝ }
 {
     let mut rows = [0u64; EntityManifest::WORDS];
     words::copy_rows(manifest, &mut rows);
@@ -104,7 +71,7 @@ fn answer_in(
 ) -> Answered
     requires { ⌜ GoodTypes (now words) (now table) types × JobLent job (now out) ⌝ }
     requires { ⌜ (length (now code) < 2 ^ 53) × Scratch (now code) (now paths) ⌝ }
-    ensures { λ r. ⌜ AnsweredBy (itemsOf (now (words .entry))) job (now (text .entry)) (now (out .entry)) (now (out .exit)) r × FullBy (now (code .entry)) (now (tries .entry)) r ⌝ }
+    ensures { λ r. ⌜ AnsweredBy (answerTo (itemsOf (now (words .entry))) job (now (text .entry)) (now (out .entry))) (now (out .entry)) (now (out .exit)) r × FullBy (now (code .entry)) (now (tries .entry)) r ⌝ }
 {
     match job {
         Job::Steps(request) => answer_steps(
@@ -132,7 +99,7 @@ fn answer_small(
     out: &mut [u64],
 ) -> Answered
     requires { ⌜ GoodTypes (now words) (now table) types × JobLent job (now out) ⌝ }
-    ensures { λ r. ⌜ AnsweredBy (itemsOf (now (words .entry))) job (now (text .entry)) (now (out .entry)) (now (out .exit)) r ⌝ }
+    ensures { λ r. ⌜ AnsweredBy (answerTo (itemsOf (now (words .entry))) job (now (text .entry)) (now (out .entry))) (now (out .entry)) (now (out .exit)) r ⌝ }
 {
     let mut code = [0u64; Stack::SMALL_CODE];
     let mut tries = [0u64; Stack::SMALL_TRIES];
@@ -160,7 +127,7 @@ fn answer_large(
     out: &mut [u64],
 ) -> Reply
     requires { ⌜ GoodTypes (now words) (now table) types × JobLent job (now out) ⌝ }
-    ensures { λ r. ⌜ AnswerStored (itemsOf (now (words .entry))) job (now (text .entry)) (now (out .entry)) (now (out .exit)) r ⌝ }
+    ensures { λ r. ⌜ AnswerStored (answerTo (itemsOf (now (words .entry))) job (now (text .entry)) (now (out .entry))) (now (out .entry)) (now (out .exit)) r ⌝ }
 {
     let mut code = [0u64; Stack::CODE];
     let mut tries = [0u64; Stack::TRIES];
@@ -187,7 +154,7 @@ fn answer_large(
 fn answer(job: Job, words: &[u64], text: &[u8], out: &mut [u64]) -> Reply
     requires { ⌜ (goodItems (now words) ≡ true) × (length (now words) < 142337) ⌝ }
     requires { ⌜ JobLent job (now out) ⌝ }
-    ensures { λ r. ⌜ AnswerStored (itemsOf (now (words .entry))) job (now (text .entry)) (now (out .entry)) (now (out .exit)) r ⌝ }
+    ensures { λ r. ⌜ AnswerStored (answerTo (itemsOf (now (words .entry))) job (now (text .entry)) (now (out .entry))) (now (out .entry)) (now (out .exit)) r ⌝ }
 {
     let mut table = [0u64; TypeSize::TYPES];
     let types = fill_table(words, &mut table);

@@ -30,7 +30,8 @@ use Rattle.rows.specs.declared.Kind.{Kind}
 use Rattle.rows.specs.declared.Kind.the-variants.{Contribution, Manifest}
 use Rattle.listing.specs.Outcomes.{TextOutcome, writeIn, readListingIn}
 use Rattle.listing.specs.declared.whole.Written.the-variants.{Bytes}
-use Rattle.schema.specs.Items.{lawfulSchema, itemsIn, readSchemaIn}
+use Rattle.schema.specs.Items.{lawfulSchema, itemsIn}
+use Rattle.schema_text.specs.Outcomes.{readSchemaIn}
 use Rattle.manifest.specs.Outcomes.{emptyIn}
 use Rattle.analysis.specs.Outcomes.{analyseIn}
 use Rattle.calls.specs.Calls.{AllDone, builtIn, buildReplies, policiesIn, policyReplies, writtenBy, replyOf, AllLent, StepJob, Asked, AllRoomy, contributionsIn, analysesIn}

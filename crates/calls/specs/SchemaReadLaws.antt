@@ -22,13 +22,14 @@ use Rattle.rules.specs.StepLaws.{Each, GoodSchema}
 use Rattle.words.specs.Runs.{wordsIn}
 use Rattle.words.specs.RunLaws.{held-count}
 use Rattle.words.specs.declared.Reply.the-variants.{Done}
-use Rattle.schema.specs.Items.{itemIn, itemWord, isItem, allItems, itemsOf, itemsIn, schemaWords, lawfulSchema, storingItems, readSchemaIn}
+use Rattle.schema.specs.Items.{itemIn, itemWord, isItem, allItems, itemsOf, itemsIn, schemaWords, lawfulSchema}
+use Rattle.schema_text.specs.Outcomes.{storingItems, readSchemaIn}
 use Rattle.schema.specs.ItemLaws.{bounded-none}
-use Rattle.schema.specs.Reads.{mostLines, Bounded}
+use Rattle.schema.specs.Bounds.{mostLines, Bounded}
 use Rattle.schema.specs.KnownLaws.{most-lines, bounded-beyond, counted-beyond}
-use Rattle.schema.specs.ReadLaws.{ItemFits, item-fits}
+use Rattle.schema_text.specs.ReadLaws.{ItemFits, item-fits}
 use Rattle.step_runs.specs.StepRunLaws.{schema-good}
-use Rattle.analysis.specs.AnswerLaws.{lawful-items}
+use Rattle.schema.specs.ItemLaws.{lawful-items}
 
 -- ---- what a line says is an item by itself
 

@@ -220,6 +220,40 @@ pub fn say_number(out: &mut [u8], at: usize, n: u64) -> usize
     Decimal::write(out, at, n)
 }
 
+// Writes what a field of a line stands for into `out` from `at` on, as much as there is room, and answers the place after it.
+pub fn say_part(out: &mut [u8], at: usize, line: &[u8], n: usize) -> usize
+    requires { ⌜ at ≤ length (now out) ⌝ }
+    ensures { λ r. ⌜ r ≤ length (now (out .exit)) ⌝ }
+{
+    at + decode_field(line, n, &mut out[at..])
+}
+
+// The same for many lines: three fields of a line are a head, a count and a tail, and each number below the count stands in a line behind
+// the head and a tab, and in front of the tail.
+pub fn say_many(
+    out: &mut [u8],
+    at: usize,
+    line: &[u8],
+    head: usize,
+    count: usize,
+    tail: usize,
+) -> usize
+    requires { ⌜ at ≤ length (now out) ⌝ }
+    ensures { λ r. ⌜ r ≤ length (now (out .exit)) ⌝ }
+{
+    let lines = number(line, count);
+    let mut to = at;
+    let mut i = 0;
+    while i < lines {
+        let headed = say_part(out, to, line, head);
+        let tabbed = say(out, headed, b"\t");
+        let numbered = say_number(out, tabbed, i);
+        to = say_part(out, numbered, line, tail);
+        i += 1;
+    }
+    to
+}
+
 // Writes a refusal into `out`, as much as there is room, and answers how many bytes that is.
 pub fn say_refused(out: &mut [u8], number: u64, place: u64) -> usize
     ensures { λ r. ⌜ Counts r (now (out .exit)) ⌝ }

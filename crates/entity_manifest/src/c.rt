@@ -5,7 +5,7 @@ ghost use Rattle.union.specs.Unions.{unionOf};
 ghost use Rattle.rows.specs.States.{hasOf};
 ghost use Rattle.listing.specs.Outcomes.{readListingIn, writeIn};
 ghost use Rattle.manifest.specs.Outcomes.{emptyIn, addIn};
-ghost use Rattle.schema.specs.Items.{readSchemaIn};
+ghost use Rattle.schema_text.specs.Outcomes.{readSchemaIn};
 ghost use Rattle.analysis.specs.Outcomes.{analyseIn, addPolicyIn};
 ghost use Rattle.rows.specs.declared.Kind.the-variants.{Contribution, Manifest};
 ghost use Rattle.entity_manifest.specs.Numbers.{replyNumber, replyPlace, ToldAs, writtenNumber, writtenValue, heldNumber, heldValue};

@@ -7,13 +7,12 @@ ghost use Rattle.union.specs.Unions.{unionOf};
 ghost use Rattle.rows.specs.States.{hasOf};
 ghost use Rattle.listing.specs.Outcomes.{readListingIn, writeIn};
 ghost use Rattle.manifest.specs.Outcomes.{emptyIn, addIn};
-ghost use Rattle.schema.specs.Items.{readSchemaIn};
+ghost use Rattle.schema_text.specs.Outcomes.{readSchemaIn};
 ghost use Rattle.analysis.specs.Outcomes.{analyseIn, addPolicyIn};
 pub use listing::Written;
 use manifest::EntityManifest;
 pub use rows::Held;
 pub use rows::Kind;
-use schema::Schema;
 pub use words::Reply;
 
 // Makes a lent state the empty manifest.
@@ -62,7 +61,7 @@ pub fn write_listing(kind: Kind, state: &[u64], out: &mut [u8]) -> Written
 pub fn read_schema(text: &[u8], out: &mut [u64]) -> Reply
     ensures { λ r. ⌜ (r ≡ readSchemaIn (now (text .entry)) (now (out .entry)) .reply) × (now (out .exit) ≡ readSchemaIn (now (text .entry)) (now (out .entry)) .buffer) ⌝ }
 {
-    Schema::read(text, out)
+    schema_text::read_schema(text, out)
 }
 
 // Analyses a step text under a request type, with a schema, and stores the contribution.

@@ -1,25 +1,22 @@
 -- Laws of wrapped paths against types (Required): the types that wait for what a head wraps, and the walk from head to head. No contract cites
 -- this file.
-use Prim.Native.Nat.{ℕ, zero, suc, _+_, _-_, _*_, _/_, _%_, _^_, _≤_, _<_}
+use Prim.Native.Nat.{ℕ, suc, _+_, _-_, _*_, _/_, _%_, _^_, _≤_, _<_}
 use native.Mathlib.Omega.{arith}
 use mathlib.Core.Bool.{Bool, true, false, cond, _&&_, and-false}
 use mathlib.Core.List.{List, [], _∷_, _++_, map, map-append, append-assoc, append-nil, reverse, reverse-cons, reverse-append}
 use mathlib.Core.Option.{Option, none, some}
 use mathlib.Core.Path.{_≡_, refl, sym, ap, _∙_}
-use borrow.Author.Tests.{ltb-true, eq-eqb, ne-eqb, eqb-true}
-use lib.Dec.{ltb, eqb}
-use lib.ListN.{replicate, length, set, length-set, take, drop, getD, length-drop, length-map, length-append, length-reverse}
+use borrow.Author.Tests.{eq-eqb, ne-eqb, eqb-true}
+use lib.Dec.{eqb}
+use lib.ListN.{replicate, length, set, length-set, take, drop, getD, length-map, length-append, length-reverse}
 use lib.Seq.{length-take-le, drop-cons, drop-length, take-at, take-take, getD-at, getD-take}
 use Rattle.rules.specs.Facts.{by-test, cond-some}
 use Rattle.rules.specs.Listing.{_>>=_}
-use Rattle.rules.specs.Schema.{Item, setType, recordType, attributesOf, attributeLine}
+use Rattle.rules.specs.Schema.{Item, setType, recordType, attributesOf}
 use Rattle.rules.specs.Paths.{Taken, attributesAt, Paths, Empty, AccessPath, Union, RecordLiteral, SetLiteral, Fields, noField, field, hasAll, nodesOf, kindAt, elementAt, attributeType, fullTypeRequired, fieldsRequired}
 use Rattle.rules.specs.StepLaws.{Each, each-append}
-use Rattle.rules.specs.TypeLaws.{Ascends, attributes-below, attributes-first, attribute-past, attribute-stands, typesIn, types-few}
-use Rattle.schema.specs.Items.{itemIn, itemsOf}
-use Rattle.words.specs.Keys.{later, searched}
-use Rattle.words.specs.declared.Search.{Search}
-use Rattle.words.specs.declared.Search.the-variants.{Found, Missing}
+use Rattle.rules.specs.TypeLaws.{Ascends, attributes-below, attribute-stands, typesIn, types-few}
+use Rattle.schema.specs.Items.{itemsOf}
 use Rattle.wrapped_paths.specs.declared.WrappedAccessPaths.{WrappedAccessPaths}
 use Rattle.wrapped_paths.specs.declared.WrappedAccessPaths.the-variants.{Empty as EmptyHead, AccessPath as PathHead, Union as UnionHead, RecordLiteral as RecordHead, SetLiteral as SetHead}
 use Rattle.full_types.specs.declared.Awaited.{Awaited}
@@ -29,80 +26,22 @@ use Rattle.wrapped_paths.specs.Code.{headOf, sizeOf, wrapsOf, countIn, namesIn,
 use Rattle.wrapped_paths.specs.Turns.{Noted}
 use Rattle.wrapped_paths.specs.CodeLaws.{fieldPaths, headFor, unwrapped, unwrapped-many, names-many, paths-within, nodes-turn, nodes-words, many-nodes, Ahead, next-of, next-within, next-room, next-head-word, next-head, next-payload, next-ahead, nodes-next, words-next, noted-none, noted-one}
 use Rattle.wrapped_paths.specs.AttrLaws.{stands-alone, head-here, behind-it, literal-names, empty-of, path-of, union-of, record-of, set-of}
+use Rattle.type_table.specs.NamedLaws.{attributes-cut, attributes-inside}
 use Rattle.type_table.specs.TypeTableLaws.{good-lawful, TypeStands, tabled-stands, tabled-inside, stands-kind, stands-element, stands-attributes}
 use Rattle.full_types.specs.Pairs.{takenAt, AllPairs}
 use Rattle.type_table.specs.Tables.{typePlace, KnownType}
+use Rattle.rows.specs.Words.{numberFor}
 use Rattle.full_types.specs.Required.{passedOver, typeOr, fieldTypes, setAwaits, awaits, Stacked, StackedBy, RecordStacked, PathsStacked, Meeting, pairsFor, TypesTook, RequiredBy}
 
--- ---- the type of a field, by a search among the attributes
+-- ---- the type of a field, as a number that is 0 where there is none
 
-found-attribute :
-    (words : List ℕ) (key place : ℕ)
-    → searched words key ≡ Found place
-    → (place < length words) × (attributeType key (itemsOf words) ≡ some (getD words place 0 / 16 % 2 ^ 36))
-unfolding searched attributeType
-found-attribute [] key place e = let z : _≡_ {A = ℕ} 0 1 = cc in absurd (omega arith)
-found-attribute (w ∷ words) key place e =
-    by-test (eqb (w / 2 ^ 40) key)
-    (λ here.
-    let first : Found 0 ≡ Found place = rw here at e in
-    let zero-place : 0 ≡ place = cc in
-    rw (← zero-place, here) (omega arith, refl))
-    (λ other.
-    by-test (ltb key (w / 2 ^ 40))
-    (λ past. let given = rw (other, past) at e in let z : _≡_ {A = ℕ} 0 1 = cc in absurd (omega arith))
-    (λ low. rw other (go (λ p. found-attribute words key p) (searched words key) refl (rw (other, low) at e))))
-  where
-    go :
-        ((p : ℕ) → searched words key ≡ Found p → (p < length words) × (attributeType key (itemsOf words) ≡ some (getD words p 0 / 16 % 2 ^ 36)))
-        → (s : Search)
-        → searched words key ≡ s
-        → later s ≡ Found place
-        → (place < suc (length words)) × (attributeType key (itemsOf words) ≡ some (getD (w ∷ words) place 0 / 16 % 2 ^ 36))
-    go again (Found p) found e =
-        let next : suc p ≡ place = cc in
-        let (inside, type) = again p found in
-        rw (← next) (omega arith, type)
-    go again (Missing p) found e = let z : _≡_ {A = ℕ} 0 1 = cc in absurd (omega arith)
+pub field-none : (o : Option ℕ) → numberFor o ≡ 0 → passedOver ≡ typeOr o
+field-none none e = refl
+field-none (some t) e = absurd (omega (arith, e))
 
-missing-attribute :
-    (words : List ℕ) (key place least : ℕ)
-    → Ascends least (itemsOf words)
-    → searched words key ≡ Missing place
-    → attributeType key (itemsOf words) ≡ none
-unfolding searched attributeType Ascends
-missing-attribute [] key place least ascends e = refl
-missing-attribute (w ∷ words) key place least ascends e =
-    by-test (eqb (w / 2 ^ 40) key)
-    (λ here. let given = rw here at e in let z : _≡_ {A = ℕ} 0 1 = cc in absurd (omega arith))
-    (λ other.
-    by-test (ltb key (w / 2 ^ 40))
-    (λ past. rw other (attribute-past key (w / 2 ^ 40 + 1) (itemsOf words) (omega (arith, ltb-true key (w / 2 ^ 40) past)) (ascends .1)))
-    (λ low.
-    rw other
-    (go (λ p. missing-attribute words key p (w / 2 ^ 40 + 1) (ascends .1)) (searched words key) refl (rw (other, low) at e))))
-  where
-    go :
-        ((p : ℕ) → searched words key ≡ Missing p → attributeType key (itemsOf words) ≡ none)
-        → (s : Search)
-        → searched words key ≡ s
-        → later s ≡ Missing place
-        → attributeType key (itemsOf words) ≡ none
-    go again (Found p) found e = let z : _≡_ {A = ℕ} 0 1 = cc in absurd (omega arith)
-    go again (Missing p) found e = again p found
-
-module _ (attributes : List ℕ) (name place : ℕ) where
-  -- a field that they have
-  module _ (found : searched attributes name ≡ Found place) where
-    pub field-inside : place < length attributes
-    field-inside = found-attribute attributes name place found .0
-
-    pub field-found : getD attributes place 0 / 16 % 2 ^ 36 ≡ typeOr (attributeType name (itemsOf attributes))
-    field-found = rw (found-attribute attributes name place found .1)
-
-  -- a field that they have not
-  pub field-missing : Ascends 0 (itemsOf attributes) → searched attributes name ≡ Missing place → passedOver ≡ typeOr (attributeType name (itemsOf attributes))
-  field-missing ascends e = rw (missing-attribute attributes name place 0 ascends e)
+pub field-some : (o : Option ℕ) → (numberFor o ≡ 0 → ⊥) → numberFor o - 1 ≡ typeOr o
+field-some none e = absurd (e refl)
+field-some (some t) e = omega arith
 
 -- ---- a type of the schema, and its attributes between two places
 
@@ -113,35 +52,15 @@ module _ {words table : List ℕ} {t : ℕ} (k : KnownType words table t) where
   pub known-stands : {place : ℕ} → place ≡ typePlace (getD table t 0) → TypeStands words t place
   known-stands e = tabled-stands words table (k .types .good-items) (k .types .tabled) (k .known) e
 
-map-take : {A B : Type 0} (f : A → B) (n : ℕ) (xs : List A) → map f (take n xs) ≡ take n (map f xs)
-map-take f zero xs = refl
-map-take f (suc n) [] = refl
-map-take f (suc n) (x ∷ xs) = ap (λ ys. f x ∷ ys) (map-take f n xs)
-
-attributes-short : (items : List Item) → length (attributesOf items) ≤ length items
-unfolding attributesOf
-attributes-short [] = omega arith
-attributes-short (it ∷ items) =
-    by-test (eqb (it .tag) attributeLine) (λ e. rw e (omega (arith, attributes-short items))) (λ e. rw e (omega arith))
-
 module _ {words : List ℕ} {t place end : ℕ} (here : TypeStands words t place) (ends : end ≡ place + 1 + length (attributesOf (itemsOf (drop (place + 1) words)))) where
-  pub attributes-inside : end ≤ length words
-  attributes-inside =
-      omega (
-        arith,
-        here .inside,
-        attributes-short (itemsOf (drop (place + 1) words)),
-        length-map (drop (place + 1) words) itemIn,
-        length-drop (place + 1) words,
-      )
+  pub type-inside : end ≤ length words
+  type-inside = attributes-inside words (place + 1) ends (omega (arith, here .inside))
 
-  pub attributes-cut : itemsOf (take (end - (place + 1)) (drop (place + 1) words)) ≡ attributesAt (itemsOf words) t
-  attributes-cut =
-      let many : end - (place + 1) ≡ length (attributesOf (itemsOf (drop (place + 1) words))) = omega arith in
-      rw (map-take itemIn, many) (attributes-first (itemsOf (drop (place + 1) words))) ∙ sym (stands-attributes here)
+  pub type-cut : itemsOf (take (end - (place + 1)) (drop (place + 1) words)) ≡ attributesAt (itemsOf words) t
+  type-cut = attributes-cut words (place + 1) ends ∙ sym (stands-attributes here)
 
-  pub attributes-ascend : Ascends 0 (itemsOf (take (end - (place + 1)) (drop (place + 1) words)))
-  attributes-ascend = rw (attributes-cut, stands-attributes here) (here .lines .ascends)
+  pub type-ascends : Ascends 0 (itemsOf (take (end - (place + 1)) (drop (place + 1) words)))
+  type-ascends = rw (type-cut, stands-attributes here) (here .lines .ascends)
 
 -- ---- types come on top of those that wait
 

@@ -20,10 +20,10 @@ use path_tries::add_access_path;
 use path_tries::path_at;
 use rows::Kind;
 use schema::Item;
-use type_table::is_attribute;
+use type_table::attributes_end;
 use type_table::size_at;
+use type_table::type_named;
 use type_table::type_to_access_trie;
-use words::Search;
 use wrapped_paths::WrappedAccessPaths;
 use wrapped_paths::measure;
 use wrapped_paths::name_place;
@@ -70,18 +70,6 @@ impl Pair {
     }
 }
 
-// The place after the attributes that begin at a place.
-fn attributes_end(words: &[u64], first: usize) -> usize
-    requires { ⌜ first ≤ length (now words) ⌝ }
-    ensures { λ r. ⌜ r ≡ first + length (attributesOf (itemsOf (drop first (now (words .entry))))) ⌝ }
-{
-    let mut at = first;
-    while is_attribute(words, at) {
-        at += 1;
-    }
-    at
-}
-
 // Whether all attributes of a record type are among the names of a literal.
 fn has_all(attributes: &[u64], names: &[u64]) -> bool
     ensures { λ r. ⌜ ((fields : Fields) → now (names .entry) ≡ namesIn fields → r ≡ hasAll fields (itemsOf (now (attributes .entry)))) ⌝ }
@@ -101,10 +89,11 @@ fn field_type(attributes: &[u64], name: u64) -> u64
     requires { ⌜ Ascends 0 (itemsOf (now attributes)) ⌝ }
     ensures { λ r. ⌜ r ≡ typeOr (attributeType name (itemsOf (now (attributes .entry)))) ⌝ }
 {
-    let Search::Found(place) = Search::of(attributes, name) else {
+    let number = type_named(attributes, name);
+    if number == 0 {
         return PASSED_OVER;
-    };
-    Item::of(attributes[place]).value
+    }
+    number - 1
 }
 
 // The types of a record literal's fields wait, that of its first name on top; answers how many wait then.

@@ -5,14 +5,14 @@ use native.Mathlib.Omega.{arith}
 use mathlib.Core.Bool.{Bool, true, false, cond, _&&_, and-false, and-eq-true-iff}
 use mathlib.Core.List.{List, _∷_}
 use mathlib.Core.Path.{_≡_, refl, _∙_}
-use borrow.Author.Tests.{leb-true, le-leb, lt-leb, lt-ltb, le-ltb}
-use lib.Dec.{leb}
+use borrow.Author.Tests.{leb-true, ltb-true, le-leb, lt-leb, lt-ltb, le-ltb}
+use lib.Dec.{leb, ltb}
 use lib.ListN.{length, drop, getD, drop-of-length-le}
 use lib.Seq.{drop-cons}
 use Rattle.rules.specs.Schema.{Item, Known, unknown, fits, beyond, lawfulItems}
 use Rattle.words.specs.Runs.{wordsIn}
 use Rattle.schema.specs.Items.{itemIn, isItem, allItems, itemsOf, goodItems, lawfulSchema}
-use Rattle.schema.specs.Reads.{Bounded}
+use Rattle.schema.specs.Bounds.{Bounded}
 use Rattle.schema.specs.KnownLaws.{bounded-beyond}
 
 -- ---- one word
@@ -104,3 +104,18 @@ module _ (state : List ℕ) (long : 142337 ≤ length state) where
   pub lawful-words : getD state 0 0 < 142337 → lawfulSchema state ≡ goodItems (wordsIn state)
   unfolding lawfulSchema
   lawful-words h = rw (le-leb 142337 (length state) long, lt-ltb (getD state 0 0) 142337 h)
+
+-- a lawful one counts its items within its length, and they are good
+module _ (state : List ℕ) (lawful : lawfulSchema state ≡ true) where
+  tested : (getD state 0 0 < 142337) × (goodItems (wordsIn state) ≡ true)
+  unfolding lawfulSchema
+  tested =
+      let (_, inner) = and-eq-true-iff (leb 142337 (length state)) _ .0 lawful in
+      let (few, good) = and-eq-true-iff (ltb (getD state 0 0) 142337) _ .0 inner in
+      (ltb-true (getD state 0 0) 142337 few, good)
+
+  pub lawful-count : getD state 0 0 < 142337
+  lawful-count = tested .0
+
+  pub lawful-items : goodItems (wordsIn state) ≡ true
+  lawful-items = tested .1

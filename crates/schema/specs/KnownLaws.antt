@@ -7,7 +7,7 @@ use borrow.Author.Tests.{ltb-true, leb-true, eqb-true, eqb-false, eq-eqb, ne-eqb
 use lib.Dec.{eqb, ltb, leb}
 use Rattle.rules.specs.Facts.{by-test, compared}
 use Rattle.rules.specs.Schema.{Item, Known, sectionOf, mostOf, roomAfter, within, keyFits, valueFits, fits, beyond}
-use Rattle.schema.specs.Reads.{mostLines, Bounded}
+use Rattle.schema.specs.Bounds.{mostLines, Bounded}
 
 -- ---- how many lines there are at most
 

@@ -1,7 +1,5 @@
--- What a schema's words mean, and what each operation of `schema` answers and leaves.
+-- What a schema's words mean, and which lines may come after one another.
+pub mod Bounds
 pub mod ItemLaws
 pub mod Items
 pub mod KnownLaws
-pub mod LineLaws
-pub mod ReadLaws
-pub mod Reads

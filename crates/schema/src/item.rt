@@ -26,6 +26,8 @@ impl Item {
 
     pub const ATTRIBUTE_LINE: u64 = 12;
 
+    pub const LITERAL_LINE: u64 = 13;
+
     // What a word says.
     pub fn of(word: u64) -> Item
         ensures { λ r. ⌜ itemFor r ≡ itemIn word ⌝ }

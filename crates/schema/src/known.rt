@@ -4,7 +4,7 @@ ghost use mathlib.Core.Bool.{true};
 ghost use Prim.Native.Nat.{_≤_};
 ghost use Rattle.rules.specs.Schema.{unknown, sectionOf, mostOf, roomAfter, within as withinOf, keyFits, valueFits, fits as fitsOf, beyond as beyondOf};
 ghost use Rattle.schema.specs.Items.{itemFor};
-ghost use Rattle.schema.specs.Reads.{knownFor, Bounded};
+ghost use Rattle.schema.specs.Bounds.{knownFor, Bounded};
 use crate::item::Item;
 
 // The section and what its next line may be, the number of types, and what the next attribute may be.

@@ -3,7 +3,13 @@ ghost use mathlib.Core.Path.{_≡_};
 ghost use Rattle.schema.specs.Items.{lawfulSchema, goodItems};
 use crate::item::Item;
 use crate::known::Known;
-use crate::reading::Schema;
+
+// The lent state of a schema: its length.
+pub struct Schema {}
+
+impl Schema {
+    pub const WORDS: usize = 142_337;
+}
 
 // Whether words are items that may stand one after the other.
 fn are_items(words: &[u64]) -> bool

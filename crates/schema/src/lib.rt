@@ -1,11 +1,10 @@
-// The schema (`ValidatorSchema`): types, attributes of entity types, types of literals and context types of actions, read from their text
-// into a lent state, one word a line.
+// The schema (`ValidatorSchema`) as a lent state, one word a line of its text: types, attributes of entity types, types of literals and
+// context types of actions; and which lines may come after one another.
 mod item;
 mod known;
 mod lawful;
-mod line;
-mod reading;
 
 pub use item::Item;
+pub use known::Known;
+pub use lawful::Schema;
 pub use lawful::is_lawful;
-pub use reading::Schema;

@@ -4,7 +4,6 @@ ghost use lib.ListN.{length};
 use cases::print;
 use cases::print_refused;
 use libc::STDOUT_FILENO;
-use schema::Schema;
 use text::Line;
 use words::Reply;
 
@@ -13,39 +12,15 @@ const TEXT: usize = 200_000;
 
 const SHOWN: u64 = 64;
 
-// Writes what a field of a line stands for into `out` from `at` on, as much as there is room, and answers the place after it.
-fn say_part(out: &mut [u8], at: usize, line: &[u8], n: usize) -> usize
-    requires { ⌜ at ≤ length (now out) ⌝ }
-    ensures { λ r. ⌜ r ≤ length (now (out .exit)) ⌝ }
-{
-    at + cases::decode_field(line, n, &mut out[at..])
-}
-
-// The text of many lines: a head, and then for each number below a count a line of a letter, a tab, the number and a tail.
-fn say_many(out: &mut [u8], line: &[u8]) -> usize
-    ensures { λ r. ⌜ r ≤ length (now (out .exit)) ⌝ }
-{
-    let count = cases::number(line, 3);
-    let mut to = say_part(out, 0, line, 1);
-    let mut i = 0;
-    while i < count {
-        let lettered = say_part(out, to, line, 2);
-        let tabbed = cases::say(out, lettered, b"\t");
-        let numbered = cases::say_number(out, tabbed, i);
-        to = say_part(out, numbered, line, 4);
-        i += 1;
-    }
-    to
-}
-
-// The text of a case: its own, in escapes, or many lines.
+// The text of a case, in escapes, and many lines behind it where it has them.
 fn text_of(line: &[u8], out: &mut [u8]) -> usize
     ensures { λ r. ⌜ r ≤ length (now (out .exit)) ⌝ }
 {
+    let to = cases::say_part(out, 0, line, 1);
     if cases::is_word(line, 0, b"many") {
-        return say_many(out, line);
+        return cases::say_many(out, to, line, 2, 3, 4);
     }
-    say_part(out, 0, line, 1)
+    to
 }
 
 // How many words a state has, and which, where they are few.
@@ -75,7 +50,7 @@ fn ask_text(line: &[u8]) {
     let mut text = [0u8; TEXT];
     let n = text_of(line, &mut text);
     let mut state = [0u64; 142_337];
-    let reply = Schema::read(&text[..n], &mut state);
+    let reply = schema_text::read_schema(&text[..n], &mut state);
     match reply {
         Reply::Refused(number, place) => print_refused(number, place),
         Reply::Done => {

@@ -3,14 +3,19 @@ use Prim.Native.Nat.{ℕ, _^_, _<_}
 use mathlib.Core.Path.{_≡_}
 use mathlib.Core.List.{List}
 use lib.ListN.{length}
-use Rattle.rules.specs.Numbers.{accepted, refused}
+use Rattle.rules.specs.Numbers.{Answer, accepted, refused}
 use Rattle.rules.specs.Lines.{folded}
 use Rattle.rules.specs.Schema.{Item}
+use Rattle.rules.specs.Tries.{Row}
 use Rattle.rules.specs.Steps.{Result, stepLine, run}
+use Rattle.rows.specs.States.{storing}
+use Rattle.words.specs.declared.Reply.{Reply}
 use Rattle.result_stack.specs.Stacks.{Held, Scratch}
 use Rattle.result_stack.specs.declared.Stack.{Stack}
 use Rattle.step_runs.specs.declared.StepTaken.{StepTaken}
 use Rattle.step_runs.specs.declared.StepTaken.the-variants.{Next, Refused as Stopped, Full as Filled}
+use Rattle.step_runs.specs.declared.Answered.{Answered}
+use Rattle.step_runs.specs.declared.Answered.the-variants.{Reply as Replied, Full as Unanswered}
 use Rattle.step_runs.specs.declared.Ran.{Ran}
 use Rattle.step_runs.specs.declared.Ran.the-variants.{Stack as Stacked, Refused, Full}
 
@@ -50,3 +55,17 @@ abbrev pub RanBy : List Item → List ℕ → List ℕ → List ℕ → Ran → 
 RanBy items text code tries (Stacked stack lines) = Finished items text code tries stack lines
 RanBy items text code tries (Refused number place) = run items text ≡ refused number place
 RanBy items text code tries Full = NotLarge code tries
+
+-- a reply, and what the buffer then holds, for rows or a refusal
+abbrev pub AnswerStored : Answer (List Row) → List ℕ → List ℕ → Reply → Type 0
+AnswerStored answer out out′ reply = (reply ≡ storing out answer .reply) × (out′ ≡ storing out answer .buffer)
+
+-- where the runs are full, the buffer is as it was
+abbrev pub AnsweredBy : Answer (List Row) → List ℕ → List ℕ → Answered → Type 0
+AnsweredBy answer out out′ (Replied reply) = AnswerStored answer out out′ reply
+AnsweredBy answer out out′ Unanswered = out′ ≡ out
+
+-- and they are not the large ones
+abbrev pub FullBy : List ℕ → List ℕ → Answered → Type 0
+FullBy code tries (Replied reply) = Unit
+FullBy code tries Unanswered = NotLarge code tries

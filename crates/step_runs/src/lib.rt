@@ -6,11 +6,12 @@ ghost use Prim.Native.Nat.{ℕ, _^_, _<_, _≤_};
 ghost use lib.ListN.{length, drop};
 ghost use Rattle.rules.specs.Tries.{Row as RowOf};
 ghost use Rattle.rules.specs.Listing.{read};
+ghost use Rattle.rules.specs.Steps.{analyse};
 ghost use Rattle.rows.specs.States.{holding};
 ghost use Rattle.schema.specs.Items.{itemsOf};
 ghost use Rattle.type_table.specs.Tables.{GoodTypes};
 ghost use Rattle.result_stack.specs.Stacks.{TrieAt, trieWords, Scratch};
-ghost use Rattle.step_runs.specs.StepRuns.{Ready, LineTaken, RanBy};
+ghost use Rattle.step_runs.specs.StepRuns.{Ready, LineTaken, RanBy, AnsweredBy, FullBy};
 use path_tries::TRIE;
 use result_stack::Stack;
 use result_stack::Stepped;
@@ -19,6 +20,7 @@ use step_lines::Step;
 use step_lines::parse;
 use steps::apply;
 use text::Line;
+use words::Reply;
 
 // What a step line makes of the stack: the next one, or a refusal's number, or that its runs are full.
 pub enum StepTaken {
@@ -31,6 +33,12 @@ pub enum StepTaken {
 pub enum Ran {
     Stack(Stack, u64),
     Refused(u64, u64),
+    Full,
+}
+
+// The reply to a text, or that the runs of the stack are full.
+pub enum Answered {
+    Reply(Reply),
     Full,
 }
 
@@ -137,4 +145,33 @@ pub fn write_contribution(request: u64, tries: &[u64], at: usize, out: &mut [u64
     let first = at + 1;
     let end = first + count as usize;
     words::copy_words(&tries[first..end], out, 2);
+}
+
+// The contribution of a step text, by a stack in two runs of any length; `paths` is scratch.
+pub fn answer_steps(
+    words: &[u64],
+    table: &[u64],
+    types: u64,
+    request: u64,
+    text: &[u8],
+    out: &mut [u64],
+    code: &mut [u64],
+    tries: &mut [u64],
+    paths: &mut [u64],
+) -> Answered
+    requires { ⌜ GoodTypes (now words) (now table) types × ((request < 2 ^ 48) × (1026 ≤ length (now out))) ⌝ }
+    requires { ⌜ (length (now code) < 2 ^ 53) × Scratch (now code) (now paths) ⌝ }
+    ensures { λ r. ⌜ AnsweredBy (analyse (itemsOf (now (words .entry))) request (now (text .entry))) (now (out .entry)) (now (out .exit)) r × FullBy (now (code .entry)) (now (tries .entry)) r ⌝ }
+{
+    match run(words, table, types, text, code, tries, paths) {
+        Ran::Full => Answered::Full,
+        Ran::Refused(number, line) => Answered::Reply(Reply::Refused(number, line)),
+        Ran::Stack(stack, lines) => {
+            if stack.results != 1 {
+                return Answered::Reply(Reply::Refused(6, lines));
+            }
+            write_contribution(request, tries, stack.tries, out);
+            Answered::Reply(Reply::Done)
+        }
+    }
 }

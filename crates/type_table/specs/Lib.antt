@@ -1,3 +1,4 @@
 -- The table of types.
+pub mod NamedLaws
 pub mod Tables
 pub mod TypeTableLaws

@@ -3,7 +3,7 @@ use Prim.Native.Nat.{ℕ, suc, _+_, _*_, _/_, _%_, _<_}
 use mathlib.Core.Path.{_≡_}
 use mathlib.Core.Bool.{Bool, true, false, cond}
 use mathlib.Core.List.{List}
-use mathlib.Core.Option.{some}
+use mathlib.Core.Option.{Option, none, some}
 use lib.Dec.{ltb, eqb}
 use lib.ListN.{length, drop, getD}
 use Rattle.rules.specs.Tries.{Row}
@@ -11,7 +11,10 @@ use Rattle.rules.specs.Schema.{fromType, attributeLine}
 use Rattle.rules.specs.Paths.{typeBelow}
 use Rattle.rules.specs.TypeLaws.{typesIn, deepest}
 use Rattle.rules.specs.Facts.{capped}
-use Rattle.schema.specs.Items.{itemsOf, goodItems}
+use Rattle.schema.specs.Items.{itemIn, itemsOf, goodItems}
+use Rattle.words.specs.Keys.{searched}
+use Rattle.words.specs.declared.Search.{Search}
+use Rattle.words.specs.declared.Search.the-variants.{Found, Missing}
 use Rattle.type_table.specs.declared.TypeSize.{TypeSize}
 
 -- the nodes below a node of a type
@@ -55,3 +58,11 @@ pub record KnownType (words table : List ℕ) (t : ℕ) : Type 0 where
 -- a word that is an attribute
 unfoldable pub attributeAt : List ℕ → ℕ → Bool
 attributeAt words at = cond (ltb at (length words)) (eqb (getD words at 0 % 16) attributeLine) false
+
+-- the type that a run of lines gives a key, if it has a line of that key
+abbrev pub valueAt : List ℕ → Search → Option ℕ
+valueAt run (Found place) = some (itemIn (getD run place 0) .value)
+valueAt run (Missing place) = none
+
+abbrev pub valueNamed : List ℕ → ℕ → Option ℕ
+valueNamed run key = valueAt run (searched run key)

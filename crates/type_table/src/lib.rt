@@ -3,17 +3,18 @@ ghost use mathlib.Core.Path.{_≡_};
 ghost use mathlib.Core.Bool.{true};
 ghost use mathlib.Core.List.{map};
 ghost use Prim.Native.Nat.{_+_, _%_, _<_, _≤_};
-ghost use lib.ListN.{length, take, getD};
+ghost use lib.ListN.{length, take, drop, getD};
 ghost use Rattle.rules.specs.Paths.{deeper};
-ghost use Rattle.rules.specs.Schema.{lastType};
+ghost use Rattle.rules.specs.Schema.{lastType, attributesOf};
 ghost use Rattle.rules.specs.TypeLaws.{typesIn, deepest};
-ghost use Rattle.rows.specs.Words.{wordOf};
+ghost use Rattle.rows.specs.Words.{wordOf, numberFor};
 ghost use Rattle.schema.specs.Items.{itemsOf, goodItems};
 ghost use Rattle.words.specs.Runs.{Wrote};
-ghost use Rattle.type_table.specs.Tables.{sizeWord, typePlace, typeDepth, typeNodes, Sized, Tabled, attributeAt, typeRows};
+ghost use Rattle.type_table.specs.Tables.{sizeWord, typePlace, typeDepth, typeNodes, Sized, Tabled, attributeAt, typeRows, valueNamed};
 use rows::Kind;
 use rows::Row;
 use schema::Item;
+use words::Search;
 use words::at_most;
 use words::larger;
 
@@ -63,6 +64,28 @@ pub fn is_attribute(words: &[u64], at: usize) -> bool
         return false;
     }
     Item::of(words[at]).tag == Item::ATTRIBUTE_LINE
+}
+
+// The place after the attributes that begin at a place.
+pub fn attributes_end(words: &[u64], first: usize) -> usize
+    requires { ⌜ first ≤ length (now words) ⌝ }
+    ensures { λ r. ⌜ r ≡ first + length (attributesOf (itemsOf (drop first (now (words .entry))))) ⌝ }
+{
+    let mut at = first;
+    while is_attribute(words, at) {
+        at += 1;
+    }
+    at
+}
+
+// The type that a run of lines gives a key, as a row has it: 0 for none, t + 1 for type t.
+pub fn type_named(run: &[u64], key: u64) -> u64
+    ensures { λ r. ⌜ r ≡ numberFor (valueNamed (now (run .entry)) key) ⌝ }
+{
+    let Search::Found(place) = Search::of(run, key) else {
+        return 0;
+    };
+    Item::of(run[place]).value + 1
 }
 
 // The size of the type at a place, by the sizes of the lower types.

@@ -15,7 +15,8 @@ use Rattle.words.specs.RunLaws.{by-parts}
 use Rattle.rows.specs.States.{lawfulState, rowsIn}
 use Rattle.schema.specs.Items.{lawfulSchema, itemsIn}
 use Rattle.analysis.specs.Outcomes.{addPolicyIn}
-use Rattle.analysis.specs.AnswerLaws.{lawful-count, lawful-items, short-schema, short-out, unlawful-schema, unlawful-else, all-lawful}
+use Rattle.analysis.specs.AnswerLaws.{short-schema, short-out, unlawful-schema, unlawful-else, all-lawful}
+use Rattle.schema.specs.ItemLaws.{lawful-count, lawful-items}
 use Rattle.analysis.proofs.add_policy.Statement.{statement}
 use Rattle.analysis.proofs.add_policy.Tie as tie
 

@@ -14,7 +14,8 @@ use Rattle.words.specs.RunLaws.{by-parts}
 use Rattle.schema.specs.Items.{lawfulSchema, itemsIn}
 use Rattle.rules.specs.Steps.{analyse}
 use Rattle.analysis.specs.Outcomes.{analyseIn}
-use Rattle.analysis.specs.AnswerLaws.{lawful-count, lawful-items, short-schema, short-out, unlawful-schema, unlawful-else, all-lawful}
+use Rattle.analysis.specs.AnswerLaws.{short-schema, short-out, unlawful-schema, unlawful-else, all-lawful}
+use Rattle.schema.specs.ItemLaws.{lawful-count, lawful-items}
 use Rattle.analysis.proofs.analyse.Statement.{statement}
 use Rattle.analysis.proofs.analyse.Tie as tie
 

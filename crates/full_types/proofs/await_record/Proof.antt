@@ -10,7 +10,7 @@ use Rattle.rules.specs.Paths.{Fields, hasAll, attributesAt}
 use Rattle.schema.specs.Items.{itemsOf}
 use Rattle.wrapped_paths.specs.Code.{namesIn}
 use Rattle.type_table.specs.TypeTableLaws.{TypeStands}
-use Rattle.full_types.specs.RequiredLaws.{known-inside, known-stands, attributes-inside, attributes-cut, attributes-ascend, meeting-room, meeting-within, record-none, record-lacks, record-stacked}
+use Rattle.full_types.specs.RequiredLaws.{known-inside, known-stands, type-inside, type-cut, type-ascends, meeting-room, meeting-within, record-none, record-lacks, record-stacked}
 use borrow.Author.Needs.{needs}
 use Rattle.full_types.proofs.await_record.Statement.{statement}
 use Rattle.full_types.proofs.await_record.Tie as tie
@@ -33,7 +33,7 @@ tag c = ap (λ (it : Item). it .tag) (c .of .ensures)
 
 -- its attributes are inside, and so are the names
 inside : (c : tie.After-attributes-end) → c .attributes-end .result ≤ length (begun (sized (c .before)) .args .words .now)
-inside c = attributes-inside (there (sized (c .before))) (c .attributes-end .ensures)
+inside c = type-inside (there (sized (c .before))) (c .attributes-end .ensures)
 
 room :
     (c : tie.After-size-at) →
@@ -48,7 +48,7 @@ asked :
     take (args .at + 1 + args .fields - (args .at + 1)) (drop (args .at + 1) (args .code .now)) ≡ namesIn fields
     → c .has-all .result ≡ hasAll fields (attributesAt (itemsOf (args .words .now)) (args .t))
 asked c fields e =
-    c .has-all .ensures fields e ∙ ap (hasAll fields) (attributes-cut (there (sized (ended c .before))) (ended c .attributes-end .ensures))
+    c .has-all .ensures fields e ∙ ap (hasAll fields) (type-cut (there (sized (ended c .before))) (ended c .attributes-end .ensures))
 
 size-at-requires : tie.Need-size-at-requires
 size-at-requires c κs = known-inside (c .before .before .before .before .pre .type)
@@ -146,7 +146,7 @@ await-fields-requires c κs =
     let at-end = ended (c .before .before .before .before) in
     let at-size = sized (at-end .before) in
     let args = begun at-size .args in (
-      attributes-ascend (there at-size) (at-end .attributes-end .ensures),
+      type-ascends (there at-size) (at-end .attributes-end .ensures),
       omega (arith, room at-size .0, length-take (args .at + 1 + args .fields - (args .at + 1)) (drop (args .at + 1) (args .code .now))),
     )
 
@@ -165,7 +165,7 @@ returns-3 c =
     (asked (test .before))
     (take (at-end .attributes-end .result - (at-size .size-at .result .place + 1)) (drop (at-size .size-at .result .place + 1) (start .args .words .now)))
     (not-false _ (test .if2 .left))
-    (attributes-cut (there at-size) (at-end .attributes-end .ensures))
+    (type-cut (there at-size) (at-end .attributes-end .ensures))
     (at-fields .await-fields .ensures)
 
 pub await-record-spec : {M : Type 1} → statement M

@@ -14,14 +14,14 @@ text-of-requires c κs = search needs
 array-share-prefix-text : tie.Need-array-share-prefix-text
 array-share-prefix-text c = search needs
 
-slice-aggregate-read : tie.Need-slice-aggregate-read
-slice-aggregate-read c = sym (length-take-le _ _ (search needs))
+slice-aggregate-read-schema : tie.Need-slice-aggregate-read-schema
+slice-aggregate-read-schema c = sym (length-take-le _ _ (search needs))
 
-slice-aggregate-read-2 : tie.Need-slice-aggregate-read-2
-slice-aggregate-read-2 c = search needs
+slice-aggregate-read-schema-2 : tie.Need-slice-aggregate-read-schema-2
+slice-aggregate-read-schema-2 c = search needs
 
-read-requires : tie.Need-read-requires
-read-requires c κs = search needs
+read-schema-requires : tie.Need-read-schema-requires
+read-schema-requires c κs = search needs
 
 enum-known-reply : tie.Need-enum-known-reply
 enum-known-reply c = search needs
@@ -66,9 +66,9 @@ ask-text-spec =
     slice-aggregate-text-of
     text-of-requires
     array-share-prefix-text
-    slice-aggregate-read
-    slice-aggregate-read-2
-    read-requires
+    slice-aggregate-read-schema
+    slice-aggregate-read-schema-2
+    read-schema-requires
     enum-known-reply
     print-refused-requires
     enum-told

@@ -4,7 +4,7 @@ use mathlib.Core.Path.{_≡_, sym, _∙_}
 use borrow.Author.Tests.{not-true, not-false}
 use Prim.Native.Nat.{_-_}
 use Rattle.rules.specs.Schema.{fits}
-use Rattle.schema.specs.Reads.{knownFor}
+use Rattle.schema.specs.Bounds.{knownFor}
 use Rattle.schema.specs.Items.{itemFor, isItem}
 use Rattle.schema.specs.ItemLaws.{ItemsJudged, judged-none, judged-all, judged-bad, judged-stray, judged-next, item-key}
 use lib.ListN.{length}

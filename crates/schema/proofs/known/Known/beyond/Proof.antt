@@ -5,7 +5,7 @@ use mathlib.Core.Path.{_≡_, ap, _∙_}
 use borrow.Author.Tests.{le-leb, lt-leb, eq-eqb, ne-eqb}
 use Prim.Native.Nat.{ℕ, _+_}
 use Rattle.rules.specs.Schema.{Known, sectionOf, roomAfter, within}
-use Rattle.schema.specs.Reads.{knownFor, Bounded}
+use Rattle.schema.specs.Bounds.{knownFor, Bounded}
 use Rattle.schema.specs.Items.{itemFor}
 use Rattle.schema.specs.KnownLaws.{attribute-room, bounded-beyond}
 use mathlib.Core.Bool.{cond}

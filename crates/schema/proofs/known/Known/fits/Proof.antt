@@ -4,7 +4,7 @@ use native.Mathlib.Omega.{arith}
 use mathlib.Core.Path.{_≡_, sym, _∙_}
 use borrow.Author.Tests.{lt-ltb, le-ltb, le-leb, lt-leb, eq-eqb, not-true, not-false}
 use Rattle.rules.specs.Schema.{mostOf, within, keyFits, valueFits, fits}
-use Rattle.schema.specs.Reads.{knownFor}
+use Rattle.schema.specs.Bounds.{knownFor}
 use Rattle.schema.specs.Items.{itemFor}
 use Rattle.schema.specs.KnownLaws.{line-fits}
 use mathlib.Core.Bool.{_&&_}

@@ -1,0 +1,92 @@
+-- `schema_text::reading::take_line` meets its contract: the line's item, where it may come next, is passed: its word stands behind the others.
+-- Assumes nothing.
+use Prim.Native.Nat.{_+_, _<_}
+use native.Mathlib.Omega.{arith}
+use mathlib.Core.Path.{_≡_, sym, ap, _∙_}
+use borrow.Author.Tests.{not-true, not-false}
+use mathlib.Core.Option.{some}
+use mathlib.Core.Bool.{true}
+use Rattle.rules.specs.Text.{fieldsOf}
+use Rattle.rules.specs.Schema.{itemOf, fits}
+use Rattle.schema.specs.Items.{itemFor}
+use Rattle.schema_text.specs.Fields.{itemRead}
+use lib.ListN.{length, length-set}
+use Rattle.schema.specs.Bounds.{knownFor}
+use Rattle.schema_text.specs.ReadLaws.{item-fits, room-next, item-passed}
+use borrow.Author.Needs.{needs}
+use Rattle.schema_text.proofs.reading.take_line.Statement.{statement}
+use Rattle.schema_text.proofs.reading.take_line.Tie as tie
+
+-- the item that the line was read as
+item-read : (c : tie.After-item) → itemOf (fieldsOf (c .before .before .before .before .before .args .line .now)) ≡ some (itemFor (c .item .given .0 .0))
+item-read c = sym (c .before .before .parse .ensures) ∙ ap itemRead (c .item .given .1)
+
+-- past the second test it may come next
+may-follow : (c : tie.Else1) → fits (knownFor (c .before .before .before .before .before .before .before .before .args .known)) (itemFor (c .before .before .before .item .given .0 .0)) ≡ true
+may-follow c = sym (c .before .fits2 .ensures) ∙ not-false _ (c .if1 .left)
+
+parse-requires : tie.Need-parse-requires
+parse-requires c κs = search needs
+
+enum-known-item : tie.Need-enum-known-item
+enum-known-item c = search needs
+
+enum-told : tie.Need-enum-told
+enum-told c = search needs
+
+returns : tie.Need-returns
+returns c = rw (sym (c .before .before .parse .ensures) ∙ ap itemRead (c .enum-told .given .1)) tt
+
+fits-requires : tie.Need-fits-requires
+fits-requires c κs = search needs
+
+returns-2 : tie.Need-returns-2
+returns-2 c = rw (item-read (c .before .before .before)) (sym (c .before .fits2 .ensures) ∙ not-true _ (c .if1 .taken))
+
+-- so there is room for its word
+room : (c : tie.Else1) → let a = c .before .before .before .before .before .before .before .before .args in a .count + 1 < length (a .words .now)
+room c =
+    let s = c .before .before .before .before .before .before .before .before in
+    room-next (s .args .count) (s .args .known) (s .args .words .now) (itemFor (c .before .before .before .item .given .0 .0)) (s .pre) (may-follow c)
+
+add-end : tie.Need-add-end
+add-end c = omega (arith, room c)
+
+word-requires : tie.Need-word-requires
+word-requires c κs = omega (arith, item-fits _ _ (item-read (c .before .before .before)))
+
+mul-words : tie.Need-mul-words
+mul-words c = omega (arith, room (c .before), c .before .before .before .before .before .before .before .before .before .pre .words-length)
+
+slice-write-words : tie.Need-slice-write-words
+slice-write-words c = room (c .before)
+
+beyond-requires : tie.Need-beyond-requires
+beyond-requires c κs = (may-follow (c .before), (c .before .before .before .before .before .before .before .before .before .pre .bounded, item-fits _ _ (item-read (c .before .before .before .before)) .2))
+
+same-length : tie.Need-same-length
+same-length c = simp length-set
+
+returns-3 : tie.Need-returns-3
+returns-3 c =
+    let s = c .before .before .before .before .before .before .before .before .before .before in
+    item-passed (s .args .count) (s .args .known) (s .args .line .now) (s .args .words .now) (itemFor (c .before .before .before .before .before .item .given .0 .0)) (s .pre) (item-read (c .before .before .before .before .before)) (may-follow (c .before .before))
+    (c .before .word .ensures) (c .beyond .ensures .0) (c .beyond .ensures .1)
+
+pub take-line-spec : {M : Type 1} → statement M
+take-line-spec =
+    tie.close
+    (tie.spec
+    parse-requires
+    enum-known-item
+    enum-told
+    returns
+    fits-requires
+    returns-2
+    add-end
+    word-requires
+    mul-words
+    slice-write-words
+    beyond-requires
+    same-length
+    returns-3)
