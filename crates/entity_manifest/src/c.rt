@@ -7,6 +7,7 @@ ghost use Rattle.listing.specs.Outcomes.{readListingIn, writeIn};
 ghost use Rattle.manifest.specs.Outcomes.{emptyIn, addIn};
 ghost use Rattle.schema_text.specs.Outcomes.{readSchemaIn};
 ghost use Rattle.analysis.specs.Outcomes.{analyseIn, addPolicyIn};
+ghost use Rattle.type_annotations.specs.Outcomes.{typedIn};
 ghost use Rattle.rows.specs.declared.Kind.the-variants.{Contribution, Manifest};
 ghost use Rattle.entity_manifest.specs.Numbers.{replyNumber, replyPlace, ToldAs, writtenNumber, writtenValue, heldNumber, heldValue};
 use listing::Written;
@@ -189,4 +190,17 @@ pub extern "C" fn terbagyl_add_policy(
     ensures { λ r. ⌜ ToldAs (addPolicyIn (now (schema .entry)) (now (text .entry)) (now (manifest .entry))) r (now (value .exit)) (now (manifest .exit)) ⌝ }
 {
     tell(crate::add_policy(schema, text, manifest), value)
+}
+
+// Types a manifest by a schema, and stores what stays.
+#[no_mangle]
+pub extern "C" fn terbagyl_type(
+    schema: &[u64],
+    manifest: &[u64],
+    out: &mut [u64],
+    value: &mut u64,
+) -> u64
+    ensures { λ r. ⌜ ToldAs (typedIn (now (schema .entry)) (now (manifest .entry)) (now (out .entry))) r (now (value .exit)) (now (out .exit)) ⌝ }
+{
+    tell(crate::to_typed(schema, manifest, out), value)
 }

@@ -9,6 +9,7 @@ ghost use Rattle.listing.specs.Outcomes.{readListingIn, writeIn};
 ghost use Rattle.manifest.specs.Outcomes.{emptyIn, addIn};
 ghost use Rattle.schema_text.specs.Outcomes.{readSchemaIn};
 ghost use Rattle.analysis.specs.Outcomes.{analyseIn, addPolicyIn};
+ghost use Rattle.type_annotations.specs.Outcomes.{typedIn};
 pub use listing::Written;
 use manifest::EntityManifest;
 pub use rows::Held;
@@ -76,4 +77,11 @@ pub fn add_policy(schema: &[u64], text: &[u8], manifest: &mut [u64]) -> Reply
     ensures { λ r. ⌜ (r ≡ addPolicyIn (now (schema .entry)) (now (text .entry)) (now (manifest .entry)) .reply) × (now (manifest .exit) ≡ addPolicyIn (now (schema .entry)) (now (text .entry)) (now (manifest .entry)) .buffer) ⌝ }
 {
     analysis::add_policy(schema, text, manifest)
+}
+
+// Types a manifest by a schema, and stores what stays; a refusal leaves the output as it was.
+pub fn to_typed(schema: &[u64], manifest: &[u64], out: &mut [u64]) -> Reply
+    ensures { λ r. ⌜ (r ≡ typedIn (now (schema .entry)) (now (manifest .entry)) (now (out .entry)) .reply) × (now (out .exit) ≡ typedIn (now (schema .entry)) (now (manifest .entry)) (now (out .entry)) .buffer) ⌝ }
+{
+    type_annotations::to_typed(schema, manifest, out)
 }

@@ -1,0 +1,3 @@
+-- What typing answers and leaves.
+pub mod Outcomes
+pub mod TypedLaws
