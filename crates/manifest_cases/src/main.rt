@@ -5,11 +5,10 @@ ghost use Rattle.io.specs.Counts.{Counts};
 use cases::kind_of;
 use cases::print;
 use cases::print_refused;
-use listing::Written;
-use manifest::EntityManifest;
-use rows::Kind;
+use entity_manifest::Kind;
+use entity_manifest::Reply;
+use entity_manifest::Written;
 use text::Line;
-use words::Reply;
 
 // The longest text of a case, and the words of a contribution. Eight contributions are kept.
 const TEXT: usize = 65_536;
@@ -67,7 +66,7 @@ fn ask_text(line: &[u8]) {
     let mut text = [0u8; TEXT];
     let n = text_of(line, &mut text);
     let mut state = [0u64; 4_161];
-    let reply = listing::read_listing(kind_of(line), &text[..n], &mut state);
+    let reply = entity_manifest::read_listing(kind_of(line), &text[..n], &mut state);
     match reply {
         Reply::Refused(number, place) => print_refused(number, place),
         Reply::Done => ask_written(line, &state, &text[..n]),
@@ -76,7 +75,7 @@ fn ask_text(line: &[u8]) {
 
 fn ask_written(line: &[u8], state: &[u64], text: &[u8]) {
     let mut out = [0u8; TEXT];
-    let written = listing::write_listing(kind_of(line), state, &mut out);
+    let written = entity_manifest::write_listing(kind_of(line), state, &mut out);
     match written {
         Written::Refused(number, place) => print_refused(number, place),
         Written::Bytes(n) => {
@@ -100,7 +99,7 @@ fn keep(line: &[u8], kept: &mut [u64]) -> Reply {
     if kept.len() < end {
         return Reply::Refused(1, 0);
     }
-    listing::read_listing(Kind::Contribution, &text[..n], &mut kept[from..end])
+    entity_manifest::read_listing(Kind::Contribution, &text[..n], &mut kept[from..end])
 }
 
 // Keeps a contribution and says so.
@@ -132,7 +131,7 @@ fn add_kept(state: &mut [u64], kept: &[u64], number: u64) {
     if kept.len() < end {
         return;
     }
-    let reply = EntityManifest::add(state, &kept[from..end]);
+    let reply = entity_manifest::add(state, &kept[from..end]);
     if let Reply::Refused(number, place) = reply {
         print_refused(number, place);
         print(b", ");
@@ -142,7 +141,7 @@ fn add_kept(state: &mut [u64], kept: &[u64], number: u64) {
 // Writes the listing of a manifest, or, where a field of the line has the published Rust's, says whether it is that.
 fn tell_listing(line: &[u8], field: usize, state: &[u64]) {
     let mut out = [0u8; TEXT];
-    let written = listing::write_listing(Kind::Manifest, state, &mut out);
+    let written = entity_manifest::write_listing(Kind::Manifest, state, &mut out);
     match written {
         Written::Refused(number, place) => print_refused(number, place),
         Written::Bytes(n) => {

@@ -1,11 +1,11 @@
 // Replays the vectors of data/: step texts under request type (10, 500, 20), and policy texts, with their schema, in data/oracle also with the
 // Rust's answer.
 use cases::print;
-use listing::Written;
-use rows::Kind;
+use entity_manifest::Kind;
+use entity_manifest::Reply;
+use entity_manifest::Written;
 use schema::Schema;
 use text::Line;
-use words::Reply;
 
 const TEXT: usize = 65_536;
 
@@ -27,7 +27,7 @@ fn tell_refused(line: &[u8], number: u64, place: u64) {
 
 fn tell_listing(line: &[u8], kind: Kind, state: &[u64]) {
     let mut out = [0u8; TEXT];
-    let written = listing::write_listing(kind, state, &mut out);
+    let written = entity_manifest::write_listing(kind, state, &mut out);
     match written {
         Written::Refused(number, place) => tell_refused(line, number, place),
         Written::Bytes(n) => {
@@ -43,7 +43,7 @@ fn ask_steps(line: &[u8], schema: &[u64]) {
     let mut text = [0u8; TEXT];
     let n = cases::decode_field(line, 2, &mut text);
     let mut state = [0u64; 1_026];
-    let reply = analysis::analyse(schema, 42_982_440_980, &text[..n], &mut state);
+    let reply = entity_manifest::analyse(schema, 42_982_440_980, &text[..n], &mut state);
     match reply {
         Reply::Refused(number, place) => tell_refused(line, number, place),
         Reply::Done => tell_listing(line, Kind::Contribution, &state),
@@ -54,7 +54,7 @@ fn ask_steps(line: &[u8], schema: &[u64]) {
 fn add_text(line: &[u8], field: usize, schema: &[u64], manifest: &mut [u64]) -> bool {
     let mut text = [0u8; TEXT];
     let n = cases::decode_field(line, field, &mut text);
-    let reply = analysis::add_policy(schema, &text[..n], manifest);
+    let reply = entity_manifest::add_policy(schema, &text[..n], manifest);
     if let Reply::Refused(number, place) = reply {
         tell_refused(line, number, place);
         return false;
@@ -79,7 +79,7 @@ fn ask(line: &[u8]) {
     let mut text = [0u8; TEXT];
     let n = cases::decode_field(line, 1, &mut text);
     let mut state = [0u64; Schema::WORDS];
-    let reply = Schema::read(&text[..n], &mut state);
+    let reply = entity_manifest::read_schema(&text[..n], &mut state);
     match reply {
         Reply::Refused(number, place) => tell_refused(line, number, place),
         Reply::Done => {
