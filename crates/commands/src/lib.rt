@@ -87,6 +87,27 @@ fn asks_help(line: &[u8], count: usize) -> bool {
     is_help(&word[..n])
 }
 
+// Whether word 2 asks for typing.
+fn asks_typing(line: &[u8]) -> bool {
+    let mut word = io::buffer();
+    let n = files::word(line, 2, &mut word);
+    check::same(&word[..n], b"--typed")
+}
+
+// `build SCHEMA FILE...` and `build --typed SCHEMA FILE...`
+fn build(to: To, line: &[u8], count: usize) -> u64 {
+    if count < 4 {
+        return misused(to, b"build takes a schema and a file or more", b"");
+    }
+    if !asks_typing(line) {
+        return policy_jobs::build(to, line, count);
+    }
+    if count < 5 {
+        return misused(to, b"build --typed takes a schema and a file or more", b"");
+    }
+    typing_jobs::build_typed(to, line, count)
+}
+
 // The command that the first word names, with so many words.
 fn run_command(to: To, line: &[u8], count: usize, command: &[u8]) -> u64 {
     if check::same(command, b"list") {
@@ -96,10 +117,13 @@ fn run_command(to: To, line: &[u8], count: usize, command: &[u8]) -> u64 {
         return listing_jobs::list(to, line);
     }
     if check::same(command, b"build") {
-        if count < 4 {
-            return misused(to, b"build takes a schema and a file or more", b"");
+        return build(to, line, count);
+    }
+    if check::same(command, b"type") {
+        if count != 4 {
+            return misused(to, b"type takes a schema and a file", b"");
         }
-        return policy_jobs::build(to, line, count);
+        return typing_jobs::type_listing(to, line);
     }
     if check::same(command, b"steps") {
         if count != 7 {

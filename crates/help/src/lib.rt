@@ -6,7 +6,7 @@ fn say_build(to: To) -> u64 {
     write(
         to.out,
         to.err,
-        b"terbagyl build SCHEMA FILE...\n\nReads a schema, analyses each FILE, a policy text, adds what its contributions read to an empty manifest and writes the listing of that:\nall of them, or nothing and a refusal. The order of the FILEs does not matter. An empty policy text has no contribution.\nNames and types of the steps are not checked against the schema: only full asks it, for a type by its number.\n",
+        b"terbagyl build [--typed] SCHEMA FILE...\n\nReads a schema, analyses each FILE, a policy text, adds what its contributions read to an empty manifest and writes the listing of that:\nall of them, or nothing and a refusal. The order of the FILEs does not matter. An empty policy text has no contribution.\nNames and types of the steps are not checked against the schema: only full asks it, for a type by its number.\nWith --typed what was built is typed by the schema as type does it, and the listing of what stays is written, or nothing and a refusal.\n",
     )
 }
 
@@ -34,11 +34,19 @@ fn say_merge(to: To) -> u64 {
     )
 }
 
+fn say_type(to: To) -> u64 {
+    write(
+        to.out,
+        to.err,
+        b"terbagyl type SCHEMA FILE\n\nReads a schema and FILE, a listing, types each node by the schema and writes the listing of what stays: fields that their type lacks are dropped,\nwith all below them. Node types are not written. The first node that cannot be typed is refused, by its number among the N lines from 0:\n9, the schema lacks the literal or action; 10, its type is not strict; 11, it has fields and its type has none.\n",
+    )
+}
+
 fn say_commands(to: To) -> u64 {
     write(
         to.out,
         to.err,
-        b"usage: terbagyl COMMAND ...\n\n  build SCHEMA FILE...      analyse policy texts, and write the listing of their manifest\n  steps P A R SCHEMA FILE   analyse a step text under a request type, and write the contribution\n  list FILE                 read a listing, and write it again\n  merge FILE...             add listings or contributions to each other, and write the listing\n  help [COMMAND]            this text, or more of a command; also -h and --help\n  --version                 which version this is\n\n",
+        b"usage: terbagyl COMMAND ...\n\n  build SCHEMA FILE...      analyse policy texts, and write the listing of their manifest\n  build --typed SCHEMA FILE...\n                            the same, typed by the schema\n  steps P A R SCHEMA FILE   analyse a step text under a request type, and write the contribution\n  list FILE                 read a listing, and write it again\n  merge FILE...             add listings or contributions to each other, and write the listing\n  type SCHEMA FILE          type a listing by a schema, and write the listing of what stays\n  help [COMMAND]            this text, or more of a command; also -h and --help\n  --version                 which version this is\n\n",
     )
 }
 
@@ -84,6 +92,9 @@ pub fn say_command(to: To, command: &[u8]) -> u64 {
     }
     if check::same(command, b"merge") {
         return say_merge(to);
+    }
+    if check::same(command, b"type") {
+        return say_type(to);
     }
     if check::same(command, b"help") {
         return say_all(to);

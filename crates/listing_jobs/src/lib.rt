@@ -12,7 +12,7 @@ use forms::Form;
 // The words of a manifest, and the bytes of a listing.
 pub const WORDS: usize = 4_161;
 
-const LISTING: usize = 62_720;
+pub const LISTING: usize = 62_720;
 
 // Where results go, and where messages go.
 pub struct To {

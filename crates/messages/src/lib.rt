@@ -7,8 +7,11 @@ use files::say_name;
 use files::say_number;
 use forms::Form;
 use pieces::depth_of;
+use pieces::entry_of;
 use pieces::is_word;
+use pieces::line_number;
 use pieces::line_of;
+use pieces::node_of;
 
 // As much of a line as a message shows.
 const SHOWN: usize = 80;
@@ -188,6 +191,54 @@ pub fn say_unadded(err: i32, name: &[u8], number: u64) {
         ),
         _ => say(err, b" at 0: it cannot be added\n"),
     }
+}
+
+// 9: what the schema does not say of a node's root.
+fn say_unknown(err: i32, node: &[u8]) {
+    if is_word(node, 2, b"a") {
+        say(err, b"the schema has no L line for the action");
+        return;
+    }
+    if is_word(node, 2, b"c") {
+        say(err, b"the schema has no C line for the action");
+        return;
+    }
+    say(err, b"the schema has no L line for this literal");
+}
+
+// Why a node cannot be typed.
+fn say_untypable(err: i32, number: u64, node: &[u8]) {
+    match number {
+        9 => say_unknown(err, node),
+        10 => say(
+            err,
+            b"not strict: its type is any-entity, an entity type with several names, or one that the schema has no E line for",
+        ),
+        11 => say(err, b"fields below a node whose type has none"),
+        _ => say(err, b"refused"),
+    }
+}
+
+// `terbagyl: NAME: refused N at P (line L): reason; met LINE under A LINE`: node P of a listing cannot be typed.
+pub fn say_untyped(err: i32, name: &[u8], number: u64, place: u64, listing: &[u8]) {
+    let at = node_of(listing, place);
+    let from = at.from;
+    let to = at.to;
+    let entry = entry_of(listing, from);
+    let start = entry.from;
+    let end = entry.to;
+    say_number_of(err, name, number);
+    say(err, b" at ");
+    say_number(err, place);
+    say(err, b" (line ");
+    say_number(err, line_number(listing, from));
+    say(err, b"): ");
+    say_untypable(err, number, &listing[from..to]);
+    say(err, b"; met ");
+    say_line(err, &listing[from..to]);
+    say(err, b" under ");
+    say_line(err, &listing[start..end]);
+    say(err, b"\n");
 }
 
 // `terbagyl: cannot: reason; see terbagyl help`

@@ -60,6 +60,60 @@ pub fn line_of(text: &[u8], k: u64) -> Piece
     piece_of(text, k, LF)
 }
 
+// The line of node k of a listing, from 0; nothing at the end, where there are fewer. Only `N` lines have the letter.
+pub fn node_of(listing: &[u8], k: u64) -> Piece
+    ensures { λ r. ⌜ (r .from ≤ r .to) × (r .to ≤ length (now (listing .entry))) ⌝ }
+{
+    let before = piece_of(listing, k, b'N');
+    let from = before.to;
+    Piece {
+        from,
+        to: scan(listing, from, LF),
+    }
+}
+
+// The place of the last `A` in front of `at`, or 0. Only `A` lines have the letter.
+fn entry_before(listing: &[u8], at: usize) -> usize
+    requires { ⌜ at ≤ length (now listing) ⌝ }
+    ensures { λ r. ⌜ r ≤ length (now (listing .entry)) ⌝ }
+{
+    let mut i = at;
+    while 0 < i {
+        i -= 1;
+        if listing[i] == b'A' {
+            return i;
+        }
+    }
+    0
+}
+
+// The `A` line of a listing that the line at `at` stands under.
+pub fn entry_of(listing: &[u8], at: usize) -> Piece
+    requires { ⌜ at ≤ length (now listing) ⌝ }
+    ensures { λ r. ⌜ (r .from ≤ r .to) × (r .to ≤ length (now (listing .entry))) ⌝ }
+{
+    let from = entry_before(listing, at);
+    Piece {
+        from,
+        to: scan(listing, from, LF),
+    }
+}
+
+// The number, from 1, of the line that begins at `at`.
+pub fn line_number(text: &[u8], at: usize) -> u64
+    requires { ⌜ at ≤ length (now text) ⌝ }
+{
+    let mut number: u64 = 1;
+    let mut i = 0;
+    while i < at {
+        if text[i] == LF {
+            number += 1;
+        }
+        i += 1;
+    }
+    number
+}
+
 // Field k of a line, from 0; nothing at the end, where there are fewer.
 pub fn field_of(line: &[u8], k: u64) -> Piece
     ensures { λ r. ⌜ (r .from ≤ r .to) × (r .to ≤ length (now (line .entry))) ⌝ }

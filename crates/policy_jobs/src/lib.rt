@@ -9,10 +9,10 @@ use listing_jobs::refuse;
 use listing_jobs::write_listing;
 
 // The words of a schema.
-const SCHEMA: usize = 142_337;
+pub const SCHEMA: usize = 142_337;
 
 // Reads the schema that word i names.
-fn load_schema(to: To, line: &[u8], i: usize, count: usize, schema: &mut [u64]) -> u64 {
+pub fn load_schema(to: To, line: &[u8], i: usize, count: usize, schema: &mut [u64]) -> u64 {
     let mut text = [0u8; 65_537];
     let loaded = files::load(to.err, line, i, &mut text);
     if loaded.status != DONE {
@@ -48,6 +48,26 @@ fn add_policy(
     DONE
 }
 
+// Adds the policy texts that the words from `first` on name to a manifest.
+pub fn add_policies(
+    to: To,
+    line: &[u8],
+    first: usize,
+    count: usize,
+    schema: &[u64],
+    manifest: &mut [u64],
+) -> u64 {
+    let mut i = first;
+    while i < count {
+        let status = add_policy(to, line, i, count, schema, manifest);
+        if status != DONE {
+            return status;
+        }
+        i += 1;
+    }
+    DONE
+}
+
 // `build SCHEMA FILE...`: adds all policy texts to an empty manifest, all or nothing, and writes the listing.
 pub fn build(to: To, line: &[u8], count: usize) -> u64 {
     let mut schema = [0u64; SCHEMA];
@@ -56,13 +76,9 @@ pub fn build(to: To, line: &[u8], count: usize) -> u64 {
         return read;
     }
     let mut manifest = [0u64; WORDS];
-    let mut i = 3;
-    while i < count {
-        let status = add_policy(to, line, i, count, &schema, &mut manifest);
-        if status != DONE {
-            return status;
-        }
-        i += 1;
+    let added = add_policies(to, line, 3, count, &schema, &mut manifest);
+    if added != DONE {
+        return added;
     }
     write_listing(to, Kind::Manifest, &manifest)
 }
