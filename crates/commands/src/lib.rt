@@ -1,7 +1,7 @@
 // The program's commands: which words a command line has, and the job that they ask for.
 ghost use Prim.Native.Nat.{_≤_};
 use files::CANNOT;
-use listing_jobs::To;
+use jobs::To;
 use messages::say_misused;
 use text::Decimal;
 
@@ -105,7 +105,7 @@ fn build(to: To, line: &[u8], count: usize) -> u64 {
     if count < 5 {
         return misused(to, b"build --typed takes a schema and a file or more", b"");
     }
-    typing_jobs::build_typed(to, line, count)
+    policy_jobs::build_typed(to, line, count)
 }
 
 // The command that the first word names, with so many words.
@@ -123,7 +123,7 @@ fn run_command(to: To, line: &[u8], count: usize, command: &[u8]) -> u64 {
         if count != 4 {
             return misused(to, b"type takes a schema and a file", b"");
         }
-        return typing_jobs::type_listing(to, line);
+        return listing_jobs::type_listing(to, line);
     }
     if check::same(command, b"steps") {
         if count != 7 {

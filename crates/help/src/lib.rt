@@ -1,6 +1,6 @@
 // What the program says of itself.
 use files::write;
-use listing_jobs::To;
+use jobs::To;
 
 fn say_build(to: To) -> u64 {
     write(

@@ -1,53 +1,20 @@
-// The jobs on listings, and what all jobs share: each reads the files that the words of its command line name, calls the front, writes the
-// result, and answers the status.
+// The jobs on listings: each reads the files that the words of its command line name, calls the front, writes the result, and answers the
+// status.
 ghost use Prim.Native.Nat.{_≤_};
 ghost use lib.ListN.{length};
 use entity_manifest::Kind;
 use entity_manifest::Reply;
-use entity_manifest::Written;
 use files::DONE;
 use files::REFUSED;
 use forms::Form;
-
-// The words of a manifest, and the bytes of a listing.
-pub const WORDS: usize = 4_161;
-
-pub const LISTING: usize = 62_720;
-
-// Where results go, and where messages go.
-pub struct To {
-    pub out: i32,
-    pub err: i32,
-}
-
-// Reads the files behind word i for their lengths alone: one that is too long or cannot be read comes before a refusal of what word i names.
-fn pass_behind(to: To, line: &[u8], i: usize, count: usize) -> u64 {
-    if i < count {
-        return files::pass_rest(to.err, line, i + 1, count);
-    }
-    DONE
-}
-
-// Says that the front refused the text that word i names.
-pub fn refuse(
-    to: To,
-    line: &[u8],
-    i: usize,
-    count: usize,
-    form: Form,
-    number: u64,
-    place: u64,
-    text: &[u8],
-) -> u64 {
-    let status = pass_behind(to, line, i, count);
-    if status != DONE {
-        return status;
-    }
-    let mut name = io::buffer();
-    let n = files::word(line, i, &mut name);
-    messages::say_refused(to.err, &name[..n], form, number, place, text);
-    REFUSED
-}
+use jobs::SCHEMA;
+use jobs::To;
+use jobs::WORDS;
+use jobs::load_schema;
+use jobs::pass_behind;
+use jobs::refuse;
+use jobs::write_listing;
+use jobs::write_typed;
 
 // Says that what word i names was not added.
 fn refuse_adding(to: To, line: &[u8], i: usize, count: usize, number: u64) -> u64 {
@@ -59,19 +26,6 @@ fn refuse_adding(to: To, line: &[u8], i: usize, count: usize, number: u64) -> u6
     let n = files::word(line, i, &mut name);
     messages::say_unadded(to.err, &name[..n], number);
     REFUSED
-}
-
-// Writes the listing of a manifest, or of a contribution.
-pub fn write_listing(to: To, kind: Kind, state: &[u64]) -> u64 {
-    let mut out = [0u8; LISTING];
-    let written = entity_manifest::write_listing(kind, state, &mut out);
-    let Written::Bytes(n) = written else {
-        return REFUSED;
-    };
-    if LISTING < n {
-        return REFUSED;
-    }
-    files::write(to.out, to.err, &out[..n])
 }
 
 // `list FILE`: reads a listing and writes it again.
@@ -140,4 +94,32 @@ pub fn merge(to: To, line: &[u8], count: usize) -> u64 {
         i += 1;
     }
     write_listing(to, Kind::Manifest, &manifest)
+}
+
+// Types the listing that word 3 names.
+fn type_file(to: To, line: &[u8], schema: &[u64]) -> u64 {
+    let mut text = [0u8; 65_537];
+    let loaded = files::load(to.err, line, 3, &mut text);
+    if loaded.status != DONE {
+        return loaded.status;
+    }
+    let n = loaded.bytes;
+    let mut manifest = [0u64; WORDS];
+    let reply = entity_manifest::read_listing(Kind::Manifest, &text[..n], &mut manifest);
+    if let Reply::Refused(number, place) = reply {
+        return refuse(to, line, 3, 4, Form::Listing, number, place, &text[..n]);
+    }
+    let mut name = io::buffer();
+    let letters = files::word(line, 3, &mut name);
+    write_typed(to, &name[..letters], schema, &manifest)
+}
+
+// `type SCHEMA FILE`: types a listing by a schema, and writes the listing of what stays.
+pub fn type_listing(to: To, line: &[u8]) -> u64 {
+    let mut schema = [0u64; SCHEMA];
+    let read = load_schema(to, line, 2, 4, &mut schema);
+    if read != DONE {
+        return read;
+    }
+    type_file(to, line, &schema)
 }

@@ -1,30 +1,15 @@
-// The jobs on a schema: a manifest built of policy texts, and a step text analysed.
+// The jobs on policies: a manifest built of policy texts, also typed, and a step text analysed.
 use entity_manifest::Kind;
 use entity_manifest::Reply;
 use files::DONE;
 use forms::Form;
-use listing_jobs::To;
-use listing_jobs::WORDS;
-use listing_jobs::refuse;
-use listing_jobs::write_listing;
-
-// The words of a schema.
-pub const SCHEMA: usize = 142_337;
-
-// Reads the schema that word i names.
-pub fn load_schema(to: To, line: &[u8], i: usize, count: usize, schema: &mut [u64]) -> u64 {
-    let mut text = [0u8; 65_537];
-    let loaded = files::load(to.err, line, i, &mut text);
-    if loaded.status != DONE {
-        return loaded.status;
-    }
-    let n = loaded.bytes;
-    let reply = entity_manifest::read_schema(&text[..n], schema);
-    if let Reply::Refused(number, place) = reply {
-        return refuse(to, line, i, count, Form::Schema, number, place, &text[..n]);
-    }
-    DONE
-}
+use jobs::SCHEMA;
+use jobs::To;
+use jobs::WORDS;
+use jobs::load_schema;
+use jobs::refuse;
+use jobs::write_listing;
+use jobs::write_typed;
 
 // Adds the policy text that word i names to a manifest.
 fn add_policy(
@@ -102,4 +87,19 @@ pub fn analyse(to: To, line: &[u8], request: u64) -> u64 {
         return refuse(to, line, 6, 7, Form::Steps, number, place, &text[..n]);
     }
     write_listing(to, Kind::Contribution, &contribution)
+}
+
+// `build --typed SCHEMA FILE...`: adds all policy texts to an empty manifest, types it, and writes the listing of what stays.
+pub fn build_typed(to: To, line: &[u8], count: usize) -> u64 {
+    let mut schema = [0u64; SCHEMA];
+    let read = load_schema(to, line, 3, count, &mut schema);
+    if read != DONE {
+        return read;
+    }
+    let mut manifest = [0u64; WORDS];
+    let added = add_policies(to, line, 4, count, &schema, &mut manifest);
+    if added != DONE {
+        return added;
+    }
+    write_typed(to, b"what was built", &schema, &manifest)
 }

@@ -1,6 +1,6 @@
 // Replays command lines of the program: each line of `runs`, what it writes and says, and its status.
+use jobs::To;
 use libc::STDOUT_FILENO;
-use listing_jobs::To;
 use text::Line;
 
 // One line of the data file: a comment, or a command line and what comes of it.

@@ -1,9 +1,10 @@
--- `typing_jobs::refuse_node` is safe: no more of the listing is shown than was written.
+-- `jobs::write_listing` is safe: no more is written than there is room for.
 use mathlib.Core.Path.{sym}
 use borrow.Author.Needs.{needs}
 use lib.Seq.{length-take-le}
-use Rattle.typing_jobs.proofs.refuse_node.Statement.{statement}
-use Rattle.typing_jobs.proofs.refuse_node.Tie as tie
+use borrow.Author.Needs.{needs}
+use Rattle.jobs.proofs.write_listing.Statement.{statement}
+use Rattle.jobs.proofs.write_listing.Tie as tie
 
 slice-aggregate-write-listing : tie.Need-slice-aggregate-write-listing
 slice-aggregate-write-listing c = search needs
@@ -23,20 +24,20 @@ returns c = search needs
 returns-2 : tie.Need-returns-2
 returns-2 c = search needs
 
-array-share-prefix-listing : tie.Need-array-share-prefix-listing
-array-share-prefix-listing c = search needs
+array-share-prefix-out : tie.Need-array-share-prefix-out
+array-share-prefix-out c = search needs
 
-slice-aggregate-say-untyped : tie.Need-slice-aggregate-say-untyped
-slice-aggregate-say-untyped c = sym (length-take-le _ _ (search needs))
+slice-aggregate-write : tie.Need-slice-aggregate-write
+slice-aggregate-write c = sym (length-take-le _ _ (search needs))
 
-say-untyped-requires : tie.Need-say-untyped-requires
-say-untyped-requires c κs = search needs
+write-requires : tie.Need-write-requires
+write-requires c κs = search needs
 
 returns-3 : tie.Need-returns-3
 returns-3 c = search needs
 
-pub refuse-node-spec : {M : Type 1} → statement M
-refuse-node-spec =
+pub write-listing-spec : {M : Type 1} → statement M
+write-listing-spec =
     tie.close
     (tie.spec
     slice-aggregate-write-listing
@@ -45,7 +46,7 @@ refuse-node-spec =
     enum-told
     returns
     returns-2
-    array-share-prefix-listing
-    slice-aggregate-say-untyped
-    say-untyped-requires
+    array-share-prefix-out
+    slice-aggregate-write
+    write-requires
     returns-3)
