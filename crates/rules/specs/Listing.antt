@@ -6,7 +6,7 @@ use mathlib.Core.Option.{Option, none, some}
 use lib.Dec.{leb, ltb, eqb}
 use lib.ListN.{length, getD}
 use Rattle.rules.specs.Numbers.{Answer, accepted, refused, firstOf, mostSteps}
-use Rattle.rules.specs.Text.{bytes, LF, TAB, linesOf, fieldsOf, decimalOf, decimal}
+use Rattle.rules.specs.Text.{bytes, byteOf, LF, TAB, linesOf, fieldsOf, decimalOf, decimal}
 use Rattle.rules.specs.Tries.{
   Row,
   Form,
@@ -100,14 +100,14 @@ nodeOf depth step id mark = do
   m ← markOf mark
   cond (eqb d 0) none (ofForm (read d (stepOf kind i) m))
 
--- the row of a line, by its fields. 65 is `A` and 78 is `N`
+-- the row of a line, by its fields
 unfoldable pub rowOf : List (List ℕ) → Option Row
 rowOf [] = none
 rowOf (a ∷ []) = none
 rowOf (a ∷ b ∷ []) = none
 rowOf (a ∷ b ∷ c ∷ []) = none
-rowOf (word ∷ b ∷ c ∷ d ∷ []) = cond (isLetter 65 word) (entryOf b c d) none
-rowOf (word ∷ b ∷ c ∷ d ∷ e ∷ []) = cond (isLetter 78 word) (nodeOf b c d e) none
+rowOf (word ∷ b ∷ c ∷ d ∷ []) = cond (isLetter (byteOf "A") word) (entryOf b c d) none
+rowOf (word ∷ b ∷ c ∷ d ∷ e ∷ []) = cond (isLetter (byteOf "N") word) (nodeOf b c d e) none
 rowOf (a ∷ b ∷ c ∷ d ∷ e ∷ f ∷ more) = none
 
 -- Where a run of rows has come to: the last row's place, and how many entries and nodes there are.

@@ -6,7 +6,7 @@ use mathlib.Core.Option.{Option, none, some}
 use lib.Dec.{leb, ltb, eqb}
 use lib.ListN.{length}
 use Rattle.rules.specs.Numbers.{Answer, accepted, refused}
-use Rattle.rules.specs.Text.{bytes, linesOf, fieldsOf, decimalOf}
+use Rattle.rules.specs.Text.{bytes, byteOf, linesOf, fieldsOf, decimalOf}
 use Rattle.rules.specs.Listing.{_>>=_, isLetter, placeIn}
 
 -- What one line says: what it is, a number and a key.
@@ -84,13 +84,13 @@ pairOf word key type = do
   t ← decimalOf type
   some (item (attributeLine + place) t k)
 
--- what a line says, by its fields. 69 is `E` and 84 is `T`
+-- what a line says, by its fields
 unfoldable pub itemOf : List (List ℕ) → Option Item
 itemOf [] = none
 itemOf (word ∷ []) = none
-itemOf (word ∷ name ∷ []) = cond (isLetter 69 word) (decimalOf name >>= (λ n. some (item entityLine 0 n))) none
-itemOf (word ∷ a ∷ b ∷ []) = cond (isLetter 84 word) (typeOf a b []) (pairOf word a b)
-itemOf (word ∷ a ∷ b ∷ c ∷ more) = cond (isLetter 84 word) (typeOf a b (c ∷ more)) none
+itemOf (word ∷ name ∷ []) = cond (isLetter (byteOf "E") word) (decimalOf name >>= (λ n. some (item entityLine 0 n))) none
+itemOf (word ∷ a ∷ b ∷ []) = cond (isLetter (byteOf "T") word) (typeOf a b []) (pairOf word a b)
+itemOf (word ∷ a ∷ b ∷ c ∷ more) = cond (isLetter (byteOf "T") word) (typeOf a b (c ∷ more)) none
 
 -- The four sections, 'types, entity types, literals, actions', and how many lines each may have beside its attributes.
 abbrev pub sectionOf : ℕ → ℕ

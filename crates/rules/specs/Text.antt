@@ -13,6 +13,11 @@ abbrev pub bytes : String → List ℕ
 bytes end = []
 bytes (c then s) = code c ∷ bytes s
 
+-- the byte of a letter that is written out
+abbrev pub byteOf : String → ℕ
+byteOf end = 0
+byteOf (c then s) = code c
+
 abbrev pub LF : ℕ
 LF = 10
 
