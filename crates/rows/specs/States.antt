@@ -3,7 +3,7 @@ use Prim.Native.Nat.{ℕ, _+_, _≤_}
 use mathlib.Core.Bool.{Bool, true, false, cond, _&&_}
 use mathlib.Core.List.{List, [], _∷_, map}
 use mathlib.Core.Option.{Option, none, some}
-use lib.Dec.{ltb, leb}
+use lib.Dec.{ltb, leb, eqb}
 use lib.ListN.{length, getD}
 use lib.Seq.{sets}
 use Rattle.rules.specs.Numbers.{Answer, accepted, refused, mostSteps}
@@ -50,6 +50,10 @@ rowsIn state = rowsOf (wordsIn state)
 -- 'a lent state that isn't a lawful one': the count, each word and the rows are judged
 unfoldable pub lawfulState : Form → List ℕ → Bool
 lawfulState form state = ltb (getD state 0 0) (length state) && (allWords (wordsIn state) && lawful form (rowsIn state))
+
+-- the rows of one entry of a manifest: its own row, and its nodes
+unfoldable pub lawfulEntry : List ℕ → Bool
+lawfulEntry words = goodRows words && (leb (nodesIn (rowsOf words)) (manifest .nodes) && eqb (entriesIn (rowsOf words)) 1)
 
 -- A lent state of a kind: it is long enough, lawful, and has these rows.
 pub record Lent (kind : Kind) (state : List ℕ) (rows : List Row) : Type 0 where

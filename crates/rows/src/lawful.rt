@@ -4,7 +4,7 @@ ghost use mathlib.Core.Bool.{true};
 ghost use Prim.Native.Nat.{_≤_};
 ghost use lib.ListN.{length, take};
 ghost use Rattle.rules.specs.Tries.{entriesIn, nodesIn};
-ghost use Rattle.rows.specs.States.{lawfulState, formOf, goodRows, mayFollow, rowsOf};
+ghost use Rattle.rows.specs.States.{lawfulState, lawfulEntry, formOf, goodRows, mayFollow, rowsOf};
 use crate::Kind;
 use crate::row::Row;
 
@@ -97,4 +97,18 @@ pub fn is_lawful(kind: Kind, state: &[u64]) -> bool
         return found.entries == 1;
     }
     found.entries <= limits.entries
+}
+
+// Whether words are the rows of one entry of a manifest: its own row, and its nodes.
+pub fn is_lawful_entry(words: &[u64]) -> bool
+    ensures { λ r. ⌜ r ≡ lawfulEntry (now (words .entry)) ⌝ }
+{
+    let found = count_rows(words);
+    if !found.ordered {
+        return false;
+    }
+    if Kind::NODES < found.nodes {
+        return false;
+    }
+    found.entries == 1
 }

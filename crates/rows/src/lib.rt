@@ -5,6 +5,7 @@ mod place;
 mod row;
 
 pub use lawful::is_lawful;
+pub use lawful::is_lawful_entry;
 pub use place::Held;
 pub use place::has;
 pub use row::RequestType;
