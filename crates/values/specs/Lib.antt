@@ -1,0 +1,4 @@
+pub mod ValueWords
+pub mod ValueWordLaws
+pub mod Lawful
+pub mod LawfulLaws
