@@ -1,0 +1,11 @@
+pub mod RowWalks
+pub mod ScanLaws
+pub mod RuleLaws
+pub mod Meetings
+pub mod MeetingLaws
+pub mod Batches
+pub mod BatchLaws
+pub mod YieldLaws
+pub mod Initial
+pub mod InitialLaws
+pub mod SmallLaws
