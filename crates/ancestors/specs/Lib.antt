@@ -1,0 +1,12 @@
+pub mod Sets
+pub mod SetLaws
+pub mod SliceWords
+pub mod SliceWordLaws
+pub mod Takings
+pub mod TakingLaws
+pub mod InitialLaws
+pub mod RowLaws
+pub mod RoundLaws
+pub mod Requests
+pub mod RequestLaws
+pub mod SliceReadLaws
