@@ -1,0 +1,4 @@
+pub mod LoadStates
+pub mod LoadStateLaws
+pub mod Transcripts
+pub mod WorkedLaws

@@ -1,0 +1,29 @@
+// The calls of a load on its transcript (docs/FORMS.md, 'Load state').
+mod begin;
+mod parts;
+mod working;
+
+pub use begin::load_begin;
+pub use working::Worked;
+pub use working::work_out;
+
+// What a call of a load answers: done, with its own count and the batches and rows asked so far; or refused with a number and a place.
+pub enum LoadReply {
+    Done(u64, u64, u64),
+    Refused(u64, u64),
+}
+
+// The parts of a load's state.
+pub struct LoadState {}
+
+impl LoadState {
+    // The one length of a state, and of a context.
+    pub const WORDS: usize = 36_874;
+
+    pub const CONTEXT_WORDS: usize = 8_193;
+
+    // Where the entry and the context stand.
+    pub const ENTRY: usize = 9;
+
+    pub const CONTEXT: usize = 4_106;
+}
