@@ -65,6 +65,7 @@ pub mod TripLaws
 pub mod LoadLaws
 pub mod LoadCalls
 pub mod LoadingExamples
+pub mod LoadCallExamples
 pub mod MergeLaws
 pub mod SliceLaws
 pub mod TakeLaws
