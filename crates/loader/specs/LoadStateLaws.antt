@@ -14,8 +14,8 @@ use Rattle.rules.specs.Tries.{Row, manifest, ordered, entriesIn, nodesIn}
 use Rattle.rules.specs.ValueRowTests.{lawfulValueRows}
 use Rattle.values.specs.ValueWords.{valueRowsOf}
 use Rattle.rules.specs.Listing.{read}
-use Rattle.rules.specs.Loading.{LoadAnswer, done, refusedAt, Request, EntityRequest, Load, loadBegun, batchOf, initialEntities}
-use Rattle.rules.specs.LoadCalls.{entryFor, turnFor}
+use Rattle.rules.specs.Loading.{LoadAnswer, done, refusedAt, Request, EntityRequest, Load, loadBegun, batchOf, initialEntities, counted, _then_}
+use Rattle.rules.specs.LoadCalls.{Entry, entryFor, ended, transcript, beginLoad, turnFor}
 use Rattle.words.specs.Runs.{wordsIn}
 use Rattle.rows.specs.Words.{depthIn, markIn, stepIn, isWord, wordOf}
 use Rattle.rows.specs.WordLaws.{entry-word, all-words-cons, word-at, words-rows}
@@ -28,7 +28,7 @@ use Rattle.answers.specs.Answers.{HasScratch}
 use Rattle.answers.specs.declared.Lending.{Lending}
 use Rattle.answers.specs.declared.Lending.the-variants.{Answers, Sets}
 use Rattle.batches.specs.Replays.{firstLoad}
-use Rattle.loader.specs.LoadStates.{LoadOutcome, manifestWords, contextWords, loadWords, lawfulContext, isRequest, begunBy, beginIn, requestOf, turnNumber, firstTurn, entryWords, begunState, begunWith, BegunAs}
+use Rattle.loader.specs.LoadStates.{LoadOutcome, entryRows, storingLoad, manifestWords, contextWords, loadWords, lawfulContext, isRequest, begunBy, beginIn, requestOf, turnNumber, firstTurn, entryWords, begunState, begunWith, BegunAs}
 use Rattle.loader.specs.declared.LoadReply.the-variants.{Done, Refused}
 
 -- what a first batch comes to
@@ -128,6 +128,43 @@ own-words words triple at n good room depth step =
     let nodes = words-rows (take n (drop (at + 1) words)) (all-words-take n (drop (at + 1) words) (all-words-drop (at + 1) words good)) in
     rw (add-one, front) (ap₂ (λ w ws. w ∷ ws) own (sym nodes))
 
+-- what begin stores is the transcript that it comes to
+entry-rows :
+    (request : Request) (first : ℕ) (nodes : List Row) (waiting : List EntityRequest) (load : Load)
+    → load .waiting ≡ waiting
+    → entryRows (transcript (turnFor load) request first nodes [] []) ≡ entryWords (request .type) nodes
+entry-rows request first nodes [] load e = rw e
+entry-rows request first nodes (row ∷ rows) load e = rw e
+
+begun-load :
+    (rows : List Row) (triple principal resource : ℕ) (context state : List ℕ)
+    → storingLoad context state (beginLoad rows (requestOf triple principal resource context))
+    ≡ begunBy triple principal resource context state (entryFor triple 0 rows)
+begun-load rows triple principal resource context state = go (entryFor triple 0 rows)
+  where
+    begun :
+        (first : ℕ) (nodes : List Row) (answer : LoadAnswer Load)
+        → storingLoad context state
+        (answer then (λ load. done (transcript (turnFor load) (requestOf triple principal resource context) first nodes [] [])))
+        ≡ begunWith triple principal resource context state first nodes answer
+    begun first nodes (done load) =
+        rw (entry-rows (requestOf triple principal resource context) first nodes (load .waiting) load refl)
+    begun first nodes (refusedAt number place) = refl
+    begun first nodes (counted expected got) = refl
+
+    go :
+        (o : Option Entry)
+        → storingLoad context state
+        (elim o [
+          | none ↦ done (transcript ended (requestOf triple principal resource context) 0 [] [] [])
+          | some entry ↦
+              loadBegun (requestOf triple principal resource context) (entry .nodes) then
+              (λ load. done (transcript (turnFor load) (requestOf triple principal resource context) (entry .first) (entry .nodes) [] []))
+        ])
+        ≡ begunBy triple principal resource context state o
+    go none = refl
+    go (some entry) = begun (entry .first) (entry .nodes) (loadBegun (requestOf triple principal resource context) (entry .nodes))
+
 -- begin, by its tests
 module _ (lent : List ℕ) (triple principal resource : ℕ) (context state : List ℕ) where
   pub begin-short :
@@ -148,7 +185,7 @@ module _ (lent : List ℕ) (triple principal resource : ℕ) (context state : Li
         → beginIn lent triple principal resource context state
         ≡ begunBy triple principal resource (wordsIn context) state (entryFor triple 0 (rowsIn lent))
     unfolding beginIn
-    begin-lawful e = rw (long, e)
+    begin-lawful e = rw (long, e) (begun-load (rowsIn lent) triple principal resource (wordsIn context) state)
 
 -- what lawful parts say
 pub context-few : (context : List ℕ) → lawfulContext context ≡ true → getD context 0 0 < 8193

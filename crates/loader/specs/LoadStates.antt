@@ -11,7 +11,7 @@ use Rattle.rules.specs.Tries.{Row, ids, manifest}
 use Rattle.rules.specs.Listing.{read}
 use Rattle.rules.specs.ValueRowTests.{attributesFrom, lawfulValueRows}
 use Rattle.rules.specs.Loading.{LoadAnswer, done, refusedAt, counted, Request, Load, loadBegun}
-use Rattle.rules.specs.LoadCalls.{Entry, entryFor, Turn, batchWaits, answersAwaited, ancestorsToAsk, ancestorsAwaited, ended, turnFor}
+use Rattle.rules.specs.LoadCalls.{Entry, Transcript, beginLoad, Turn, batchWaits, answersAwaited, ancestorsToAsk, ancestorsAwaited, ended, turnFor}
 use Rattle.words.specs.Runs.{wordsIn}
 use Rattle.rows.specs.Words.{stepIn, wordOf}
 use Rattle.rows.specs.States.{lawfulState, lawfulEntry, rowsIn}
@@ -82,7 +82,7 @@ begunState state turn triple principal resource first entry context =
     9 entry)
     4106 context
 
--- begin: where there is no entry the load has ended
+-- the same by the entry, as the code goes
 module _ (triple principal resource : ℕ) (context state : List ℕ) where
   abbrev pub begunWith : ℕ → List Row → LoadAnswer Load → LoadOutcome
   begunWith first nodes (done load) =
@@ -97,12 +97,34 @@ module _ (triple principal resource : ℕ) (context state : List ℕ) where
   begunBy none = record { reply = Done 0 0 0; state = begunState state 5 triple principal resource 0 [] context }
   begunBy (some entry) = begunWith (entry .first) (entry .nodes) (loadBegun (requestOf triple principal resource context) (entry .nodes))
 
+-- what begin stores of the transcript that it comes to (LoadCalls): no entry's rows where the load has ended at once
+abbrev pub entryRows : Transcript → List ℕ
+entryRows t =
+    elim (t .turn) [
+      | batchWaits ↦ entryWords (t .request .type) (t .nodes)
+      | answersAwaited ↦ entryWords (t .request .type) (t .nodes)
+      | ancestorsToAsk ↦ entryWords (t .request .type) (t .nodes)
+      | ancestorsAwaited ↦ entryWords (t .request .type) (t .nodes)
+      | ended ↦ []
+    ]
+
+abbrev pub storingLoad : List ℕ → List ℕ → LoadAnswer Transcript → LoadOutcome
+storingLoad context state (done t) =
+    record {
+      reply = Done (length (t .nodes)) 0 0;
+      state =
+          begunState state (turnNumber (t .turn)) (t .request .type) (t .request .principal) (t .request .resource) (t .first) (entryRows t)
+          context;
+    }
+storingLoad context state (refusedAt number place) = refusingCall number place state
+storingLoad context state (counted expected got) = refusingCall 12 0 state
+
 -- 31, then 1 at 0 for the manifest, the request or the context, then 14
 unfoldable pub beginIn : List ℕ → ℕ → ℕ → ℕ → List ℕ → List ℕ → LoadOutcome
 beginIn lent triple principal resource context state =
     cond (leb manifestWords (length lent) && (leb contextWords (length context) && leb loadWords (length state)))
     (cond (lawfulState manifest lent && (isRequest triple principal resource && lawfulContext context))
-    (begunBy triple principal resource (wordsIn context) state (entryFor triple 0 (rowsIn lent)))
+    (storingLoad (wordsIn context) state (beginLoad (rowsIn lent) (requestOf triple principal resource (wordsIn context))))
     (refusingCall 1 0 state))
     (refusingCall 31 0 state)
 

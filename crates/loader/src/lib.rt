@@ -22,8 +22,15 @@ impl LoadState {
 
     pub const CONTEXT_WORDS: usize = 8_193;
 
-    // Where the entry and the context stand.
+    // Where the entry, the context, the answers and the sets of ancestor ids stand.
     pub const ENTRY: usize = 9;
 
     pub const CONTEXT: usize = 4_106;
+
+    pub const ANSWERS: usize = 12_298;
+
+    pub const SETS: usize = 24_586;
+
+    // An entry's own row and its nodes.
+    pub const ENTRY_ROWS: u64 = 4_097;
 }

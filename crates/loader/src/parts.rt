@@ -7,8 +7,10 @@ use crate::LoadState;
 use crate::begin::is_request;
 use answers::Checked;
 use answers::Lending;
+use rows::Kind;
 use rows::Row;
 use rows::is_lawful_entry;
+use values::ValueRow;
 use values::is_lawful;
 
 // Whether a turn and a request's numbers stand in front.
@@ -36,7 +38,7 @@ fn has_good_entry(state: &[u64]) -> bool
     if count == 0 {
         return first == 0;
     }
-    if 4_097 < count {
+    if LoadState::ENTRY_ROWS < count {
         return false;
     }
     let end = LoadState::ENTRY + count as usize;
@@ -47,7 +49,7 @@ fn has_good_entry(state: &[u64]) -> bool
     if own.step() != state[1] {
         return false;
     }
-    if 4_096 < first {
+    if Kind::NODES < first {
         return false;
     }
     first + count < 4_098
@@ -59,7 +61,7 @@ fn has_good_context(state: &[u64], levels: &mut [u64]) -> bool
     ensures { λ r. ⌜ r ≡ goodContext (now (state .entry)) ⌝ }
 {
     let count = state[6];
-    if 8_192 < count {
+    if ValueRow::VALUES < count {
         return false;
     }
     let end = LoadState::CONTEXT + count as usize;
@@ -71,7 +73,7 @@ fn has_good_lent(lent: Lending, count: u64, words: &[u64], levels: &mut [u64]) -
     requires { ⌜ length (now words) ≤ length (now levels) ⌝ }
     ensures { λ r. ⌜ r ≡ goodLent lent count (now (words .entry)) ⌝ }
 {
-    if 4_096 < count {
+    if Kind::NODES < count {
         return false;
     }
     if let Checked::AllFine(_) = answers::check(lent, words, count, levels) {
@@ -94,8 +96,8 @@ pub fn has_good_parts(state: &[u64], levels: &mut [u64]) -> bool
     if !has_good_context(state, levels) {
         return false;
     }
-    if !has_good_lent(Lending::Answers, state[7], &state[12_298..24_586], levels) {
+    if !has_good_lent(Lending::Answers, state[7], &state[LoadState::ANSWERS..LoadState::SETS], levels) {
         return false;
     }
-    has_good_lent(Lending::Sets, state[8], &state[24_586..36_874], levels)
+    has_good_lent(Lending::Sets, state[8], &state[LoadState::SETS..LoadState::WORDS], levels)
 }

@@ -87,7 +87,7 @@ pub fn work_out(state: &[u64], rows: &mut [u64], places: &mut [u64], scratch: &m
         &state[from..end],
         request,
         &state[LoadState::CONTEXT..last],
-        &state[12_298..24_586],
+        &state[LoadState::ANSWERS..LoadState::SETS],
         state[7],
         rows,
         places,
