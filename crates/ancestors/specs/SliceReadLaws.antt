@@ -11,7 +11,8 @@ use Rattle.rules.specs.ValueRowTestLaws.{read-run}
 use Rattle.rules.specs.Loading.{Loaded}
 use Rattle.values.specs.ValueWords.{valueRowsOf}
 use Rattle.slices.specs.Slices.{rowWords, headWord, sliceWords, FitsHead}
-use Rattle.ancestors.specs.SliceWords.{idIn, parentsIn, rowsIn, entityOf, sliceOf, sliceIn}
+use Rattle.answers.specs.Answers.{headIn, entityIn}
+use Rattle.ancestors.specs.SliceWords.{sliceOf, sliceIn}
 
 -- an entity whose head and rows are read back from their words
 abbrev pub Readable : Loaded → Type 0
@@ -27,16 +28,16 @@ module _ (l : Loaded) (readable : Readable l) (rest : List ℕ) where
   abbrev head : ℕ
   head = headWord (l .id) (length parents) (length rows)
 
-  head-id : idIn head ≡ l .id
+  head-id : headIn head .flag ≡ l .id
   head-id = let small = readable .0 .0 in let few = readable .0 .1 in omega arith
 
-  head-parents : parentsIn head ≡ length parents
+  head-parents : headIn head .parents ≡ length parents
   head-parents = let small = readable .0 .0 in let few = readable .0 .1 in omega arith
 
-  head-rows : rowsIn head ≡ length rows
+  head-rows : headIn head .rows ≡ length rows
   head-rows = let small = readable .0 .0 in let few = readable .0 .1 in omega arith
 
-  entity-again : entityOf head (parents ++ (rows ++ rest)) ≡ l .value
+  entity-again : entityIn (headIn head) (parents ++ (rows ++ rest)) ≡ l .value
   entity-again =
       rw (
         head-parents,
@@ -48,7 +49,7 @@ module _ (l : Loaded) (readable : Readable l) (rest : List ℕ) where
         read-run 1 (l .value .attributes),
       )
 
-  behind-it : drop (parentsIn head + rowsIn head) (parents ++ (rows ++ rest)) ≡ rest
+  behind-it : drop (headIn head .parents + headIn head .rows) (parents ++ (rows ++ rest)) ≡ rest
   behind-it = rw (head-parents, head-rows, drop-append-add parents (rows ++ rest) (length rows)) (drop-append-seam rows rest)
 
 slice-of : (most : ℕ) (slice : List Loaded) → Each Readable slice → length (sliceWords slice) ≤ most → sliceOf most (sliceWords slice) ≡ slice

@@ -12,7 +12,8 @@ use borrow.Author.Tests.{eq-eqb, ne-eqb}
 use Rattle.rules.specs.Facts.{capped, capped-min, compared}
 use Rattle.rules.specs.Values.{Entity}
 use Rattle.rules.specs.Loading.{loadedAs}
-use Rattle.ancestors.specs.SliceWords.{idIn, parentsIn, rowsIn, entityOf, sliceOf, sliceIn, FoundIn}
+use Rattle.answers.specs.Answers.{headIn, entityIn}
+use Rattle.ancestors.specs.SliceWords.{sliceOf, sliceIn, FoundIn}
 use Rattle.ancestors.specs.declared.slice.Found.the-variants.{Rows, Nothing}
 
 -- what is behind the end is nothing, from wherever it is looked at
@@ -42,43 +43,43 @@ module _ {words : List ℕ} {id at : ℕ} (passing : Passing words id at) where
       go (suc most) = tt
 
   module _ (more : at < length words) (start end : ℕ)
-      (is-start : start ≡ capped (length words) (at + 1 + parentsIn (getD words at 0)))
-      (is-end : end ≡ capped (length words) (start + rowsIn (getD words at 0))) where
+      (is-start : start ≡ capped (length words) (at + 1 + headIn (getD words at 0) .parents))
+      (is-end : end ≡ capped (length words) (start + headIn (getD words at 0) .rows)) where
     -- the place after it
     pub past-entity : (at < end) × (end ≤ length words) × (start ≤ end)
     past-entity =
-        let first = capped-min (length words) (at + 1 + parentsIn (getD words at 0)) in
-        let second = capped-min (length words) (start + rowsIn (getD words at 0)) in
+        let first = capped-min (length words) (at + 1 + headIn (getD words at 0) .parents) in
+        let second = capped-min (length words) (start + headIn (getD words at 0) .rows) in
         (omega arith, omega arith, omega arith)
 
     -- its rows, and what is behind them
-    starts : drop (parentsIn (getD words at 0)) (drop (suc at) words) ≡ drop start words
+    starts : drop (headIn (getD words at 0) .parents) (drop (suc at) words) ≡ drop start words
     starts =
-        let place : suc at + parentsIn (getD words at 0) ≡ at + 1 + parentsIn (getD words at 0) = omega arith in
-        drop-drop (parentsIn (getD words at 0)) (suc at) words ∙ rw (place, is-start) (drop-capped words _)
+        let place : suc at + headIn (getD words at 0) .parents ≡ at + 1 + headIn (getD words at 0) .parents = omega arith in
+        drop-drop (headIn (getD words at 0) .parents) (suc at) words ∙ rw (place, is-start) (drop-capped words _)
 
-    rows-there : take (rowsIn (getD words at 0)) (drop start words) ≡ take (end - start) (drop start words)
+    rows-there : take (headIn (getD words at 0) .rows) (drop start words) ≡ take (end - start) (drop start words)
     rows-there =
-        let second = capped-min (length words) (start + rowsIn (getD words at 0)) in
-        compared (start + rowsIn (getD words at 0)) (length words)
-        (λ h. let e : end - start ≡ rowsIn (getD words at 0) = omega arith in rw e)
+        let second = capped-min (length words) (start + headIn (getD words at 0) .rows) in
+        compared (start + headIn (getD words at 0) .rows) (length words)
+        (λ h. let e : end - start ≡ headIn (getD words at 0) .rows = omega arith in rw e)
         (λ h.
         let (_, _, ordered) = past-entity in
         let left = length-drop start words in
-        take-all (rowsIn (getD words at 0)) (drop start words) (omega arith)
+        take-all (headIn (getD words at 0) .rows) (drop start words) (omega arith)
         ∙ sym (take-all (end - start) (drop start words) (omega arith)))
 
-    behind : drop (parentsIn (getD words at 0) + rowsIn (getD words at 0)) (drop (suc at) words) ≡ drop end words
+    behind : drop (headIn (getD words at 0) .parents + headIn (getD words at 0) .rows) (drop (suc at) words) ≡ drop end words
     behind =
-        sym (drop-drop (rowsIn (getD words at 0)) (parentsIn (getD words at 0)) (drop (suc at) words))
-        ∙ ap (drop (rowsIn (getD words at 0))) starts
-        ∙ drop-drop (rowsIn (getD words at 0)) start words
-        ∙ rw is-end (drop-capped words (start + rowsIn (getD words at 0)))
+        sym (drop-drop (headIn (getD words at 0) .rows) (headIn (getD words at 0) .parents) (drop (suc at) words))
+        ∙ ap (drop (headIn (getD words at 0) .rows)) starts
+        ∙ drop-drop (headIn (getD words at 0) .rows) start words
+        ∙ rw is-end (drop-capped words (start + headIn (getD words at 0) .rows))
 
     -- the entities from here on
     abbrev fromHere : ℕ → Option Entity
     fromHere most =
-        cond (eqb (idIn (getD words at 0)) id) (some (entityOf (getD words at 0) (drop (suc at) words)))
+        cond (eqb (headIn (getD words at 0) .flag) id) (some (entityIn (headIn (getD words at 0)) (drop (suc at) words)))
         (loadedAs id (sliceOf most (drop end words)))
 
     here : (most : ℕ) → loadedAs id (sliceOf (suc most) (drop at words)) ≡ fromHere most
@@ -97,15 +98,15 @@ module _ {words : List ℕ} {id at : ℕ} (passing : Passing words id at) where
         go (suc most) enough e = let (after, _, _) = past-entity in (most, omega arith, e ∙ here most)
 
     -- it is the one
-    pub found-here : idIn (getD words at 0) ≡ id → FoundIn words (loadedAs id (sliceIn words)) (Rows start end)
+    pub found-here : headIn (getD words at 0) .flag ≡ id → FoundIn words (loadedAs id (sliceIn words)) (Rows start end)
     found-here e =
         let (most, enough, sofar) = one-more in
         let (after, inside, ordered) = past-entity in
-        rw (sofar, eq-eqb (idIn (getD words at 0)) id e)
+        rw (sofar, eq-eqb (headIn (getD words at 0) .flag) id e)
         (record { ordered = ordered; inside = inside; reads = rw (starts, rows-there) })
 
     -- it is another
-    pub passing-next : (idIn (getD words at 0) ≡ id → ⊥) → Passing words id end
+    pub passing-next : (headIn (getD words at 0) .flag ≡ id → ⊥) → Passing words id end
     passing-next other =
         let (most, enough, sofar) = one-more in
-        record { most = most; enough = enough; sofar = sofar ∙ rw (ne-eqb (idIn (getD words at 0)) id other) }
+        record { most = most; enough = enough; sofar = sofar ∙ rw (ne-eqb (headIn (getD words at 0) .flag) id other) }

@@ -1,5 +1,6 @@
--- A slice in words: one entity after the other, its head, `entity + 2^16 × parents + 2^32 × rows`, its parents and its attributes' rows.
-use Prim.Native.Nat.{ℕ, zero, suc, _+_, _-_, _/_, _%_, _^_, _≤_}
+-- A slice in words: one entity after the other, its head, `entity + 2^16 × parents + 2^32 × rows`, its parents and its attributes' rows. A head
+-- is that of an answer, with the entity in the place of the flag.
+use Prim.Native.Nat.{ℕ, zero, suc, _+_, _-_, _≤_}
 use mathlib.Core.Path.{_≡_}
 use mathlib.Core.List.{List, [], _∷_}
 use mathlib.Core.Option.{Option, none, some}
@@ -8,31 +9,16 @@ use Rattle.rules.specs.Values.{Entity}
 use Rattle.rules.specs.ValueRowTests.{attributesFrom}
 use Rattle.rules.specs.Loading.{Loaded, loaded}
 use Rattle.values.specs.ValueWords.{valueRowsOf}
+use Rattle.answers.specs.Answers.{headIn, entityIn}
 use Rattle.ancestors.specs.declared.slice.Found.{Found}
 use Rattle.ancestors.specs.declared.slice.Found.the-variants.{Rows, Nothing}
-
--- the parts of a head
-abbrev pub idIn : ℕ → ℕ
-idIn head = head % 2 ^ 16
-
-abbrev pub parentsIn : ℕ → ℕ
-parentsIn head = head / 2 ^ 16 % 2 ^ 16
-
-abbrev pub rowsIn : ℕ → ℕ
-rowsIn head = head / 2 ^ 32
-
--- the entity of a head and the words behind it
-abbrev pub entityOf : ℕ → List ℕ → Entity
-entityOf head words = record {
-  parents = take (parentsIn head) words;
-  attributes = attributesFrom 1 (valueRowsOf (take (rowsIn head) (drop (parentsIn head) words)));
-}
 
 -- the entities of words, at most so many
 unfoldable pub sliceOf : ℕ → List ℕ → List Loaded
 sliceOf zero words = []
 sliceOf (suc most) [] = []
-sliceOf (suc most) (head ∷ words) = loaded (idIn head) (entityOf head words) ∷ sliceOf most (drop (parentsIn head + rowsIn head) words)
+sliceOf (suc most) (head ∷ words) =
+    loaded (headIn head .flag) (entityIn (headIn head) words) ∷ sliceOf most (drop (headIn head .parents + headIn head .rows) words)
 
 abbrev pub sliceIn : List ℕ → List Loaded
 sliceIn words = sliceOf (length words) words

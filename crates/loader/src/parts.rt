@@ -96,8 +96,18 @@ pub fn has_good_parts(state: &[u64], levels: &mut [u64]) -> bool
     if !has_good_context(state, levels) {
         return false;
     }
-    if !has_good_lent(Lending::Answers, state[7], &state[LoadState::ANSWERS..LoadState::SETS], levels) {
+    if !has_good_lent(
+        Lending::Answers,
+        state[7],
+        &state[LoadState::ANSWERS..LoadState::SETS],
+        levels,
+    ) {
         return false;
     }
-    has_good_lent(Lending::Sets, state[8], &state[LoadState::SETS..LoadState::WORDS], levels)
+    has_good_lent(
+        Lending::Sets,
+        state[8],
+        &state[LoadState::SETS..LoadState::WORDS],
+        levels,
+    )
 }
