@@ -787,21 +787,37 @@ module _ (nodes : List Row) (request : Request) (depth : ℕ) where
       → EachOf (Within nodes node (node + rowsBelow depth rows)) (foundIn (atRoots request depth node rows))
   roots-within node rows e = each-map (λ n h. under-within h) (roots-under node rows e)
 
-  -- none lies below another root
+  -- Rows deeper than a root are passed over: none of them is a root.
+  deeper-fails : (row : Row) → suc depth < row .depth → (leb (row .depth) depth ≡ false) × (eqb (row .depth) (suc depth) ≡ false)
+  deeper-fails row deep = (lt-leb (row .depth) depth (omega arith), ne-eqb (row .depth) (suc depth) (λ p. omega arith))
+
+  -- So what a search for roots finds, from the first row below a root on, lies beyond that root's subtree.
+  beyond-root :
+      (found : ℕ → List Row → List ℕ)
+      → ((node : ℕ) (row : Row) (rows : List Row) → suc depth < row .depth → found node (row ∷ rows) ≡ found (suc node) rows)
+      → ((node : ℕ) (rows : List Row) → drop node nodes ≡ rows → EachOf (Within nodes node (node + rowsBelow depth rows)) (found node rows))
+      → (node : ℕ) (rows : List Row)
+      → drop node nodes ≡ rows
+      → EachOf (λ n. node + rowsBelow (suc depth) rows ≤ n) (found node rows)
+  unfolding rowsBelow
+  beyond-root found over within node [] e = each-map (λ n h. omega (arith, h .low)) (within node [] e)
+  beyond-root found over within node (row ∷ rows) e =
+      by-test (leb (row .depth) (suc depth))
+      (λ t. rw t (each-map (λ n h. omega (arith, h .low)) (within node (row ∷ rows) e)))
+      (λ t.
+      rw (t, over node row rows (leb-false (row .depth) (suc depth) t))
+      (each-map (λ n h. omega arith) (beyond-root found over within (suc node) rows (drop-next nodes node e))))
+
   roots-beyond :
       (node : ℕ) (rows : List Row)
       → drop node nodes ≡ rows
       → EachOf (λ n. node + rowsBelow (suc depth) rows ≤ n) (foundIn (atRoots request depth node rows))
-  unfolding atRoots rowsBelow foundIn isEntity
-  roots-beyond node [] e = none-left
-  roots-beyond node (row ∷ rows) e =
-      by-test (leb (row .depth) (suc depth))
-      (λ t. rw t (each-map (λ n h. omega (arith, h .low)) (roots-within node (row ∷ rows) e)))
-      (λ t.
-      let deep : suc depth < row .depth = leb-false (row .depth) (suc depth) t in
-      let under : leb (row .depth) depth ≡ false = lt-leb (row .depth) depth (omega arith) in
-      let other : eqb (row .depth) (suc depth) ≡ false = ne-eqb (row .depth) (suc depth) (λ p. omega arith) in
-      rw (t, under, other) (each-map (λ n h. omega arith) (roots-beyond (suc node) rows (drop-next nodes node e))))
+  unfolding atRoots isEntity
+  roots-beyond =
+      beyond-root
+      (λ node rows. foundIn (atRoots request depth node rows))
+      (λ node row rows deep. rw (deeper-fails row deep .0, deeper-fails row deep .1))
+      roots-within
 
   roots-ahead :
       (node : ℕ) (rows : List Row)
@@ -871,16 +887,12 @@ module _ (nodes : List Row) (request : Request) (depth : ℕ) where
       (node : ℕ) (rows : List Row)
       → drop node nodes ≡ rows
       → EachOf (λ n. node + rowsBelow (suc depth) rows ≤ n) (contextVisits request depth node rows)
-  unfolding contextVisits rowsBelow startsContext
-  context-beyond node [] e = none-left
-  context-beyond node (row ∷ rows) e =
-      by-test (leb (row .depth) (suc depth))
-      (λ t. rw t (each-map (λ n h. omega (arith, h .low)) (context-within node (row ∷ rows) e)))
-      (λ t.
-      let deep : suc depth < row .depth = leb-false (row .depth) (suc depth) t in
-      let under : leb (row .depth) depth ≡ false = lt-leb (row .depth) depth (omega arith) in
-      let other : eqb (row .depth) (suc depth) ≡ false = ne-eqb (row .depth) (suc depth) (λ p. omega arith) in
-      rw (t, under, other) (each-map (λ n h. omega arith) (context-beyond (suc node) rows (drop-next nodes node e))))
+  unfolding contextVisits startsContext
+  context-beyond =
+      beyond-root
+      (contextVisits request depth)
+      (λ node row rows deep. rw (deeper-fails row deep .0, deeper-fails row deep .1))
+      context-within
 
   context-ahead :
       (node : ℕ) (rows : List Row)
