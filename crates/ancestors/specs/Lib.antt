@@ -9,4 +9,5 @@ pub mod RowLaws
 pub mod RoundLaws
 pub mod Requests
 pub mod RequestLaws
+pub mod RoomLaws
 pub mod SliceReadLaws

@@ -127,13 +127,14 @@ module _ (nodes : List Row) (slice : List Loaded) where
 
 -- ---- round after round
 
-module _ (nodes : List ℕ) (slice : List Loaded) where
-  -- where no row waits, no round changes anything
-  none-wait : (left place : ℕ) (found : List ℕ) → takeBatches left (rowsOf nodes) slice place (record { ids = found; next = [] }) ≡ done found
-  unfolding takeBatches takeRows
-  none-wait zero place found = refl
-  none-wait (suc left) place found = none-wait left place found
+-- where no row waits, no round changes anything
+pub none-wait : (nodes : List Row) (slice : List Loaded) (left place : ℕ) (found : List ℕ) →
+    takeBatches left nodes slice place (record { ids = found; next = [] }) ≡ done found
+unfolding takeBatches takeRows
+none-wait nodes slice zero place found = refl
+none-wait nodes slice (suc left) place found = none-wait nodes slice left place found
 
+module _ (nodes : List ℕ) (slice : List Loaded) where
   -- Some rounds are over: those that are left say what the whole comes to, and the rows that wait are few.
   pub record Rounds (set₀ : AncestorSet) (rows₀ : List ℕ) (count : ℕ) (found₀ rows found : List ℕ) (set : AncestorSet) (len left : ℕ) : Type 0 where
     pub is-set : IsSet set
@@ -160,7 +161,7 @@ module _ (nodes : List ℕ) (slice : List Loaded) where
 
     -- no row waits
     pub rounds-ended : len ≡ 0 → Asks allRounds (record { set = more; next = To 0 })
-    rounds-ended e = record { asks = λ place. rounds .sofar place ∙ rw e (none-wait left place (idsOf more)); is-set = rounds .is-set }
+    rounds-ended e = record { asks = λ place. rounds .sofar place ∙ rw e (none-wait (rowsOf nodes) slice left place (idsOf more)); is-set = rounds .is-set }
 
     -- what the rows that wait find
     finds : Waits (rowsOf nodes) (rowFinds (rowsOf nodes) slice (rowsAsked (take len rows)))
