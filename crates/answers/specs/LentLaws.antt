@@ -59,6 +59,18 @@ module _ {A : Type 0} (one : List ℕ → Option (ReadItem A)) where
       let parts = split place count words e in
       ap (λ (r : ReadItem (List A)). length (r .item)) (sym (parts .whole)) ∙ ap suc (all-counted (place + 1) count _ (parts .fine))
 
+  -- the place is told of a refusal only
+  pub any-place :
+      (place other count : ℕ) (words : List ℕ) {all : ReadItem (List A)}
+      → readFrom one place count words ≡ accepted all
+      → readFrom one other count words ≡ accepted all
+  unfolding readFrom
+  any-place place other zero words e = e
+  any-place place other (suc count) words e =
+      let parts = split place count words e in
+      reads-next one other count words (parts .stands)
+      ∙ rw (any-place (place + 1) (other + 1) count (drop (parts .next .size) words) (parts .fine), parts .whole)
+
   -- one that is not of its form is refused with 1
   pub wrong-read : (place count : ℕ) (words : List ℕ) {at : ℕ} → checkedAs (readFrom one place count words) ≡ WrongAt at → readFrom one place count words ≡ refused 1 at
   unfolding readFrom

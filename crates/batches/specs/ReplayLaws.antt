@@ -424,7 +424,7 @@ module _
               going = going;
             }
 
-trips-some : (waiting : List EntityRequest) → 0 < length waiting → tripsFor waiting ≡ 1
+pub trips-some : (waiting : List EntityRequest) → 0 < length waiting → tripsFor waiting ≡ 1
 trips-some [] h = absurd (omega arith)
 trips-some (row ∷ waiting) h = refl
 

@@ -1,2 +1,6 @@
-pub mod Entries
-pub mod EntryLaws
+pub mod LoadStates
+pub mod Transcripts
+pub mod WorkedLaws
+pub mod TurnLaws
+pub mod Outcomes
+pub mod CameLaws

@@ -1,4 +1,4 @@
-pub mod LoadStates
-pub mod LoadStateLaws
-pub mod Transcripts
-pub mod WorkedLaws
+pub mod Calls
+pub mod BatchLaws
+pub mod AnswerLaws
+pub mod LentAnswerLaws

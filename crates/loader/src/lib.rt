@@ -1,36 +1,6 @@
-// The calls of a load on its transcript (docs/FORMS.md, 'Load state').
-mod begin;
-mod parts;
-mod working;
+// The calls of a load that go back and forth: batch and answer (docs/FORMS.md, 'Load state').
+mod answer;
+mod batch;
 
-pub use begin::load_begin;
-pub use working::Worked;
-pub use working::work_out;
-
-// What a call of a load answers: done, with its own count and the batches and rows asked so far; or refused with a number and a place.
-pub enum LoadReply {
-    Done(u64, u64, u64),
-    Refused(u64, u64),
-}
-
-// The parts of a load's state.
-pub struct LoadState {}
-
-impl LoadState {
-    // The one length of a state, and of a context.
-    pub const WORDS: usize = 36_874;
-
-    pub const CONTEXT_WORDS: usize = 8_193;
-
-    // Where the entry, the context, the answers and the sets of ancestor ids stand.
-    pub const ENTRY: usize = 9;
-
-    pub const CONTEXT: usize = 4_106;
-
-    pub const ANSWERS: usize = 12_298;
-
-    pub const SETS: usize = 24_586;
-
-    // An entry's own row and its nodes.
-    pub const ENTRY_ROWS: u64 = 4_097;
-}
+pub use answer::load_answer;
+pub use batch::load_batch;

@@ -154,7 +154,7 @@ no-ancestors [] slice = refl
 no-ancestors (row ∷ rows) slice = refl
 
 -- what holds of each entity that is loaded holds of the entities of an ascending slice
-each-loaded :
+pub each-loaded :
     (P : Loaded → Type 0) (least : ℕ) (slice : List Loaded)
     → SliceFrom least slice
     → ((e : ℕ) (value : Entity) → loadedAs e slice ≡ some value → P (loaded e value))

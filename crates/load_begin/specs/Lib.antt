@@ -1,0 +1,4 @@
+pub mod Begins
+pub mod BeginLaws
+pub mod Entries
+pub mod EntryLaws

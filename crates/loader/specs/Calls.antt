@@ -1,0 +1,96 @@
+-- What batch and answer answer and leave, in words.
+use Prim.Native.Nat.{ℕ, _+_}
+use mathlib.Core.Bool.{cond, _&&_}
+use mathlib.Core.List.{List, [], _∷_, map}
+use lib.Dec.{leb, eqb}
+use lib.ListN.{length, take, getD}
+use lib.Seq.{sets}
+use Rattle.rules.specs.Loading.{LoadAnswer, done, refusedAt, counted, _then_, EntityRequest, Load}
+use Rattle.rules.specs.LoadCalls.{turnFor, Called, outOfTurn, handBatch, takeBatch}
+use Rattle.row_walk.specs.Batches.{requestWord}
+use Rattle.answers.specs.declared.Lending.the-variants.{Answers}
+use Rattle.load_state.specs.LoadStates.{loadWords, turnNumber, answerWords}
+use Rattle.load_state.specs.Transcripts.{transcriptIn, lentLoad}
+use Rattle.load_state.specs.Outcomes.{
+  LoadOutcome,
+  refusingCall,
+  countingCall,
+  HandedOut,
+  refusingOut,
+  countingOut,
+  lentWords,
+  behindCount,
+  givenIn,
+  wordsOf,
+}
+use Rattle.load_state.specs.declared.LoadReply.the-variants.{Done}
+
+-- ---- batch
+
+-- the one length of 'batch rows out'
+abbrev pub batchWords : ℕ
+batchWords = 4096
+
+-- a row with its node's number among all nodes of the manifest
+abbrev pub numbered : ℕ → EntityRequest → EntityRequest
+numbered first row = record { id = row .id; node = first + row .node }
+
+module _ (state out : List ℕ) where
+  abbrev pub handingBatch : LoadAnswer (Called (List EntityRequest)) → HandedOut
+  handingBatch (done called) =
+      record {
+        reply = Done (length (called .out)) (called .counts .batches) (called .counts .rows);
+        state = sets state 0 (turnNumber (called .left .turn) ∷ []);
+        out = sets out 0 (map (λ row. requestWord (numbered (called .left .first) row)) (called .out));
+      }
+  handingBatch (refusedAt number place) = refusingOut number place state out
+  handingBatch (counted expected got) = countingOut expected got state out
+
+  -- 31, 1, 16
+  unfoldable pub batchIn : HandedOut
+  batchIn =
+      cond (leb loadWords (length state) && leb batchWords (length out))
+      (handingBatch (lentLoad state then handBatch (transcriptIn state)))
+      (refusingOut 31 0 state out)
+
+-- ---- answer
+
+-- answers that are taken are stored behind those before them, as they were lent; with these, there are so many
+abbrev pub takenInto : List ℕ → List ℕ → ℕ → ℕ → LoadAnswer Load → LoadOutcome
+takenInto state fresh count used (done next) =
+    record {
+      reply = Done (length (next .waiting)) (next .batches) (next .rows);
+      buffer = sets (sets (sets state 0 (turnNumber (turnFor next) ∷ [])) 7 (count ∷ [])) (12298 + used) fresh;
+    }
+takenInto state fresh count used (refusedAt number place) = refusingCall number place state
+takenInto state fresh count used (counted expected got) = countingCall expected got state
+
+abbrev pub takenFrom : List ℕ → List ℕ → LoadAnswer Load → LoadOutcome
+takenFrom state lent =
+    takenInto state
+    (take (wordsOf Answers (getD lent 0 0) (behindCount lent)) (behindCount lent))
+    (getD state 7 0 + getD lent 0 0)
+    (wordsOf Answers (getD state 7 0) (answerWords state))
+
+module _ (state lent : List ℕ) where
+  abbrev pub storingAnswers : LoadAnswer (Called (List EntityRequest)) → LoadOutcome
+  storingAnswers (done called) =
+      record {
+        reply = Done (length (called .out)) (called .counts .batches) (called .counts .rows);
+        buffer =
+            sets
+            (sets (sets state 0 (turnNumber (called .left .turn) ∷ [])) 7 (length (called .left .answers) ∷ []))
+            (12298 + wordsOf Answers (getD state 7 0) (answerWords state))
+            (take (wordsOf Answers (getD lent 0 0) (behindCount lent)) (behindCount lent));
+      }
+  storingAnswers (refusedAt number place) = refusingCall number place state
+  storingAnswers (counted expected got) = countingCall expected got state
+
+  -- 31, 1, 16, 1 by row, 12, 15, then by row 14, 13
+  unfoldable pub answerIn : LoadOutcome
+  answerIn =
+      cond (leb loadWords (length state) && leb lentWords (length lent))
+      (storingAnswers
+      (lentLoad state then
+      (λ load. cond (eqb (getD state 0 0) 2) (givenIn Answers lent then takeBatch (transcriptIn state) load) outOfTurn)))
+      (refusingCall 31 0 state)
