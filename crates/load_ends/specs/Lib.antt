@@ -1,0 +1,8 @@
+pub mod Ends
+pub mod SetLaws
+pub mod AnswerCallLaws
+pub mod LoadedLaws
+pub mod SliceFitLaws
+pub mod ResultLaws
+pub mod ReadableLaws
+pub mod RequestCallLaws
