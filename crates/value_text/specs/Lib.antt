@@ -8,4 +8,3 @@ pub mod Outcomes
 pub mod ReadLaws
 pub mod Asking
 pub mod AskLaws
-pub mod Stores

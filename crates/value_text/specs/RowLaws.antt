@@ -121,7 +121,7 @@ some-beyond here x rows e =
     go [] e = absurd (true≢false e)
     go (y ∷ more) e = omega arith
 
-lesser-assoc : (a b c : Option ℕ) → lesser a (lesser b c) ≡ lesser (lesser a b) c
+pub lesser-assoc : (a b c : Option ℕ) → lesser a (lesser b c) ≡ lesser (lesser a b) c
 lesser-assoc none b c = refl
 lesser-assoc (some n) none c = refl
 lesser-assoc (some n) (some m) none = refl

@@ -3,10 +3,11 @@ mod line;
 mod reading;
 mod request;
 mod rows;
-mod store;
 
+pub use line::ParsedRow;
+pub use line::parse;
 pub use reading::read_value;
 pub use request::RequestReply;
 pub use request::read_request;
-pub use store::ParsedLine;
-pub use store::parse_line;
+pub use rows::first_misplaced;
+pub use rows::may_come;

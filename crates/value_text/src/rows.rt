@@ -19,7 +19,7 @@ pub enum TookRow {
 }
 
 // Whether a row may come at one of the open levels.
-fn may_come(row: ValueRow, levels: &[u64]) -> bool
+pub fn may_come(row: ValueRow, levels: &[u64]) -> bool
     ensures { λ r. ⌜ r ≡ mayCome (levelsIn (now (levels .entry))) (valueRowIn (row .word)) ⌝ }
 {
     let depth = row.depth();

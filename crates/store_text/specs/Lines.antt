@@ -1,12 +1,12 @@
--- What a line of a store is read as, for the contracts of `store`.
+-- What a line of a store is read as, for the contracts of `line`.
 use mathlib.Core.List.{List}
 use mathlib.Core.Option.{Option, none, some}
 use Prim.Native.Nat.{ℕ}
 use Rattle.rules.specs.Listing.{_>>=_}
 use Rattle.rules.specs.ValueTexts.{StoreLine, entityLine, parentLine, ancestorLine, attributeLine, valueRowOf}
 use Rattle.values.specs.ValueWords.{valueRowIn}
-use Rattle.value_text.specs.declared.store.ParsedLine.{ParsedLine}
-use Rattle.value_text.specs.declared.store.ParsedLine.the-variants.{Entity, Parent, Ancestor, Attribute, Bad}
+use Rattle.store_text.specs.declared.line.ParsedLine.{ParsedLine}
+use Rattle.store_text.specs.declared.line.ParsedLine.the-variants.{Entity, Parent, Ancestor, Attribute, Bad}
 
 -- what a line was read as
 abbrev pub lineRead : ParsedLine → Option StoreLine

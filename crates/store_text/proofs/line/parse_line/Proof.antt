@@ -1,4 +1,4 @@
--- `value_text::store::parse_line` meets its contract: a line of two fields is an id's, one of more a row's.
+-- `store_text::line::parse_line` meets its contract: a line of two fields is an id's, one of more a row's.
 -- Assumes nothing.
 use Prim.Native.Nat.{_+_, _-_}
 use native.Mathlib.Nat.{sub-zero}
@@ -13,8 +13,8 @@ use Rattle.rules.specs.ValueTexts.{storeLineOf}
 use Rattle.text.specs.Answers.{numberOf}
 use Rattle.text.proofs.FieldLaws.{Ends, field-ends, fields-last, fields-whole}
 use borrow.Author.Needs.{needs}
-use Rattle.value_text.proofs.store.parse_line.Statement.{statement}
-use Rattle.value_text.proofs.store.parse_line.Tie as tie
+use Rattle.store_text.proofs.line.parse_line.Statement.{statement}
+use Rattle.store_text.proofs.line.parse_line.Tie as tie
 
 -- where the first field ends
 word-ends : (c : tie.After-known-told) → Ends (c .before .before .before .before .before .args .line .now) 0 (c .before .end .given .0 .0)

@@ -2,11 +2,11 @@
 ghost use mathlib.Core.Path.{_≡_};
 ghost use Rattle.rules.specs.Text.{fieldsOf};
 ghost use Rattle.rules.specs.ValueTexts.{idLine, storeLineOf};
-ghost use Rattle.value_text.specs.Stores.{lineRead, rowLine};
-use crate::line::ParsedRow;
-use crate::line::parse;
+ghost use Rattle.store_text.specs.Lines.{lineRead, rowLine};
 use text::Decimal;
 use text::Field;
+use value_text::ParsedRow;
+use value_text::parse;
 use values::ValueRow;
 
 // What a line says, or that it is not of the stated form.

@@ -1,9 +1,9 @@
--- `value_text::store::row_line` meets its contract: the row that the line was read as. Assumes nothing.
+-- `store_text::line::row_line` meets its contract: the row that the line was read as. Assumes nothing.
 use mathlib.Core.Path.{sym, ap, _∙_}
 use Rattle.value_text.specs.Fields.{rowRead}
 use borrow.Author.Needs.{needs}
-use Rattle.value_text.proofs.store.row_line.Statement.{statement}
-use Rattle.value_text.proofs.store.row_line.Tie as tie
+use Rattle.store_text.proofs.line.row_line.Statement.{statement}
+use Rattle.store_text.proofs.line.row_line.Tie as tie
 
 parse-requires : tie.Need-parse-requires
 parse-requires c κs = search needs

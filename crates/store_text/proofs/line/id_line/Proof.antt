@@ -1,9 +1,9 @@
--- `value_text::store::id_line` meets its contract: the letters are tried in the order of `idLine`.
+-- `store_text::line::id_line` meets its contract: the letters are tried in the order of `idLine`.
 -- Assumes nothing.
 use mathlib.Core.Path.{sym, _∙_}
 use borrow.Author.Needs.{needs}
-use Rattle.value_text.proofs.store.id_line.Statement.{statement}
-use Rattle.value_text.proofs.store.id_line.Tie as tie
+use Rattle.store_text.proofs.line.id_line.Statement.{statement}
+use Rattle.store_text.proofs.line.id_line.Tie as tie
 
 is-letter-requires : tie.Need-is-letter-requires
 is-letter-requires c κs = search needs
