@@ -63,6 +63,7 @@ pub mod ValueRowTestExamples
 pub mod Trips
 pub mod TripLaws
 pub mod LoadLaws
+pub mod LoadTheorems
 pub mod LoadCalls
 pub mod LoadingExamples
 pub mod LoadCallExamples
