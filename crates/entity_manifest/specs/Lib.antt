@@ -1,2 +1,3 @@
 -- What the C names of the front answer.
 pub mod Numbers
+pub mod LoadNumbers

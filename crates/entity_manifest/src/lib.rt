@@ -1,6 +1,7 @@
 // The front: every operation that is public to users. None has a `requires`; each checks its own input, and its `ensures` fixes the reply
 // and the final content of every lent buffer.
 mod c;
+mod loads;
 
 ghost use mathlib.Core.Path.{_≡_};
 ghost use Rattle.union.specs.Unions.{unionOf};
@@ -11,6 +12,13 @@ ghost use Rattle.schema_text.specs.Outcomes.{readSchemaIn};
 ghost use Rattle.analysis.specs.Outcomes.{analyseIn, addPolicyIn};
 ghost use Rattle.type_annotations.specs.Outcomes.{typedIn};
 pub use listing::Written;
+pub use load_begin::load_begin;
+pub use load_ends::load_ancestors;
+pub use load_ends::load_ancestors_answer;
+pub use load_ends::load_result;
+pub use load_state::LoadReply;
+pub use loader::load_answer;
+pub use loader::load_batch;
 use manifest::EntityManifest;
 pub use rows::Held;
 pub use rows::Kind;
