@@ -108,6 +108,21 @@ fn build(to: To, line: &[u8], count: usize) -> u64 {
     policy_jobs::build_typed(to, line, count)
 }
 
+// `load MANIFEST REQUEST STORE...`
+fn load(to: To, line: &[u8], count: usize) -> u64 {
+    if count < 5 {
+        return misused(
+            to,
+            b"load takes a manifest, a request and a store or more",
+            b"",
+        );
+    }
+    if 4 + load_jobs::STORES < count {
+        return misused(to, b"load takes at most eight stores", b"");
+    }
+    load_jobs::load(to, line, count)
+}
+
 // The command that the first word names, with so many words.
 fn run_command(to: To, line: &[u8], count: usize, command: &[u8]) -> u64 {
     if check::same(command, b"list") {
@@ -136,6 +151,9 @@ fn run_command(to: To, line: &[u8], count: usize, command: &[u8]) -> u64 {
             return misused(to, b"merge takes a file or more", b"");
         }
         return listing_jobs::merge(to, line, count);
+    }
+    if check::same(command, b"load") {
+        return load(to, line, count);
     }
     misused(to, b"there is no command ", command)
 }

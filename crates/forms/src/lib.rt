@@ -16,6 +16,8 @@ pub enum Form {
     Steps,
     Policy,
     Schema,
+    Request,
+    Store,
 }
 
 // What no line of any text may have; answers whether that was it.
@@ -196,12 +198,99 @@ fn say_schema(err: i32, line: &[u8]) {
     say(err, b"expected a T, E, F, L or C line");
 }
 
+// A `V` line.
+fn say_value(err: i32, line: &[u8]) {
+    if !has_fields(line, 5) {
+        say(err, b"a V line has four fields: depth, key, kind, number");
+        return;
+    }
+    if !is_decimal(line, 1) || !is_decimal(line, 2) || !is_decimal(line, 4) {
+        say(
+            err,
+            b"depth, key and number are decimals from 0 to 65535, without 0 in front",
+        );
+        return;
+    }
+    say(
+        err,
+        b"a depth is 1, or at most one above that of a set or record before it; the fields of a record ascend strictly, the elements of a set have the keys 0, 1, 2 .. and ascend strictly; a kind is n x e s or r, and the number of s and r is 0",
+    );
+}
+
+// A line of a request.
+fn say_request(err: i32, line: &[u8], place: u64) {
+    if place != 0 {
+        if is_word(line, 0, b"V") {
+            say_value(err, line);
+            return;
+        }
+        say(err, b"expected a V line");
+        return;
+    }
+    if !is_word(line, 0, b"Q") {
+        say(err, b"expected a Q line");
+        return;
+    }
+    if !has_fields(line, 6) {
+        say(
+            err,
+            b"a Q line has five fields: principal type, action, resource type, principal, resource",
+        );
+        return;
+    }
+    say(
+        err,
+        b"an id is a decimal from 0 to 65535, without 0 in front",
+    );
+}
+
+// A line of a store.
+fn say_store(err: i32, line: &[u8], place: u64) {
+    if is_word(line, 0, b"E") {
+        say(err, b"an E line has an entity above the last one's");
+        return;
+    }
+    if place == 0 {
+        say(err, b"expected an E line");
+        return;
+    }
+    if is_word(line, 0, b"P") {
+        say(
+            err,
+            b"a P line has a parent above the last one's, in front of U and V lines",
+        );
+        return;
+    }
+    if is_word(line, 0, b"U") {
+        say(
+            err,
+            b"a U line has an ancestor above the last one's, in front of V lines",
+        );
+        return;
+    }
+    if is_word(line, 0, b"V") {
+        say_value(err, line);
+        return;
+    }
+    say(err, b"expected an E, P, U or V line");
+}
+
+// What was expected where a text has ended.
+fn say_more(err: i32, form: Form) {
+    match form {
+        Form::Request => say(err, b"expected a Q line"),
+        Form::Listing | Form::Steps | Form::Policy | Form::Schema | Form::Store => {
+            say(err, b"expected an A line")
+        }
+    }
+}
+
 // What was expected of the line from a place to another, which has a number.
 pub fn say_form(err: i32, form: Form, place: u64, text: &[u8], from: usize, to: usize)
     requires { ⌜ (from ≤ to) × (to ≤ length (now text)) ⌝ }
 {
     if text.len() <= from {
-        say(err, b"expected an A line");
+        say_more(err, form);
         return;
     }
     if to == text.len() {
@@ -217,5 +306,7 @@ pub fn say_form(err: i32, form: Form, place: u64, text: &[u8], from: usize, to: 
         Form::Steps => say_step(err, line),
         Form::Policy => say_policy(err, line, place),
         Form::Schema => say_schema(err, line),
+        Form::Request => say_request(err, line, place),
+        Form::Store => say_store(err, line, place),
     }
 }

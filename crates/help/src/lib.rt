@@ -42,11 +42,19 @@ fn say_type(to: To) -> u64 {
     )
 }
 
+fn say_load(to: To) -> u64 {
+    write(
+        to.out,
+        to.err,
+        b"terbagyl load MANIFEST REQUEST STORE...\n\nReads a listing, a request and a store, loads what the manifest has the request read, and writes the log: each batch (B) with its rows (Q),\nthe ancestors requests (K), what was loaded (E, P and V), and how many batches and rows there were (Z).\nSeveral STOREs, at most eight, are copies that answer in turn: row or request K of the load, from 0, is answered by number K mod their count.\nA load that is refused ends its log with R, the number and the place, and says why: 13, two answers to one entity do not agree;\n14, a value is not of a kind that the manifest can read there; 15, too much is loaded or asked for.\n",
+    )
+}
+
 fn say_commands(to: To) -> u64 {
     write(
         to.out,
         to.err,
-        b"usage: terbagyl COMMAND ...\n\n  build SCHEMA FILE...      analyse policy texts, and write the listing of their manifest\n  build --typed SCHEMA FILE...\n                            the same, typed by the schema\n  steps P A R SCHEMA FILE   analyse a step text under a request type, and write the contribution\n  list FILE                 read a listing, and write it again\n  merge FILE...             add listings or contributions to each other, and write the listing\n  type SCHEMA FILE          type a listing by a schema, and write the listing of what stays\n  help [COMMAND]            this text, or more of a command; also -h and --help\n  --version                 which version this is\n\n",
+        b"usage: terbagyl COMMAND ...\n\n  build SCHEMA FILE...      analyse policy texts, and write the listing of their manifest\n  build --typed SCHEMA FILE...\n                            the same, typed by the schema\n  steps P A R SCHEMA FILE   analyse a step text under a request type, and write the contribution\n  list FILE                 read a listing, and write it again\n  merge FILE...             add listings or contributions to each other, and write the listing\n  type SCHEMA FILE          type a listing by a schema, and write the listing of what stays\n  load MANIFEST REQUEST STORE...\n                            load what a manifest has a request read from a store, and write the log\n  help [COMMAND]            this text, or more of a command; also -h and --help\n  --version                 which version this is\n\n",
     )
 }
 
@@ -54,7 +62,7 @@ fn say_forms(to: To) -> u64 {
     write(
         to.out,
         to.err,
-        b"A FILE may be a pipe or /dev/stdin and is read once. A line ends in LF, and one tab parts two fields.\n\n  listing       A lines (request types), each with its N lines (what is read)\n  contribution  a listing with one A line\n  policy text   A lines, each with the step lines of a contribution\n  step text     step lines: var lit none attr union drop full in set rec\n  schema        T, E, F, L and C lines\n\ndocs/FORMS.md has every form, and every number with which a text is refused.\n\n",
+        b"A FILE may be a pipe or /dev/stdin and is read once. A line ends in LF, and one tab parts two fields.\n\n  listing       A lines (request types), each with its N lines (what is read)\n  contribution  a listing with one A line\n  policy text   A lines, each with the step lines of a contribution\n  step text     step lines: var lit none attr union drop full in set rec\n  schema        T, E, F, L and C lines\n  request       a Q line (who asks), with the V lines of its context\n  store         E lines (entities), each with its P, U and V lines (parents, ancestors, attributes)\n\ndocs/FORMS.md has every form, and every number with which a text is refused.\n\n",
     )
 }
 
@@ -62,7 +70,7 @@ fn say_statuses(to: To) -> u64 {
     write(
         to.out,
         to.err,
-        b"Status 0: done, and the result is on standard output.\nStatus 1: a text is refused, `FILE: refused N at P (line L): reason`.\nStatus 2: the command line, a file or standard output cannot be used, `cannot: reason`.\n",
+        b"Status 0: done, and the result is on standard output.\nStatus 1: a text is refused, `FILE: refused N at P (line L): reason`; or a load is, and its log is on standard output.\nStatus 2: the command line, a file or standard output cannot be used, `cannot: reason`.\n",
     )
 }
 
@@ -95,6 +103,9 @@ pub fn say_command(to: To, command: &[u8]) -> u64 {
     }
     if check::same(command, b"type") {
         return say_type(to);
+    }
+    if check::same(command, b"load") {
+        return say_load(to);
     }
     if check::same(command, b"help") {
         return say_all(to);

@@ -59,8 +59,8 @@ fn say_nodes(err: i32, form: Form, is_end: bool) {
         return;
     }
     match form {
-        Form::Listing | Form::Schema => say(err, b"over 4,096 nodes"),
         Form::Steps | Form::Policy => say(err, b"over 1,024 nodes in a contribution"),
+        Form::Listing | Form::Schema | Form::Request | Form::Store => say(err, b"over 4,096 nodes"),
     }
 }
 
@@ -71,7 +71,9 @@ fn say_types(err: i32, form: Form) {
             err,
             b"the contribution that ends here has a 65th request type",
         ),
-        Form::Listing | Form::Steps | Form::Schema => say(err, b"a 65th request type"),
+        Form::Listing | Form::Steps | Form::Schema | Form::Request | Form::Store => {
+            say(err, b"a 65th request type")
+        }
     }
 }
 
@@ -238,6 +240,39 @@ pub fn say_untyped(err: i32, name: &[u8], number: u64, place: u64, listing: &[u8
     say_line(err, &listing[from..to]);
     say(err, b" under ");
     say_line(err, &listing[start..end]);
+    say(err, b"\n");
+}
+
+// 15: too much is loaded, or asked for.
+fn say_large(err: i32, is_asking: bool) {
+    if is_asking {
+        say(err, b"over 256 ids in one ancestors request");
+        return;
+    }
+    say(err, b"over 8,192 loaded values, parents and ancestor ids");
+}
+
+// Why a load is refused; `is_asking` where ancestors were to be asked for.
+fn say_unloadable(err: i32, number: u64, is_asking: bool) {
+    match number {
+        12 => say(err, b"another count of answers than of rows"),
+        13 => say(err, b"two answers to one entity do not agree"),
+        14 => say(
+            err,
+            b"a value is not of a kind that the manifest can read there",
+        ),
+        15 => say_large(err, is_asking),
+        _ => say(err, b"refused"),
+    }
+}
+
+// `terbagyl: FILE: refused N at P: reason`: a load cannot go on for what FILE says.
+pub fn say_unloaded(err: i32, name: &[u8], number: u64, place: u64, is_asking: bool) {
+    say_number_of(err, name, number);
+    say(err, b" at ");
+    say_number(err, place);
+    say(err, b": ");
+    say_unloadable(err, number, is_asking);
     say(err, b"\n");
 }
 
