@@ -1,0 +1,55 @@
+-- `loader_cases::part` is safe: each place that is passed to lies within the item.
+use Prim.Native.Nat.{_≤_, _-_}
+use lib.ListN.{length}
+use borrow.Author.Needs.{needs}
+use Rattle.loader_cases.proofs.part.Statement.{statement}
+use Rattle.loader_cases.proofs.part.Tie as tie
+
+abbrev Inv-loop : tie.InvT-loop
+Inv-loop item n at₀ k₀ at k = (at ≤ length item) × (k ≤ n)
+
+abbrev μ-loop : tie.MeasureT-loop
+μ-loop item n at₀ k₀ at k = n - k
+
+loop-holds : tie.Need-loop-holds Inv-loop μ-loop
+loop-holds c = search needs
+
+end-of-requires : tie.Need-end-of-requires Inv-loop μ-loop
+end-of-requires c κs = search needs
+
+returns : tie.Need-returns Inv-loop μ-loop
+returns c = search needs
+
+add-at : tie.Need-add-at Inv-loop μ-loop
+add-at c = search needs
+
+add-k : tie.Need-add-k Inv-loop μ-loop
+add-k c = search needs
+
+loop-less : tie.Need-loop-less Inv-loop μ-loop
+loop-less c = search needs
+
+loop-again : tie.Need-loop-again Inv-loop μ-loop
+loop-again c = search needs
+
+number-at-requires : tie.Need-number-at-requires Inv-loop μ-loop
+number-at-requires c κs = search needs
+
+returns-2 : tie.Need-returns-2 Inv-loop μ-loop
+returns-2 c = search needs
+
+pub part-spec : {M : Type 1} → statement M
+part-spec =
+    tie.close
+    (tie.spec
+    Inv-loop
+    μ-loop
+    loop-holds
+    end-of-requires
+    returns
+    add-at
+    add-k
+    loop-less
+    loop-again
+    number-at-requires
+    returns-2)
