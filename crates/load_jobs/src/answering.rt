@@ -5,7 +5,6 @@ ghost use lib.ListN.{length};
 use crate::requests::count_of;
 use crate::requests::ids_end;
 use crate::texts::STORE;
-use store_text::Found;
 use store_text::Put;
 
 // How many words a load takes in one call beside the count and the heads: more are refused with 15.
@@ -84,70 +83,6 @@ pub fn answer_rows(stores: &[u64], n: u64, first: u64, rows: &[u64], answers: &m
     }
 }
 
-// Whether the entity at a place of a store's lines has an ancestor. Its lines end at the next entity's, which is an id.
-fn has_ancestor(lines: &[u64], at: usize, id: u64) -> bool
-    requires { ⌜ at < length (now lines) ⌝ }
-{
-    let mut i = at + 1;
-    while i < lines.len() {
-        let word = lines[i];
-        if word < 0x1_0000 {
-            return false;
-        }
-        if word / 0x1_0000 == 2 && word % 0x1_0000 == id {
-            return true;
-        }
-        i += 1;
-    }
-    false
-}
-
-// Puts an id, where it is one that is answered.
-fn put_id(sets: &mut [u64], to: usize, id: u64, is_answered: bool) -> usize
-    requires { ⌜ to < length (now sets) ⌝ }
-    ensures { λ r. ⌜ (to ≤ r) × (r ≤ to + 1) ⌝ }
-{
-    if !is_answered {
-        return to;
-    }
-    sets[to] = id;
-    to + 1
-}
-
-// Puts those of the ids asked for that are ancestors of the entity at a place.
-fn put_ancestors(lines: &[u64], at: usize, asked: &[u64], sets: &mut [u64], to: usize) -> usize
-    requires { ⌜ (at < length (now lines)) × (to + length (now asked) ≤ length (now sets)) ⌝ }
-    ensures { λ r. ⌜ (to ≤ r) × (r ≤ length (now (sets .exit))) ⌝ }
-{
-    let mut next = to;
-    let mut i = 0;
-    while i < asked.len() {
-        let id = asked[i];
-        next = put_id(sets, next, id, has_ancestor(lines, at, id));
-        i += 1;
-    }
-    next
-}
-
-// Puts the set of those ids asked for that are ancestors of an entity, its count in front of it.
-fn put_set(lines: &[u64], id: u64, asked: &[u64], sets: &mut [u64], to: usize) -> usize
-    requires { ⌜ (id ≤ 65535) × (to ≤ length (now sets)) ⌝ }
-    ensures { λ r. ⌜ r ≤ length (now (sets .exit)) ⌝ }
-{
-    let Found::At(at) = store_text::find_entity(lines, id) else {
-        return put_nothing(sets, to);
-    };
-    if lines.len() <= at {
-        return put_nothing(sets, to);
-    }
-    if sets.len() - to <= asked.len() {
-        return put_nothing(sets, to);
-    }
-    let next = put_ancestors(lines, at, asked, sets, to + 1);
-    sets[to] = (next - to - 1) as u64;
-    next
-}
-
 // Puts the answer of the store whose words these are to an ancestors request; nothing where enough was said.
 fn answer_set(
     store: &[u64],
@@ -168,7 +103,13 @@ fn answer_set(
         return put_nothing(sets, to);
     }
     let end = count as usize + 1;
-    put_set(&store[1..end], id, asked, sets, to)
+    let Put::To(next) = store_text::answer_ancestors(&store[1..end], id, asked, sets, to) else {
+        return put_nothing(sets, to);
+    };
+    if sets.len() < next {
+        return put_nothing(sets, to);
+    }
+    next
 }
 
 // Answers the ancestors requests, behind their count.

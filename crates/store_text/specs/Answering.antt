@@ -6,6 +6,7 @@ use mathlib.Core.List.{List, [], _∷_, _++_, map}
 use mathlib.Core.Option.{Option, none, some}
 use lib.Dec.{eqb}
 use lib.ListN.{length, drop}
+use Rattle.rules.specs.MergeLaws.{IdsFrom}
 use Rattle.rules.specs.ValueTexts.{EntityRead}
 use Rattle.words.specs.Runs.{Wrote}
 use Rattle.values.specs.ValueWords.{valueWord}
@@ -95,4 +96,5 @@ SetPut ancestors asked out to out′ (To next) = Wrote out to (setWords (amongOf
 SetPut ancestors asked out to out′ Full = (length out ≤ to + length asked) × (out′ ≡ out)
 
 abbrev pub AnsweredAncestors : List ℕ → ℕ → List ℕ → List ℕ → ℕ → List ℕ → Put → Type 0
-AnsweredAncestors words id asked out to out′ r = (es : List EntityRead) → Holds words es → SetPut (ancestorsOf (entityOf id es)) asked out to out′ r
+AnsweredAncestors words id asked out to out′ r =
+    (es : List EntityRead) → Holds words es → IdsFrom 0 asked → SetPut (ancestorsOf (entityOf id es)) asked out to out′ r

@@ -1,11 +1,9 @@
 // What a store answers, from the words of its lines: an entity's row, and those of some ids that are among its ancestors.
-ghost use mathlib.Core.Path.{_≡_};
 ghost use mathlib.Core.List.{map};
 ghost use Prim.Native.Nat.{_+_, _≤_, _<_};
 ghost use lib.ListN.{length};
 ghost use Rattle.rules.specs.MergeLaws.{IdsFrom};
 ghost use Rattle.words.specs.Runs.{Wrote};
-ghost use Rattle.store_text.specs.Entities.{Entities};
 ghost use Rattle.store_text.specs.Answering.{idIn, amongOf, FoundEntity, WroteEntity, AnsweredRow, AnsweredAncestors};
 use crate::runs::ANCESTORS;
 use crate::runs::PARENTS;
@@ -13,7 +11,7 @@ use crate::runs::ROWS;
 use crate::runs::run_end;
 
 // Where an entity stands: the place of its own word, or it is absent.
-pub enum Found {
+enum Found {
     At(usize),
     Absent,
 }
@@ -25,7 +23,7 @@ pub enum Put {
 }
 
 // The place of the word that is an id. No word of a parent, an ancestor or a row is one.
-pub fn find_entity(words: &[u64], id: u64) -> Found
+fn find_entity(words: &[u64], id: u64) -> Found
     requires { ⌜ id ≤ 65535 ⌝ }
     ensures { λ r. ⌜ FoundEntity (now (words .entry)) id r ⌝ }
 {
@@ -86,10 +84,11 @@ pub fn answer_row(words: &[u64], id: u64, out: &mut [u64], to: usize) -> Put
     write_entity(words, at, out, to)
 }
 
-// Writes those of the ids asked for that are among ancestors, both ascending, in one pass, and answers the place after them.
+// Writes in one pass those of the ids asked for that are among ancestors, where both ascend, and answers the place after them.
 fn write_among(ancestors: &[u64], asked: &[u64], out: &mut [u64], to: usize) -> usize
-    requires { ⌜ (IdsFrom 0 (map idIn (now ancestors))) × (IdsFrom 0 (now asked)) × (to + length (now asked) ≤ length (now out)) ⌝ }
-    ensures { λ r. ⌜ Wrote (now (out .entry)) to (amongOf (map idIn (now (ancestors .entry))) (now (asked .entry))) (now (out .exit)) r ⌝ }
+    requires { ⌜ to + length (now asked) ≤ length (now out) ⌝ }
+    ensures { λ r. ⌜ (to ≤ r) × (IdsFrom 0 (map idIn (now (ancestors .entry))) → IdsFrom 0 (now (asked .entry))
+        → Wrote (now (out .entry)) to (amongOf (map idIn (now (ancestors .entry))) (now (asked .entry))) (now (out .exit)) r) ⌝ }
 {
     let mut next = to;
     let mut i = 0;
@@ -115,7 +114,7 @@ fn write_among(ancestors: &[u64], asked: &[u64], out: &mut [u64], to: usize) -> 
 
 // Writes the answer to an ancestors request (docs/FORMS.md, 'Ancestors answers in'), where there is room for all ids asked for.
 pub fn answer_ancestors(words: &[u64], id: u64, asked: &[u64], out: &mut [u64], to: usize) -> Put
-    requires { ⌜ Entities (now words) × (id ≤ 65535) × (IdsFrom 0 (now asked)) × (to ≤ length (now out)) ⌝ }
+    requires { ⌜ (id ≤ 65535) × (to ≤ length (now out)) ⌝ }
     ensures { λ r. ⌜ AnsweredAncestors (now (words .entry)) id (now (asked .entry)) (now (out .entry)) to (now (out .exit)) r ⌝ }
 {
     if out.len() - to <= asked.len() {

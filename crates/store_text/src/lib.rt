@@ -6,9 +6,7 @@ mod reading;
 mod runs;
 mod taking;
 
-pub use answering::Found;
 pub use answering::Put;
 pub use answering::answer_ancestors;
 pub use answering::answer_row;
-pub use answering::find_entity;
 pub use reading::read_store;

@@ -1,6 +1,5 @@
 // The order of elements in all sets of a store, once every line has passed.
-ghost use mathlib.Core.Path.{_≡_};
-ghost use Prim.Native.Nat.{_≤_, _<_};
+ghost use Prim.Native.Nat.{_<_};
 ghost use lib.ListN.{length};
 ghost use Rattle.store_text.specs.Entities.{Entities, OrderFound};
 use crate::runs::ANCESTORS;

@@ -26,7 +26,7 @@ sub-if1 : tie.Need-sub-if1
 sub-if1 c = search needs
 
 returns : tie.Need-returns
-returns c = λ es holds. (omega (arith, c .if1 .taken, c .before .before .before .before .pre .3), refl)
+returns c = λ es holds asks. (omega (arith, c .if1 .taken, c .before .before .before .before .pre .1), refl)
 
 find-entity-requires : tie.Need-find-entity-requires
 find-entity-requires c κs = search needs
@@ -50,7 +50,7 @@ same-length : tie.Need-same-length
 same-length c = search needs
 
 returns-2 : tie.Need-returns-2
-returns-2 c = λ es holds.
+returns-2 c = λ es holds asks.
     let a = c .before .before .before .before .before .before .before .args in
     rw (rw (c .enum-told .given .1) at (c .before .before .find-entity .ensures .there es holds)) (set-absent (a .asked .now) (a .out .now) (a .to))
 
@@ -79,17 +79,7 @@ add-write-among : tie.Need-add-write-among
 add-write-among c = search needs
 
 write-among-requires : tie.Need-write-among-requires
-write-among-requires c κs =
-    let ran = c .before .before in
-    let told = ran .before .before in
-    let tested = told .before .before .before .before in
-    let s = tested .before .before .before .before in
-    let (es, holds) = s .pre .0 in
-    let there = stands told es holds in (
-      rw (ancestor-ids (ran .before .run-end .ensures .0) (ran .run-end2 .ensures .0) (there .e) (there .more) (there .here)) (there .here .kept .ancestors-ascend),
-      s .pre .2,
-      omega (arith, tested .if1 .left),
-    )
+write-among-requires c κs = omega (arith, c .before .before .before .before .before .before .before .before .if1 .left)
 
 sub-out : tie.Need-sub-out
 sub-out c = search needs
@@ -107,12 +97,13 @@ same-length-2 : tie.Need-same-length-2
 same-length-2 c = search needs
 
 returns-3 : tie.Need-returns-3
-returns-3 c = λ es holds.
+returns-3 c = λ es holds asks.
     let wrote = c .before .before in
     let ran = wrote .before .before .before in
     let there = stands (ran .before .before) es holds in
-    rw (there .found, ← ancestor-ids (ran .before .run-end .ensures .0) (ran .run-end2 .ensures .0) (there .e) (there .more) (there .here))
-    (set-written (wrote .write-among .ensures))
+    let ids = ancestor-ids (ran .before .run-end .ensures .0) (ran .run-end2 .ensures .0) (there .e) (there .more) (there .here) in
+    rw (there .found, ← ids)
+    (set-written (wrote .write-among .ensures .1 (rw ids (there .here .kept .ancestors-ascend)) asks))
 
 pub answer-ancestors-spec : {M : Type 1} → statement M
 answer-ancestors-spec =

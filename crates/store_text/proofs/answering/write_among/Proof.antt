@@ -1,12 +1,12 @@
 -- `store_text::answering::write_among` meets its contract: the ids that were passed are judged, and those left are by the ancestors left.
 -- Assumes nothing.
-use Prim.Native.Nat.{_+_, _-_, _<_}
+use Prim.Native.Nat.{_+_, _-_, _≤_, _<_}
 use native.Mathlib.Omega.{arith}
 use mathlib.Core.List.{map}
 use mathlib.Core.Logic.{⊎-elim}
-use mathlib.Core.Path.{_≡_, _∙_}
-use lib.ListN.{length, getD, length-map, List·getD-map}
-use Rattle.words.specs.RunLaws.{wrote-length}
+use mathlib.Core.Path.{_≡_, refl, _∙_}
+use lib.ListN.{length, getD, length-map, length-set, List·getD-map}
+use Rattle.rules.specs.MergeLaws.{IdsFrom}
 use Rattle.store_text.specs.Answering.{idIn}
 use Rattle.store_text.specs.AnswerLaws.{Merging, merging-none, merging-asked, merging-us, merging-below, merging-same, merging-above}
 use borrow.Author.Needs.{needs}
@@ -14,7 +14,13 @@ use Rattle.store_text.proofs.answering.write_among.Statement.{statement
 use Rattle.store_text.proofs.answering.write_among.Tie as tie
 
 abbrev Inv-loop : tie.InvT-loop
-Inv-loop ancestors asked out₀ to next₀ i₀ j₀ out next i j = Merging (map idIn ancestors) asked out₀ to out next i j
+Inv-loop ancestors asked out₀ to next₀ i₀ j₀ out next i j =
+    (to ≤ next)
+    × (next ≤ to + i)
+    × (i ≤ length asked)
+    × (j ≤ length ancestors)
+    × (length out ≡ length out₀)
+    × (IdsFrom 0 (map idIn ancestors) → IdsFrom 0 asked → Merging (map idIn ancestors) asked out₀ to out next i j)
 
 abbrev μ-loop : tie.MeasureT-loop
 μ-loop ancestors asked out₀ to next₀ i₀ j₀ out next i j = length asked - i + (length ancestors - j)
@@ -23,7 +29,7 @@ abbrev μ-loop : tie.MeasureT-loop
 left : (c : tie.Else1 Inv-loop μ-loop) → c .before .before .loop .j < length (c .before .before .before .args .ancestors .now)
 left c =
     let turn = c .before in
-    omega (arith, c .if1 .left, turn .before .loop .inv .reached, length-map (turn .before .before .args .ancestors .now) idIn)
+    omega (arith, c .if1 .left, turn .before .loop .inv .3)
 
 others : (c : tie.Else1 Inv-loop μ-loop) → c .before .before .loop .j < length (map idIn (c .before .before .before .args .ancestors .now))
 others c = omega (arith, left c, length-map (c .before .before .before .args .ancestors .now) idIn)
@@ -39,17 +45,27 @@ room : (c : tie.Else1 Inv-loop μ-loop) → c .before .before .loop .next < leng
 room c =
     let turn = c .before in
     let here = turn .before .loop in
-    omega (arith, here .inv .wrote .after, here .inv .few, turn .loop-test .taken, wrote-length (here .inv .wrote), turn .before .before .pre .2)
+    omega (arith, here .inv .1, turn .loop-test .taken, here .inv .4, turn .before .before .pre)
 
 loop-holds : tie.Need-loop-holds Inv-loop μ-loop
-loop-holds c = merging-none (map idIn (c .args .ancestors .now)) (c .args .asked .now) (c .args .out .now) (c .args .to) (c .pre .0) (c .pre .1)
+loop-holds c = (
+  omega arith,
+  omega arith,
+  omega arith,
+  omega arith,
+  refl,
+  merging-none (map idIn (c .args .ancestors .now)) (c .args .asked .now) (c .args .out .now) (c .args .to),
+)
 
 same-length : tie.Need-same-length Inv-loop μ-loop
-same-length c = wrote-length (c .before .before .loop .inv .wrote)
+same-length c = c .before .before .loop .inv .4
 
 returns : tie.Need-returns Inv-loop μ-loop
 returns c =
-    merging-us (c .before .before .loop .inv) (omega (arith, c .if1 .taken, length-map (c .before .before .before .args .ancestors .now) idIn))
+    let kept = c .before .before .loop .inv in (
+      kept .0,
+      λ ups asks. merging-us (kept .5 ups asks) (omega (arith, c .if1 .taken, length-map (c .before .before .before .args .ancestors .now) idIn)),
+    )
 
 mul-id : tie.Need-mul-id Inv-loop μ-loop
 mul-id c = search needs
@@ -72,7 +88,14 @@ loop-less c = omega (arith, left (c .before .before .before), c .before .before 
 loop-again : tie.Need-loop-again Inv-loop μ-loop
 loop-again c =
     let tested = c .before .before .before in
-    merging-below (tested .before .before .loop .inv) (tested .before .loop-test .taken) (others tested) (rw (there tested) (c .if2 .taken))
+    let kept = tested .before .before .loop .inv in (
+      kept .0,
+      kept .1,
+      kept .2,
+      omega (arith, left tested),
+      kept .4,
+      λ ups asks. merging-below (kept .5 ups asks) (tested .before .loop-test .taken) (others tested) (rw (there tested) (c .if2 .taken)),
+    )
 
 mul-out : tie.Need-mul-out Inv-loop μ-loop
 mul-out c = omega (arith, room (c .before .before .before .before))
@@ -92,18 +115,37 @@ loop-less-2 c = omega (arith, c .before .before .before .before .before .loop-te
 loop-again-2 : tie.Need-loop-again-2 Inv-loop μ-loop
 loop-again-2 c =
     let tested = c .before .before .before .before in
-    let merging = tested .before .before .loop .inv in
+    let kept = tested .before .before .loop .inv in
     let more = tested .before .loop-test .taken in
     ⊎-elim
-    (λ w. rw (w .1, w .2) (merging-same merging more (others tested) (there tested ∙ w .0 .taken)))
-    (λ w. rw (w .1, w .2) (merging-above merging more (others tested) (rw (there tested) (omega (arith, c .before .if2 .left, w .0 .left)))))
+    (λ w.
+    rw (w .1, w .2) (
+      omega (arith, kept .0),
+      omega (arith, kept .1),
+      omega (arith, more),
+      kept .3,
+      rw length-set (kept .4),
+      λ ups asks. merging-same (kept .5 ups asks) more (others tested) (there tested ∙ w .0 .taken),
+    ))
+    (λ w.
+    rw (w .1, w .2) (
+      kept .0,
+      omega (arith, kept .1),
+      omega (arith, more),
+      kept .3,
+      kept .4,
+      λ ups asks.
+          merging-above (kept .5 ups asks) more (others tested) (rw (there tested) (omega (arith, c .before .if2 .left, w .0 .left))),
+    ))
     (c .if3 .came)
 
 same-length-2 : tie.Need-same-length-2 Inv-loop μ-loop
-same-length-2 c = wrote-length (c .before .loop .inv .wrote)
+same-length-2 c = c .before .loop .inv .4
 
 returns-2 : tie.Need-returns-2 Inv-loop μ-loop
-returns-2 c = merging-asked (c .before .loop .inv) (c .loop-test .left)
+returns-2 c =
+    let kept = c .before .loop .inv in
+    (kept .0, λ ups asks. merging-asked (kept .5 ups asks) (c .loop-test .left))
 
 pub write-among-spec : {M : Type 1} → statement M
 write-among-spec =
