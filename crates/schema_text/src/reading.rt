@@ -1,10 +1,9 @@
 // Lines to items, each judged after those before it, and a schema's text read into a lent state.
 ghost use mathlib.Core.Path.{_≡_};
-ghost use Prim.Native.Nat.{_<_};
+ghost use Prim.Native.Nat.{_+_, _≤_, _<_};
 ghost use lib.ListN.{length};
 ghost use Rattle.schema_text.specs.Outcomes.{readSchemaIn};
-ghost use Rattle.schema_text.specs.Reads.{ItemRoom, ItemTaken, itemsGot, itemWords, itemCount};
-ghost use Rattle.rules.specs.Schema.{readSchema};
+ghost use Rattle.schema_text.specs.Reads.{ItemRoom, ItemTaken, ItemsRead, keptAt};
 use crate::line::ParsedItem;
 use crate::line::parse;
 use schema::Known;
@@ -24,10 +23,21 @@ enum GotItems {
     Refused(u64),
 }
 
-// Takes one line: its word goes behind the others.
-fn take_line(line: &[u8], words: &mut [u64], count: u64, known: Known) -> TookItem
-    requires { ⌜ ItemRoom count known (now words) ⌝ }
-    ensures { λ r. ⌜ ItemTaken count known (now (line .entry)) (now (words .entry)) (now (words .exit)) r ⌝ }
+// Stores a word, where words are stored at all.
+fn keep_word(out: &mut [u64], at: usize, word: u64, stores: bool)
+    requires { ⌜ at < length (now out) ⌝ }
+    ensures { λ r. ⌜ now (out .exit) ≡ keptAt stores (now (out .entry)) at word ⌝ }
+{
+    if !stores {
+        return;
+    }
+    out[at] = word;
+}
+
+// Takes one line: its word goes behind the others, where words are stored.
+fn take_line(line: &[u8], out: &mut [u64], count: u64, known: Known, stores: bool) -> TookItem
+    requires { ⌜ ItemRoom count known (now out) ⌝ }
+    ensures { λ r. ⌜ ItemTaken count known (now (line .entry)) stores (now (out .entry)) (now (out .exit)) r ⌝ }
 {
     let ParsedItem::Of(item) = parse(line) else {
         return TookItem::Refused;
@@ -35,16 +45,14 @@ fn take_line(line: &[u8], words: &mut [u64], count: u64, known: Known) -> TookIt
     if !known.fits(item) {
         return TookItem::Refused;
     }
-    let end = count as usize + 1;
-    words[end] = item.word();
+    keep_word(out, count as usize + 1, item.word(), stores);
     TookItem::Next(known.beyond(item))
 }
 
-// Reads all lines of a text into words, from place 1 on.
-fn read_items(text: &[u8], words: &mut [u64]) -> GotItems
-    requires { ⌜ length (now words) ≡ 142337 ⌝ }
-    ensures { λ r. ⌜ itemsGot r (now (words .exit)) ≡ itemWords (readSchema (now (text .entry))) ⌝ }
-    ensures { λ r. ⌜ itemCount r < 142337 ⌝ }
+// Reads all lines of a text: judges them, and stores their words from place 1 on only where that is asked for.
+fn read_items(text: &[u8], out: &mut [u64], stores: bool) -> GotItems
+    requires { ⌜ 142337 ≤ length (now out) ⌝ }
+    ensures { λ r. ⌜ ItemsRead (now (text .entry)) stores (now (out .entry)) (now (out .exit)) r ⌝ }
 {
     let mut known = Known::new();
     let mut count: u64 = 0;
@@ -53,7 +61,7 @@ fn read_items(text: &[u8], words: &mut [u64]) -> GotItems
         let Line::Whole(end) = Line::at(text, at) else {
             return GotItems::Refused(count);
         };
-        let took = take_line(&text[at..end], words, count, known);
+        let took = take_line(&text[at..end], out, count, known, stores);
         match took {
             TookItem::Next(next) => {
                 known = next;
@@ -68,19 +76,18 @@ fn read_items(text: &[u8], words: &mut [u64]) -> GotItems
     GotItems::Items(count)
 }
 
-// Reads a schema's text into a state; a refusal leaves the state as it was.
+// Reads a schema's text into a state: judges it in a first pass and stores it in a second, so that a refusal leaves the state as it was.
 pub fn read_schema(text: &[u8], out: &mut [u64]) -> Reply
     ensures { λ r. ⌜ (r ≡ readSchemaIn (now (text .entry)) (now (out .entry)) .reply) × (now (out .exit) ≡ readSchemaIn (now (text .entry)) (now (out .entry)) .buffer) ⌝ }
 {
     if out.len() < Schema::WORDS {
         return Reply::Refused(31, 0);
     }
-    let mut words = [0u64; 142_337];
-    match read_items(text, &mut words) {
+    match read_items(text, out, false) {
         GotItems::Refused(line) => Reply::Refused(1, line),
         GotItems::Items(count) => {
-            words[0] = count;
-            words::copy_rows(&words, out);
+            read_items(text, out, true);
+            out[0] = count;
             Reply::Done
         }
     }

@@ -1,4 +1,4 @@
--- `schema_text::reading::read_items` meets its contract: the lines that were passed came to the items whose words are stored.
+-- `schema_text::reading::read_items` meets its contract: the lines that were passed came to the items whose words are stored, or only judged.
 -- Assumes nothing.
 use native.Mathlib.Omega.{arith}
 use mathlib.Core.Path.{_≡_, refl, _∙_}
@@ -14,10 +14,10 @@ use Rattle.schema_text.proofs.reading.read_items.Statement.{statement}
 use Rattle.schema_text.proofs.reading.read_items.Tie as tie
 
 abbrev Inv-loop : tie.InvT-loop
-Inv-loop text words₀ known₀ count₀ at₀ words known count at = ReadingItems text known words at count × (length words ≡ length words₀)
+Inv-loop text out₀ stores known₀ count₀ at₀ out known count at = ReadingItems text stores out₀ known out at count × (length out ≡ length out₀)
 
 abbrev μ-loop : tie.MeasureT-loop
-μ-loop text words₀ known₀ count₀ at₀ words known count at = length text - at
+μ-loop text out₀ stores known₀ count₀ at₀ out known count at = length text - at
 
 -- the LF that was found stands in the text
 within : (c : tie.After-end Inv-loop μ-loop) → (c .before .before .before .before .loop .at ≤ c .end .given .0 .0) × (c .end .given .0 .0 < length (c .before .before .before .before .before .before .before .before .args .text .now))
@@ -27,9 +27,7 @@ new-requires : tie.Need-new-requires Inv-loop μ-loop
 new-requires c κs = search needs
 
 loop-holds : tie.Need-loop-holds Inv-loop μ-loop
-loop-holds c =
-    let s = c .before .before .before in
-    (items-none (s .args .text .now) (s .args .words .now) _ (c .new .ensures) bounded-none (s .pre), refl)
+loop-holds c = let s = c .before .before .before in (items-none (s .args .text .now) (s .args .stores) (s .args .out .now) _ (c .new .ensures) bounded-none (s .pre), refl)
 
 at-requires : tie.Need-at-requires Inv-loop μ-loop
 at-requires c κs = search needs
@@ -43,7 +41,7 @@ same-length c = c .before .before .before .loop .inv .1
 returns : tie.Need-returns Inv-loop μ-loop
 returns c =
     let unended : (end : ℕ) → c .before .at .result ≡ Whole end → ⊥ = λ end e. ⊎-elim (λ z. omega arith) (λ z. omega arith) (rw e at (c .match .keys2)) in
-    (reading-cut (c .before .before .before .loop .inv .0) (c .before .at .ensures) unended (c .before .before .loop-test .taken), omega arith)
+    reading-cut (c .before .before .before .loop .inv .0) (c .before .at .ensures) unended (c .before .before .loop-test .taken)
 
 sub-take-line : tie.Need-sub-take-line Inv-loop μ-loop
 sub-take-line c = omega (arith, within (c .before))
@@ -67,10 +65,9 @@ same-length-2 : tie.Need-same-length-2 Inv-loop μ-loop
 same-length-2 c = c .before .before .before .before .take-line .kept .1 .0 ∙ c .before .before .before .before .before .before .before .before .before .before .before .before .loop .inv .1
 
 returns-2 : tie.Need-returns-2 Inv-loop μ-loop
-returns-2 c = (
-  items-stopped (c .before .before .before .before .before .before .before .before .before .before .before .before .loop .inv .0) (c .before .before .before .before .before .before .before .before .before .before .at .ensures) (c .before .before .before .before .before .before .before .before .end .given .1) (rw (c .enum-told .given .1) at (c .before .before .before .before .take-line .ensures)),
-  omega arith,
-)
+returns-2 c =
+    items-stopped (c .before .before .before .before .before .before .before .before .before .before .before .before .loop .inv .0) (c .before .before .before .before .before .before .before .before .before .before .at .ensures) (c .before .before .before .before .before .before .before .before .end .given .1)
+    (rw (c .enum-told .given .1) at (c .before .before .before .before .take-line .ensures))
 
 add-at : tie.Need-add-at Inv-loop μ-loop
 add-at c = omega (arith, within (c .before .before .before .before .before .before .before .before .before))
@@ -91,7 +88,7 @@ same-length-3 : tie.Need-same-length-3 Inv-loop μ-loop
 same-length-3 c = c .before .loop .inv .1
 
 returns-3 : tie.Need-returns-3 Inv-loop μ-loop
-returns-3 c = (items-all (c .before .loop .inv .0) (c .loop-test .left), few-items (c .before .loop .inv .0))
+returns-3 c = items-all (c .before .loop .inv .0) (c .loop-test .left)
 
 pub read-items-spec : {M : Type 1} → statement M
 read-items-spec =

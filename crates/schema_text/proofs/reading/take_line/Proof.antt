@@ -1,8 +1,8 @@
--- `schema_text::reading::take_line` meets its contract: the line's item, where it may come next, is passed: its word stands behind the others.
+-- `schema_text::reading::take_line` meets its contract: the line's item, where it may come next, is passed: its word goes behind the others.
 -- Assumes nothing.
 use Prim.Native.Nat.{_+_, _<_}
 use native.Mathlib.Omega.{arith}
-use mathlib.Core.Path.{_≡_, sym, ap, _∙_}
+use mathlib.Core.Path.{_≡_, refl, sym, ap, _∙_}
 use borrow.Author.Tests.{not-true, not-false}
 use mathlib.Core.Option.{some}
 use mathlib.Core.Bool.{true}
@@ -10,7 +10,6 @@ use Rattle.rules.specs.Text.{fieldsOf}
 use Rattle.rules.specs.Schema.{itemOf, fits}
 use Rattle.schema.specs.Items.{itemFor}
 use Rattle.schema_text.specs.Fields.{itemRead}
-use lib.ListN.{length, length-set}
 use Rattle.schema.specs.Bounds.{knownFor}
 use Rattle.schema_text.specs.ReadLaws.{item-fits, room-next, item-passed}
 use borrow.Author.Needs.{needs}
@@ -35,43 +34,40 @@ enum-told : tie.Need-enum-told
 enum-told c = search needs
 
 returns : tie.Need-returns
-returns c = rw (sym (c .before .before .parse .ensures) ∙ ap itemRead (c .enum-told .given .1)) tt
+returns c = rw (sym (c .before .before .parse .ensures) ∙ ap itemRead (c .enum-told .given .1)) (tt, refl)
 
 fits-requires : tie.Need-fits-requires
 fits-requires c κs = search needs
 
 returns-2 : tie.Need-returns-2
-returns-2 c = rw (item-read (c .before .before .before)) (sym (c .before .fits2 .ensures) ∙ not-true _ (c .if1 .taken))
+returns-2 c = rw (item-read (c .before .before .before)) (sym (c .before .fits2 .ensures) ∙ not-true _ (c .if1 .taken), refl)
 
 -- so there is room for its word
-room : (c : tie.Else1) → let a = c .before .before .before .before .before .before .before .before .args in a .count + 1 < length (a .words .now)
+room : (c : tie.Else1) → c .before .before .before .before .before .before .before .before .args .count + 1 < 142337
 room c =
     let s = c .before .before .before .before .before .before .before .before in
-    room-next (s .args .count) (s .args .known) (s .args .words .now) (itemFor (c .before .before .before .item .given .0 .0)) (s .pre) (may-follow c)
+    room-next (s .args .count) (s .args .known) (s .args .out .now) (itemFor (c .before .before .before .item .given .0 .0)) (s .pre) (may-follow c)
 
-add-end : tie.Need-add-end
-add-end c = omega (arith, room c)
+add-keep-word : tie.Need-add-keep-word
+add-keep-word c = omega (arith, room (c .before))
 
 word-requires : tie.Need-word-requires
-word-requires c κs = omega (arith, item-fits _ _ (item-read (c .before .before .before)))
+word-requires c κs = omega (arith, item-fits _ _ (item-read (c .before .before .before .before)))
 
-mul-words : tie.Need-mul-words
-mul-words c = omega (arith, room (c .before), c .before .before .before .before .before .before .before .before .before .pre .words-length)
-
-slice-write-words : tie.Need-slice-write-words
-slice-write-words c = room (c .before)
+keep-word-requires : tie.Need-keep-word-requires
+keep-word-requires c κs = omega (arith, room (c .before .before), c .before .before .before .before .before .before .before .before .before .before .pre .long)
 
 beyond-requires : tie.Need-beyond-requires
-beyond-requires c κs = (may-follow (c .before), (c .before .before .before .before .before .before .before .before .before .pre .bounded, item-fits _ _ (item-read (c .before .before .before .before)) .2))
+beyond-requires c κs = (may-follow (c .before .before .before .before .before), (c .before .before .before .before .before .before .before .before .before .before .before .before .before .pre .bounded, item-fits _ _ (item-read (c .before .before .before .before .before .before .before .before)) .2))
 
 same-length : tie.Need-same-length
-same-length c = simp length-set
+same-length c = search needs
 
 returns-3 : tie.Need-returns-3
 returns-3 c =
-    let s = c .before .before .before .before .before .before .before .before .before .before in
-    item-passed (s .args .count) (s .args .known) (s .args .line .now) (s .args .words .now) (itemFor (c .before .before .before .before .before .item .given .0 .0)) (s .pre) (item-read (c .before .before .before .before .before)) (may-follow (c .before .before))
-    (c .before .word .ensures) (c .beyond .ensures .0) (c .beyond .ensures .1)
+    let s = c .before .before .before .before .before .before .before .before .before .before .before .before .before .before in
+    item-passed (s .args .count) (s .args .known) (s .args .line .now) (s .args .stores) (s .args .out .now) (itemFor (c .before .before .before .before .before .before .before .before .before .item .given .0 .0)) (s .pre) (item-read (c .before .before .before .before .before .before .before .before .before)) (may-follow (c .before .before .before .before .before .before))
+    (c .before .before .before .before .word .ensures) (c .before .before .before .keep-word .ensures) (c .beyond .ensures .0) (c .beyond .ensures .1)
 
 pub take-line-spec : {M : Type 1} → statement M
 take-line-spec =
@@ -83,10 +79,9 @@ take-line-spec =
     returns
     fits-requires
     returns-2
-    add-end
+    add-keep-word
     word-requires
-    mul-words
-    slice-write-words
+    keep-word-requires
     beyond-requires
     same-length
     returns-3)
