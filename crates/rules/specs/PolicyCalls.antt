@@ -34,12 +34,12 @@ use Rattle.rules.specs.Steps.{
   wrapped,
   Step,
   root,
-  nothing,
+  noneLine,
   attr,
-  both,
-  dropped,
+  unionLine,
+  dropLine,
   full,
-  inside,
+  inLine,
   set,
   rec,
   judged,
@@ -88,15 +88,15 @@ module _ (place other : ℕ) {after : List Result} where
       → apply items other step stack ≡ accepted after
   unfolding apply
   apply-anywhere items (root r) stack e = judged-anywhere (fromRoot r) stack e
-  apply-anywhere items nothing stack e = judged-anywhere defaultResult stack e
+  apply-anywhere items noneLine stack e = judged-anywhere defaultResult stack e
   apply-anywhere items (attr f) [] e = refused-not 6 place after e
   apply-anywhere items (attr f) (top ∷ stack) e =
       by-option (getOrHasAttr f (top .paths))
       (λ q. refused-not 7 place after (rw (q, attrStep) at e))
       (λ paths q. rw (q, attrStep) (judged-anywhere (restored (top .trie) paths) stack (rw (q, attrStep) at e)))
-  apply-anywhere items both stack e = two-anywhere unionResults stack e
-  apply-anywhere items dropped [] e = refused-not 6 place after e
-  apply-anywhere items dropped (top ∷ stack) e = judged-anywhere (emptyPaths (top .trie)) stack e
+  apply-anywhere items unionLine stack e = two-anywhere unionResults stack e
+  apply-anywhere items dropLine [] e = refused-not 6 place after e
+  apply-anywhere items dropLine (top ∷ stack) e = judged-anywhere (emptyPaths (top .trie)) stack e
   apply-anywhere items (full t) [] e =
       by-option (fromType t items)
       (λ q. refused-not 1 place after (rw (q, fullStep) at e))
@@ -110,7 +110,7 @@ module _ (place other : ℕ) {after : List Result} where
       (λ taken p.
       rw (q, fullStep, p, fullStep)
       (judged-anywhere (emptyPaths (addTaken items (top .trie) taken)) stack (rw (q, fullStep, p, fullStep) at e))))
-  apply-anywhere items inside stack e = two-anywhere inResult stack e
+  apply-anywhere items inLine stack e = two-anywhere inResult stack e
   apply-anywhere items set [] e = refused-not 6 place after e
   apply-anywhere items set (top ∷ stack) e = judged-anywhere (result (top .trie) (SetLiteral (top .paths))) stack e
   apply-anywhere items (rec names) stack e =

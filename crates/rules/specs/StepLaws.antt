@@ -107,12 +107,12 @@ use Rattle.rules.specs.Steps.{
   wrapped,
   Step,
   root,
-  nothing,
+  noneLine,
   attr,
-  both,
-  dropped,
+  unionLine,
+  dropLine,
   full,
-  inside,
+  inLine,
   set,
   rec,
   reversed,
@@ -182,12 +182,12 @@ AllGood = Each GoodResult
 -- what a line's step names is a root or a field
 abbrev pub GoodStep : Step → Type 0
 GoodStep (root r) = isRoot r ≡ true
-GoodStep nothing = Unit
+GoodStep noneLine = Unit
 GoodStep (attr f) = f < 65536
-GoodStep both = Unit
-GoodStep dropped = Unit
+GoodStep unionLine = Unit
+GoodStep dropLine = Unit
 GoodStep (full t) = Unit
-GoodStep inside = Unit
+GoodStep inLine = Unit
 GoodStep set = Unit
 GoodStep (rec names) = Unit
 
@@ -275,10 +275,10 @@ step-given a step h e = rw (Option·some-injective a step e) at h
 -- so it is with a line of one word, of names, and of a word and a field
 bare-good : (word : List ℕ) (step : Step) → bareStep word ≡ some step → GoodStep step
 bare-good word step e =
-    cond-given (isText (bytes "none") word) (some nothing) _ step e (step-given nothing step tt) λ e.
-    cond-given (isText (bytes "union") word) (some both) _ step e (step-given both step tt) λ e.
-    cond-given (isText (bytes "drop") word) (some dropped) _ step e (step-given dropped step tt) λ e.
-    cond-given (isText (bytes "in") word) (some inside) _ step e (step-given inside step tt) λ e.
+    cond-given (isText (bytes "none") word) (some noneLine) _ step e (step-given noneLine step tt) λ e.
+    cond-given (isText (bytes "union") word) (some unionLine) _ step e (step-given unionLine step tt) λ e.
+    cond-given (isText (bytes "drop") word) (some dropLine) _ step e (step-given dropLine step tt) λ e.
+    cond-given (isText (bytes "in") word) (some inLine) _ step e (step-given inLine step tt) λ e.
     cond-given (isText (bytes "set") word) (some set) _ step e (step-given set step tt) λ e.
     cond-given (isText (bytes "rec") word) (some (rec [])) _ step e (step-given (rec []) step tt) λ e.
     absurd (Option·none-ne-some step e)
@@ -1282,19 +1282,19 @@ pub apply-good :
     → AllGood after
 unfolding apply Each
 apply-good items schema place (root r) h stack after good e = judged-good place (fromRoot r) stack after good (root-good r h) e
-apply-good items schema place nothing h stack after good e =
+apply-good items schema place noneLine h stack after good e =
     judged-good place defaultResult stack after good (empty-good [] (λ _. empty-trie)) e
 apply-good items schema place (attr f) h [] after good e = refused-not 6 place after e
 apply-good items schema place (attr f) h (top ∷ stack) after good e =
     by-option (getOrHasAttr f (top .paths))
     (λ q. refused-not 7 place after (rw (q, attrStep) at e))
     (λ paths q. judged-good place (restored (top .trie) paths) stack after (good .1) (attr-good top f paths (good .0) h q) (rw (q, attrStep) at e))
-apply-good items schema place both h [] after good e = refused-not 6 place after e
-apply-good items schema place both h (y ∷ []) after good e = refused-not 6 place after e
-apply-good items schema place both h (y ∷ x ∷ stack) after good e =
+apply-good items schema place unionLine h [] after good e = refused-not 6 place after e
+apply-good items schema place unionLine h (y ∷ []) after good e = refused-not 6 place after e
+apply-good items schema place unionLine h (y ∷ x ∷ stack) after good e =
     judged-good place (unionResults x y) stack after (good .1 .1) (both-good x y (good .1 .0) (good .0)) e
-apply-good items schema place dropped h [] after good e = refused-not 6 place after e
-apply-good items schema place dropped h (top ∷ stack) after good e =
+apply-good items schema place dropLine h [] after good e = refused-not 6 place after e
+apply-good items schema place dropLine h (top ∷ stack) after good e =
     judged-good place (emptyPaths (top .trie)) stack after (good .1) (empty-good (top .trie) (λ _. good .0 .good-trie)) e
 apply-good items schema place (full t) h [] after good e =
     by-option (fromType t items)
@@ -1310,9 +1310,9 @@ apply-good items schema place (full t) h (top ∷ stack) after good e =
     judged-good place (emptyPaths (addTaken items (top .trie) taken)) stack after (good .1)
     (full-good items top t taken schema (good .0) p)
     (rw (q, fullStep, p, fullStep) at e)))
-apply-good items schema place inside h [] after good e = refused-not 6 place after e
-apply-good items schema place inside h (y ∷ []) after good e = refused-not 6 place after e
-apply-good items schema place inside h (y ∷ x ∷ stack) after good e =
+apply-good items schema place inLine h [] after good e = refused-not 6 place after e
+apply-good items schema place inLine h (y ∷ []) after good e = refused-not 6 place after e
+apply-good items schema place inLine h (y ∷ x ∷ stack) after good e =
     judged-good place (inResult x y) stack after (good .1 .1) (in-good x y (good .1 .0) (good .0)) e
 apply-good items schema place set h [] after good e = refused-not 6 place after e
 apply-good items schema place set h (top ∷ stack) after good e =

@@ -84,12 +84,12 @@ wrapped (name ∷ names) (top ∷ stack) = do
 -- The steps, one a line; the names of `rec` last first.
 pub data Step : Type 0 where
   root : ℕ → Step
-  nothing : Step
+  noneLine : Step
   attr : ℕ → Step
-  both : Step
-  dropped : Step
+  unionLine : Step
+  dropLine : Step
   full : ℕ → Step
-  inside : Step
+  inLine : Step
   set : Step
   rec : List ℕ → Step
 
@@ -110,10 +110,10 @@ recOf names = do
 -- a step of one word
 abbrev pub bareStep : List ℕ → Option Step
 bareStep word =
-    cond (isText (bytes "none") word) (some nothing)
-    (cond (isText (bytes "union") word) (some both)
-    (cond (isText (bytes "drop") word) (some dropped)
-    (cond (isText (bytes "in") word) (some inside)
+    cond (isText (bytes "none") word) (some noneLine)
+    (cond (isText (bytes "union") word) (some unionLine)
+    (cond (isText (bytes "drop") word) (some dropLine)
+    (cond (isText (bytes "in") word) (some inLine)
     (cond (isText (bytes "set") word) (some set) (cond (isText (bytes "rec") word) (some (rec [])) none)))))
 
 -- a step of a word and a field: '`var` p/a/r/c, `lit` id', `attr` f, `full` t, or `rec` of one name
@@ -193,12 +193,12 @@ fullStep items t place (top ∷ stack) =
 
 unfoldable pub apply : List Item → ℕ → Step → List Result → Answer (List Result)
 apply items place (root r) stack = judged place (fromRoot r) stack
-apply items place nothing stack = judged place defaultResult stack
+apply items place noneLine stack = judged place defaultResult stack
 apply items place (attr f) stack = attrStep place f stack
-apply items place both stack = twoStep unionResults place stack
-apply items place dropped stack = dropStep place stack
+apply items place unionLine stack = twoStep unionResults place stack
+apply items place dropLine stack = dropStep place stack
 apply items place (full t) stack = fullStep items t place stack
-apply items place inside stack = twoStep inResult place stack
+apply items place inLine stack = twoStep inResult place stack
 apply items place set stack = setStep place stack
 apply items place (rec names) stack = recStep names place stack
 

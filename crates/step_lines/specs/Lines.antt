@@ -8,19 +8,19 @@ use lib.ListN.{length, drop}
 use Rattle.rules.specs.Text.{bytes}
 use Rattle.rules.specs.Tries.{stepOf, isRoot}
 use Rattle.rules.specs.Listing.{placeIn, _>>=_}
-use Rattle.rules.specs.Steps.{Step, root, nothing, attr, both, dropped, full, inside, set, rec}
+use Rattle.rules.specs.Steps.{Step, root, noneLine, attr, unionLine, dropLine, full, inLine, set, rec}
 use Rattle.step_lines.specs.declared.Step.{Step as StepRead}
 use Rattle.step_lines.specs.declared.Step.the-variants.{Root, None, Attr, Union, Drop, Full, In, Set, Rec, Bad}
 
 -- the step of a line, if it is one; the names of `rec` stand at the end of 32, last first
 abbrev pub stepRead : StepRead → List ℕ → Option Step
 stepRead (Root r) names = some (root r)
-stepRead None names = some nothing
+stepRead None names = some noneLine
 stepRead (Attr f) names = some (attr f)
-stepRead Union names = some both
-stepRead Drop names = some dropped
+stepRead Union names = some unionLine
+stepRead Drop names = some dropLine
 stepRead (Full t) names = some (full t)
-stepRead In names = some inside
+stepRead In names = some inLine
 stepRead Set names = some set
 stepRead (Rec count) names = some (rec (drop (32 - count) names))
 stepRead Bad names = none

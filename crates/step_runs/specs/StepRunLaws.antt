@@ -19,7 +19,7 @@ use Rattle.rules.specs.Listing.{read}
 use Rattle.rules.specs.ListingLaws.{refused-not}
 use Rattle.rules.specs.Schema.{Item, fromType}
 use Rattle.rules.specs.Paths.{getOrHasAttr, fullTypeRequired, addTaken, RecordLiteral, SetLiteral}
-use Rattle.rules.specs.Steps.{Result, result, fromRoot, defaultResult, restored, unionResults, emptyPaths, inResult, wrapped, Step, root, nothing, attr, both, dropped, full, inside, set as setOf, rec, stepFrom, judged, attrStep, recStep, fullStep, apply, stepped, stepLine, run, ended}
+use Rattle.rules.specs.Steps.{Result, result, fromRoot, defaultResult, restored, unionResults, emptyPaths, inResult, wrapped, Step, root, noneLine, attr, unionLine, dropLine, full, inLine, set as setOf, rec, stepFrom, judged, attrStep, recStep, fullStep, apply, stepped, stepLine, run, ended}
 use Rattle.rules.specs.StepLaws.{Each, AllGood, GoodSchema, judged-accepted, step-good, apply-good}
 use Rattle.text.specs.Answers.{lineAt}
 use Rattle.text.proofs.Laws.{whole-line, cut-line}
@@ -55,17 +55,17 @@ pub apply-few :
     → length after ≤ 32
 unfolding apply
 apply-few items place (root r) stack after e = judged-few place (fromRoot r) stack after e
-apply-few items place nothing stack after e = judged-few place defaultResult stack after e
+apply-few items place noneLine stack after e = judged-few place defaultResult stack after e
 apply-few items place (attr f) [] after e = refused-not 6 place after e
 apply-few items place (attr f) (top ∷ stack) after e =
     by-option (getOrHasAttr f (top .paths))
     (λ q. refused-not 7 place after (rw (q, attrStep) at e))
     (λ paths q. judged-few place (restored (top .trie) paths) stack after (rw (q, attrStep) at e))
-apply-few items place both [] after e = refused-not 6 place after e
-apply-few items place both (y ∷ []) after e = refused-not 6 place after e
-apply-few items place both (y ∷ x ∷ stack) after e = judged-few place (unionResults x y) stack after e
-apply-few items place dropped [] after e = refused-not 6 place after e
-apply-few items place dropped (top ∷ stack) after e = judged-few place (emptyPaths (top .trie)) stack after e
+apply-few items place unionLine [] after e = refused-not 6 place after e
+apply-few items place unionLine (y ∷ []) after e = refused-not 6 place after e
+apply-few items place unionLine (y ∷ x ∷ stack) after e = judged-few place (unionResults x y) stack after e
+apply-few items place dropLine [] after e = refused-not 6 place after e
+apply-few items place dropLine (top ∷ stack) after e = judged-few place (emptyPaths (top .trie)) stack after e
 apply-few items place (full t) [] after e =
     by-option (fromType t items)
     (λ q. refused-not 1 place after (rw (q, fullStep) at e))
@@ -77,9 +77,9 @@ apply-few items place (full t) (top ∷ stack) after e =
     by-option (fullTypeRequired items (top .paths) t)
     (λ p. refused-not 8 place after (rw (q, fullStep, p, fullStep) at e))
     (λ taken p. judged-few place (emptyPaths (addTaken items (top .trie) taken)) stack after (rw (q, fullStep, p, fullStep) at e)))
-apply-few items place inside [] after e = refused-not 6 place after e
-apply-few items place inside (y ∷ []) after e = refused-not 6 place after e
-apply-few items place inside (y ∷ x ∷ stack) after e = judged-few place (inResult x y) stack after e
+apply-few items place inLine [] after e = refused-not 6 place after e
+apply-few items place inLine (y ∷ []) after e = refused-not 6 place after e
+apply-few items place inLine (y ∷ x ∷ stack) after e = judged-few place (inResult x y) stack after e
 apply-few items place setOf [] after e = refused-not 6 place after e
 apply-few items place setOf (top ∷ stack) after e =
     judged-few place (result (top .trie) (SetLiteral (top .paths))) stack after e
