@@ -108,13 +108,13 @@ static inline uint64_t terbagyl_resource(void) { return (uint64_t)TERBAGYL_STEP_
 static inline uint64_t terbagyl_context(void) { return (uint64_t)TERBAGYL_STEP_CONTEXT << 16; }
 static inline uint64_t terbagyl_literal(uint16_t entity) { return ((uint64_t)TERBAGYL_STEP_LITERAL << 16) | entity; }
 
-/* A row of a contribution or manifest: an entry where its depth is 0, otherwise a node. Word 0 of the state is the count of rows. */
+/* A row of a contribution or manifest: an entry where its depth is 0, otherwise a node. Word 0 of the state is the count of rows. A node's
+ * type is 0 for none, t + 1 for type t, and 1,025 and 1,026 for the entity types of the entry's principal and resource. */
 static inline unsigned terbagyl_row_depth(uint64_t row) { return (unsigned)(row & 31); }
-static inline uint64_t terbagyl_row_request_type(uint64_t row) { return row >> 6; }          /* of an entry */
-static inline int terbagyl_row_is_marked(uint64_t row) { return (int)((row >> 5) & 1); }     /* of a node */
-static inline uint64_t terbagyl_row_step(uint64_t row) { return (row >> 6) & 0x7ffff; }      /* of a node */
-static inline unsigned terbagyl_row_type(uint64_t row) { return (unsigned)((row >> 25) & 0x7ff); } /* of a node: 0 for none, t + 1 for type t,
-                                                                                  1,025 and 1,026 for the entry's principal and resource type */
+static inline uint64_t terbagyl_row_request_type(uint64_t entry) { return entry >> 6; }
+static inline int terbagyl_row_is_marked(uint64_t node) { return (int)((node >> 5) & 1); }
+static inline uint64_t terbagyl_row_step(uint64_t node) { return (node >> 6) & 0x7ffff; }
+static inline unsigned terbagyl_row_type(uint64_t node) { return (unsigned)((node >> 25) & 0x7ff); }
 static inline unsigned terbagyl_step_kind(uint64_t step) { return (unsigned)(step >> 16); }
 static inline uint16_t terbagyl_step_id(uint64_t step) { return (uint16_t)step; }
 

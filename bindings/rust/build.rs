@@ -1,5 +1,6 @@
 //! Finds the static library, or has the Rattle kit build it: TERBAGYL_LIB names a folder with libentity_manifest.a; otherwise it is the
-//! repository's target/staticlib, and `rt staticlib entity_manifest` writes it there where it is missing.
+//! repository's target/staticlib, and `rt staticlib entity_manifest` writes it there where it is missing. One that is there is taken as it is,
+//! so run that command again where the Rattle source changed.
 
 use std::path::{Path, PathBuf};
 use std::process::{self, Command, Stdio};

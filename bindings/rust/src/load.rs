@@ -10,6 +10,13 @@ use crate::refusal::Refusal;
 use crate::value::{fields_of, rows_of, Entity, Value};
 
 /// A request: its type, who asks, for what, and the context.
+///
+/// ```
+/// use terbagyl::{Request, RequestType, Value};
+///
+/// let mut request = Request::new(RequestType::new(10, 500, 20), 701, 801);
+/// request.context.insert(1, Value::Entity(901));
+/// ```
 #[derive(Clone, Debug, PartialEq, Eq)]
 pub struct Request {
     /// Its type.
@@ -20,6 +27,13 @@ pub struct Request {
     pub resource: u16,
     /// The fields of the context by name.
     pub context: BTreeMap<u16, Value>,
+}
+
+impl Request {
+    /// The request of these with an empty context.
+    pub fn new(request_type: RequestType, principal: u16, resource: u16) -> Request {
+        Request { request_type, principal, resource, context: BTreeMap::new() }
+    }
 }
 
 /// A row of a batch: an entity, and the node that asks for it by its number among all nodes of the manifest.
@@ -97,11 +111,10 @@ pub mod turn {
 /// | [`turn::Ended`] | `slice` | |
 ///
 /// ```
-/// use std::collections::BTreeMap;
 /// use terbagyl::{Entity, Load, Manifest, Next, Refusal, Request, RequestType, Value};
 ///
 /// let manifest = Manifest::read("A\t10\t500\t20\nN\t1\tp\t0\t0\nN\t2\tf\t7\t0\nN\t1\te\t701\t0\n")?;
-/// let request = Request { request_type: RequestType::new(10, 500, 20), principal: 701, resource: 801, context: BTreeMap::new() };
+/// let request = Request::new(RequestType::new(10, 500, 20), 701, 801);
 /// let Next::Batch(load) = Load::begin(&manifest, &request)? else { panic!("nothing to ask for") };
 /// let load = load.ask();
 /// let asked: Vec<u16> = load.rows().iter().map(|row| row.entity).collect();
@@ -356,7 +369,7 @@ fn entities_of(words: &[u64]) -> BTreeMap<u16, Entity> {
 
 /// What a load asks: entities by their ids, and which of some ids are ancestors of an entity.
 ///
-/// A store that can fail, or that answers a whole batch at once, is asked through [`Load`] instead.
+/// [`load`] shows one. A store that can fail, or that answers a whole batch at once, is asked through [`Load`] instead.
 pub trait Store {
     /// The entity of an id, or `None` where there is none. An id may be asked for more than once, and the answers have to agree.
     fn entity(&mut self, id: u16) -> Option<Entity>;
@@ -368,7 +381,6 @@ pub trait Store {
 /// Runs a whole load against a store.
 ///
 /// ```
-/// use std::collections::BTreeMap;
 /// use terbagyl::{load, Entity, Manifest, Request, RequestType, Store, Value};
 ///
 /// /// Aray, 701, is in the clinic 901.
@@ -386,7 +398,7 @@ pub trait Store {
 ///
 /// // principal.7, and whether the principal is in 950
 /// let manifest = Manifest::read("A\t10\t500\t20\nN\t1\tp\t0\t0\nN\t2\tf\t7\t0\nN\t2\te\t950\t1\n")?;
-/// let request = Request { request_type: RequestType::new(10, 500, 20), principal: 701, resource: 801, context: BTreeMap::new() };
+/// let request = Request::new(RequestType::new(10, 500, 20), 701, 801);
 /// let slice = load(&manifest, &request, &mut Clinic)?;
 /// assert_eq!(slice.entities[&701], Entity::new([901, 950], [(7, Value::Primitive(1))]));
 /// assert_eq!((slice.batches, slice.rows), (1, 1));

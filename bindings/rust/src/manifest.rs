@@ -66,6 +66,15 @@ impl Contribution {
     }
 
     /// What either of two contributions to one request type reads.
+    ///
+    /// ```
+    /// use terbagyl::Contribution;
+    ///
+    /// let one = Contribution::read("A\t10\t500\t20\nN\t1\tp\t0\t0\n")?;
+    /// let other = Contribution::read("A\t10\t500\t20\nN\t1\tp\t0\t1\n")?;
+    /// assert_eq!(one.union(&other)?, other); // a mark stays
+    /// # Ok::<(), terbagyl::Refusal>(())
+    /// ```
     pub fn union(&self, other: &Contribution) -> Result<Contribution, Refusal> {
         let mut union = Buffer::new();
         raw::union_contributions(&self.0, &other.0, &mut union)?;
@@ -141,7 +150,21 @@ impl Manifest {
 
     /// Adds all contributions of a policy text; after a refusal the manifest is as it was.
     ///
-    /// The order in which texts are added, and how often, changes nothing: the listing is the same bytes.
+    /// Where all of some texts are accepted, they are in every order and with any of them repeated, and the listing is the same bytes.
+    ///
+    /// ```
+    /// use terbagyl::{Manifest, Refusal, Schema};
+    ///
+    /// let schema = Schema::read("")?;
+    /// let mut manifest = Manifest::new();
+    /// manifest.add_policy(&schema, "A\t10\t500\t20\nvar\tp\nattr\t7\n")?;
+    /// let before = manifest.clone();
+    /// // the second contribution is refused, and the first is not kept either
+    /// let refusal = manifest.add_policy(&schema, "A\t10\t501\t21\nvar\tr\nA\t10\t502\t21\nunion\n").unwrap_err();
+    /// assert_eq!((refusal.number, refusal.place), (Refusal::RESULTS, 3));
+    /// assert_eq!(manifest, before);
+    /// # Ok::<(), Refusal>(())
+    /// ```
     ///
     /// Takes up to about 2.2 MB of stack, where a text has very many paths: call it on a thread of 4 MiB (see the crate's page).
     pub fn add_policy(&mut self, schema: &Schema, text: impl AsRef<[u8]>) -> Result<(), Refusal> {

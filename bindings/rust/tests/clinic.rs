@@ -34,7 +34,7 @@ fn built(texts: &[&[u8]]) -> Manifest {
 
 /// Aray, 701, asks to open the fitting 801.
 fn request() -> Request {
-    Request { request_type: OPEN_FITTING, principal: 701, resource: 801, context: BTreeMap::new() }
+    Request::new(OPEN_FITTING, 701, 801)
 }
 
 /// Entities, and the ancestors of each.

@@ -27,7 +27,7 @@ fn refused<T>(answer: Result<T, impl Into<Refusal>>) -> (u64, u64) {
 fn asked(steps: &str) -> Load<turn::Answers> {
     let mut manifest = Manifest::new();
     manifest.add(&analysed(steps).unwrap()).unwrap();
-    let request = Request { request_type: OPEN_FITTING, principal: 701, resource: 801, context: BTreeMap::new() };
+    let request = Request::new(OPEN_FITTING, 701, 801);
     let Next::Batch(load) = Load::begin(&manifest, &request).unwrap() else { panic!("no batch") };
     load.ask()
 }
@@ -116,7 +116,7 @@ fn of_ancestors() {
 #[test]
 fn of_a_context() {
     let manifest = Manifest::read("A\t10\t500\t20\nN\t1\tc\t0\t0\nN\t2\tf\t1\t0\nN\t3\tf\t3\t0\n").unwrap();
-    let begun = |context| Load::begin(&manifest, &Request { request_type: OPEN_FITTING, principal: 1, resource: 2, context });
+    let begun = |context| Load::begin(&manifest, &Request { context, ..Request::new(OPEN_FITTING, 701, 801) });
     assert_eq!(refused(begun(BTreeMap::from([(1, Value::Primitive(0))]))), (Refusal::VALUE, 0));
     let many = |count: u16| (2..count + 2).map(|name| (name, Value::Primitive(0))).collect();
     assert!(begun(many(8_192)).is_ok());
