@@ -23,7 +23,7 @@ use Rattle.listing.specs.Outcomes.{writeIn}
 use Rattle.listing.specs.WriteLaws.{listing-fits}
 use Rattle.listing.specs.declared.whole.Written.the-variants.{Bytes}
 use Rattle.manifest.specs.Outcomes.{emptyIn, addIn}
-use Rattle.manifest.specs.AddLaws.{add-lawful}
+use Rattle.manifest.specs.UniteLaws.{unite-lawful}
 use Rattle.calls.specs.Calls.{leftBy, repliesBy, AllDone, replyOf, AllLent}
 use Rattle.calls.specs.StoringLaws.{called-reply, called-lent}
 
@@ -56,7 +56,7 @@ emptied out long = rw (le-leb 4161 (length out) long) (refl, stored-lent Manifes
 
 module _ (m c : List ℕ) (rows : List Row) (lent-m : Lent Manifest m rows) (lent-c : Lent Contribution c (rowsIn c)) where
   added : addIn m c ≡ storing m (add rows (rowsIn c))
-  added = rw (lent-m .has-rows) at (add-lawful m c (lent-m .long) (lent-c .long) (lent-m .lawful-state) (lent-c .lawful-state))
+  added = rw (lent-m .has-rows) at (unite-lawful Contribution m c (lent-m .long) (lent-c .long) (lent-m .lawful-state) (lent-c .lawful-state))
 
   kept : (more : List Row) → add rows (rowsIn c) ≡ accepted more → lawful manifest more ≡ true
   kept more e = rw e at (after-lawful rows (rowsIn c) (lent-lawful Manifest m rows lent-m) (lent-lawful Contribution c (rowsIn c) lent-c))

@@ -12,7 +12,7 @@ use Rattle.words.specs.Runs.{Outcome}
 use Rattle.words.specs.declared.Reply.the-variants.{Done}
 use Rattle.rows.specs.States.{rowsIn}
 use Rattle.schema.specs.Items.{itemsIn}
-use Rattle.manifest.specs.AddLaws.{same-reply}
+use Rattle.manifest.specs.UniteLaws.{same-reply}
 use Rattle.analysis.specs.Outcomes.{analyseIn}
 use Rattle.calls.specs.Calls.{AllDone, StepJob, Asked, AllRoomy, analysedBy, contributionsIn, analysesIn, AllLent}
 use Rattle.calls.specs.HandedLaws.{done-tested, tested-stores, steps-analysed}

@@ -1,3 +1,3 @@
 -- What the operations of `manifest` answer and leave, in the words of `rules`.
 pub mod Outcomes
-pub mod AddLaws
+pub mod UniteLaws

@@ -87,7 +87,7 @@ fn close(
         return Closed::Refused(6);
     }
     write_contribution(reading.request, tries, reading.stack.tries, contribution);
-    match EntityManifest::add_lawful(rows, contribution, united) {
+    match EntityManifest::unite_lawful(rows, contribution, united) {
         Reply::Done => Closed::Done,
         Reply::Refused(number, _) => Closed::Refused(number),
     }

@@ -13,8 +13,8 @@ use Rattle.manifest.proofs.unite.Tie as tie
 manifest-count : (c : tie.Start) → getD (c .args .manifest .now) 0 0 < length (c .args .manifest .now)
 manifest-count c = count-within _ _ (c .pre .0)
 
-contribution-count : (c : tie.Start) → getD (c .args .contribution .now) 0 0 < length (c .args .contribution .now)
-contribution-count c = count-within _ _ (c .pre .1)
+other-count : (c : tie.Start) → getD (c .args .other .now) 0 0 < length (c .args .other .now)
+other-count c = count-within _ _ (c .pre .1 .1)
 
 shared-slice-read-manifest-end : tie.Need-shared-slice-read-manifest-end
 shared-slice-read-manifest-end c = omega (arith, manifest-count (c .before .before .before .before))
@@ -22,11 +22,11 @@ shared-slice-read-manifest-end c = omega (arith, manifest-count (c .before .befo
 add-manifest-end : tie.Need-add-manifest-end
 add-manifest-end c = omega (arith, manifest-count (c .before .before .before .before), c .before .before .before .before)
 
-shared-slice-read-contribution-end : tie.Need-shared-slice-read-contribution-end
-shared-slice-read-contribution-end c = omega (arith, contribution-count (c .before .before .before .before .before))
+shared-slice-read-other-end : tie.Need-shared-slice-read-other-end
+shared-slice-read-other-end c = omega (arith, other-count (c .before .before .before .before .before))
 
-add-contribution-end : tie.Need-add-contribution-end
-add-contribution-end c = omega (arith, contribution-count (c .before .before .before .before .before), c .before .before .before .before .before)
+add-other-end : tie.Need-add-other-end
+add-other-end c = omega (arith, other-count (c .before .before .before .before .before), c .before .before .before .before .before)
 
 sub-union-rows : tie.Need-sub-union-rows
 sub-union-rows c = search needs
@@ -44,10 +44,10 @@ part-union-rows-start-2 : tie.Need-part-union-rows-start-2
 part-union-rows-start-2 c = search needs
 
 part-union-rows-end-2 : tie.Need-part-union-rows-end-2
-part-union-rows-end-2 c = omega (arith, contribution-count (c .before .before .before .before .before .before))
+part-union-rows-end-2 c = omega (arith, other-count (c .before .before .before .before .before .before))
 
 union-rows-requires : tie.Need-union-rows-requires
-union-rows-requires c κs = let pre = c .before .before .before .before .before .before .before .before .pre in (rw add-sub-cancel (words-good _ _ (pre .0)), rw add-sub-cancel (words-good _ _ (pre .1)), inl (pre .2))
+union-rows-requires c κs = let pre = c .before .before .before .before .before .before .before .before .pre in (rw add-sub-cancel (words-good _ _ (pre .0)), rw add-sub-cancel (words-good _ _ (pre .1 .1)), inl (pre .2))
 
 same-length : tie.Need-same-length
 same-length c = search needs
@@ -61,8 +61,8 @@ unite-spec =
     (tie.spec
     shared-slice-read-manifest-end
     add-manifest-end
-    shared-slice-read-contribution-end
-    add-contribution-end
+    shared-slice-read-other-end
+    add-other-end
     sub-union-rows
     part-union-rows-start
     part-union-rows-end

@@ -46,10 +46,10 @@ lent-given c held =
     contributed-lent held (begun c) (start .pre .0 .0 .small) top only (start .args .contribution .now) (start .pre .1 .0)
     (c .write-contribution .ensures (top .trie) [] (only-there held (c .before .before .if2 .left)))
 
-add-lawful-requires : tie.Need-add-lawful-requires
-add-lawful-requires c κs =
+unite-lawful-requires : tie.Need-unite-lawful-requires
+unite-lawful-requires c κs =
     let pre = c .before .before .before .before .before .before .before .before .before .before .before .before .before .before .before .pre in
-    ((pre .0 .1 .lawful-state, lent-given (c .before .before .before .before .before) (pre .0 .0 .held) .lawful-state), (pre .0 .1 .long, pre .1 .1))
+    ((pre .0 .1 .lawful-state, (Contribution, lent-given (c .before .before .before .before .before) (pre .0 .0 .held) .lawful-state)), (pre .0 .1 .long, pre .1 .1))
 
 enum-told : tie.Need-enum-told
 enum-told c = search needs
@@ -70,7 +70,7 @@ returns-3 : tie.Need-returns-3
 returns-3 c =
     let start = c .before .before .before .before .before .before .before .before .before .before .before .before .before .before .before .before .before .before .before .before .before .before in
     let wrote = c .before .before .before .before .before .before .before .before .before .before .before .before in
-    let added = c .before .before .before .before .before .before .add-lawful in
+    let added = c .before .before .before .before .before .before .unite-lawful in
     λ code results held.
     let (top, only) = only-result held (wrote .before .before .if2 .left) in
     closed-added held (begun wrote) (start .pre .0 .0 .small) top only (start .args .rows .now) _ (start .pre .0 .1) (lent-given wrote held) (added .ensures .0) (added .ensures .1) (c .enum-told .given .1)
@@ -88,7 +88,7 @@ returns-4 : tie.Need-returns-4
 returns-4 c =
     let start = c .before .before .before .before .before .before .before .before .before .before .before .before .before .before .before .before .before .before .before .before .before .before .before in
     let wrote = c .before .before .before .before .before .before .before .before .before .before .before .before .before in
-    let added = c .before .before .before .before .before .before .before .add-lawful in
+    let added = c .before .before .before .before .before .before .before .unite-lawful in
     λ code results held.
     let (top, only) = only-result held (wrote .before .before .if2 .left) in
     closed-refused held (begun wrote) (start .pre .0 .0 .small) top only (start .args .rows .now) _ (start .pre .0 .1) (lent-given wrote held) (added .ensures .0) (added .ensures .1) (c .before .number .given .1)
@@ -100,7 +100,7 @@ close-spec =
     returns
     returns-2
     write-contribution-requires
-    add-lawful-requires
+    unite-lawful-requires
     enum-told
     enum-known-number
     same-length

@@ -1,7 +1,7 @@
 -- `manifest::EntityManifest::new` meets its contract: by the length.
 use borrow.Author.Needs.{needs}
 use Rattle.words.specs.RunLaws.{by-parts}
-use Rattle.manifest.specs.AddLaws.{empty-short, empty-long}
+use Rattle.manifest.specs.UniteLaws.{empty-short, empty-long}
 use Rattle.manifest.proofs.EntityManifest.new.Statement.{statement}
 use Rattle.manifest.proofs.EntityManifest.new.Tie as tie
 

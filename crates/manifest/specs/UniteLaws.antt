@@ -1,4 +1,4 @@
--- Laws of adding to a lent manifest and of copying rows. No contract cites this file.
+-- Laws of uniting a lent manifest in place and of copying rows. No contract cites this file.
 use Prim.Native.Nat.{ℕ, _≤_, _<_}
 use mathlib.Core.Path.{_≡_, refl, ap}
 use mathlib.Core.Bool.{true, false}
@@ -7,15 +7,16 @@ use native.Mathlib.Omega.{arith}
 use borrow.Author.Tests.{le-leb, lt-leb}
 use lib.ListN.{length, set}
 use Rattle.rules.specs.Numbers.{Answer, accepted, refused}
-use Rattle.rules.specs.Tries.{Row, manifest, contribution, entriesIn, nodesIn, union}
+use Rattle.rules.specs.Tries.{Row, manifest, entriesIn, nodesIn, union}
 use Rattle.rules.specs.Facts.{compared}
 use Rattle.rules.specs.Building.{add}
 use Rattle.rules.specs.Demand3.{refused-exactly}
-use Rattle.rows.specs.States.{rowsIn, lawfulState, storing}
+use Rattle.rows.specs.States.{formOf, wordsOf, lawfulState, storing}
+use Rattle.rows.specs.declared.Kind.{Kind}
 use Rattle.words.specs.Runs.{refusing}
 use Rattle.rows.specs.StateLaws.{all-rows}
 use Rattle.words.specs.declared.Reply.the-variants.{Done, Refused}
-use Rattle.manifest.specs.Outcomes.{emptyIn, addIn}
+use Rattle.manifest.specs.Outcomes.{emptyIn, unitedRows, unitedIn}
 
 -- ---- an empty manifest
 
@@ -27,30 +28,30 @@ pub empty-long : (out : List ℕ) → 4161 ≤ length out → emptyIn out ≡ re
 unfolding emptyIn
 empty-long out h = rw (le-leb 4161 (length out) h)
 
--- ---- adding, by what was tested
+-- ---- uniting in place, by what was tested
 
-module _ (m c : List ℕ) where
-  pub add-short-m : length m < 4161 → addIn m c ≡ refusing 31 0 m
-  unfolding addIn
-  add-short-m h = rw (lt-leb 4161 (length m) h)
+module _ (kind : Kind) (m other : List ℕ) where
+  pub unite-short-m : length m < 4161 → unitedIn kind m other ≡ refusing 31 0 m
+  unfolding unitedIn
+  unite-short-m h = rw (lt-leb 4161 (length m) h)
 
   module _ (long-m : 4161 ≤ length m) where
-    pub add-short-c : length c < 1026 → addIn m c ≡ refusing 31 0 m
-    unfolding addIn
-    add-short-c h = rw (le-leb 4161 (length m) long-m, lt-leb 1026 (length c) h)
+    pub unite-short-other : length other < wordsOf kind → unitedIn kind m other ≡ refusing 31 0 m
+    unfolding unitedIn
+    unite-short-other h = rw (le-leb 4161 (length m) long-m, lt-leb (wordsOf kind) (length other) h)
 
-    module _ (long-c : 1026 ≤ length c) where
-      pub add-unlawful-m : lawfulState manifest m ≡ false → addIn m c ≡ refusing 1 0 m
-      unfolding addIn
-      add-unlawful-m e = rw (le-leb 4161 (length m) long-m, le-leb 1026 (length c) long-c, e)
+    module _ (long-other : wordsOf kind ≤ length other) where
+      pub unite-unlawful-m : lawfulState manifest m ≡ false → unitedIn kind m other ≡ refusing 1 0 m
+      unfolding unitedIn
+      unite-unlawful-m e = rw (le-leb 4161 (length m) long-m, le-leb (wordsOf kind) (length other) long-other, e)
 
-      pub add-unlawful-c : lawfulState manifest m ≡ true → lawfulState contribution c ≡ false → addIn m c ≡ refusing 1 0 m
-      unfolding addIn
-      add-unlawful-c e f = rw (le-leb 4161 (length m) long-m, le-leb 1026 (length c) long-c, e, f)
+      pub unite-unlawful-other : lawfulState manifest m ≡ true → lawfulState (formOf kind) other ≡ false → unitedIn kind m other ≡ refusing 1 0 m
+      unfolding unitedIn
+      unite-unlawful-other e f = rw (le-leb 4161 (length m) long-m, le-leb (wordsOf kind) (length other) long-other, e, f)
 
-      pub add-lawful : lawfulState manifest m ≡ true → lawfulState contribution c ≡ true → addIn m c ≡ storing m (add (rowsIn m) (rowsIn c))
-      unfolding addIn
-      add-lawful e f = rw (le-leb 4161 (length m) long-m, le-leb 1026 (length c) long-c, e, f)
+      pub unite-lawful : lawfulState manifest m ≡ true → lawfulState (formOf kind) other ≡ true → unitedIn kind m other ≡ storing m (unitedRows m other)
+      unfolding unitedIn
+      unite-lawful e f = rw (le-leb 4161 (length m) long-m, le-leb (wordsOf kind) (length other) long-other, e, f)
 
 -- ---- what was united, copied
 
