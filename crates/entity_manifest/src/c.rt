@@ -4,7 +4,7 @@ ghost use mathlib.Core.Path.{_≡_};
 ghost use Rattle.union.specs.Unions.{unionOf};
 ghost use Rattle.rows.specs.States.{hasOf};
 ghost use Rattle.listing.specs.Outcomes.{readListingIn, writeIn};
-ghost use Rattle.manifest.specs.Outcomes.{emptyIn, addIn};
+ghost use Rattle.manifest.specs.Outcomes.{emptyIn, addIn, uniteIn};
 ghost use Rattle.schema_text.specs.Outcomes.{readSchemaIn};
 ghost use Rattle.analysis.specs.Outcomes.{analyseIn, addPolicyIn};
 ghost use Rattle.type_annotations.specs.Outcomes.{typedIn};
@@ -81,6 +81,18 @@ pub extern "C" fn terbagyl_add(manifest: &mut [u64], contribution: &[u64], value
     ensures { λ r. ⌜ ToldAs (addIn (now (manifest .entry)) (now (contribution .entry))) r (now (value .exit)) (now (manifest .exit)) ⌝ }
 {
     tell(crate::add(manifest, contribution), value)
+}
+
+// Makes a manifest its union with another one.
+#[no_mangle]
+pub extern "C" fn terbagyl_unite_manifests(
+    manifest: &mut [u64],
+    other: &[u64],
+    value: &mut u64,
+) -> u64
+    ensures { λ r. ⌜ ToldAs (uniteIn (now (manifest .entry)) (now (other .entry))) r (now (value .exit)) (now (manifest .exit)) ⌝ }
+{
+    tell(crate::unite_manifests(manifest, other), value)
 }
 
 // The union of two manifests in a third.

@@ -7,7 +7,7 @@ ghost use mathlib.Core.Path.{_≡_};
 ghost use Rattle.union.specs.Unions.{unionOf};
 ghost use Rattle.rows.specs.States.{hasOf};
 ghost use Rattle.listing.specs.Outcomes.{readListingIn, writeIn};
-ghost use Rattle.manifest.specs.Outcomes.{emptyIn, addIn};
+ghost use Rattle.manifest.specs.Outcomes.{emptyIn, addIn, uniteIn};
 ghost use Rattle.schema_text.specs.Outcomes.{readSchemaIn};
 ghost use Rattle.analysis.specs.Outcomes.{analyseIn, addPolicyIn};
 ghost use Rattle.type_annotations.specs.Outcomes.{typedIn};
@@ -36,6 +36,13 @@ pub fn add(manifest: &mut [u64], contribution: &[u64]) -> Reply
     ensures { λ r. ⌜ (r ≡ addIn (now (manifest .entry)) (now (contribution .entry)) .reply) × (now (manifest .exit) ≡ addIn (now (manifest .entry)) (now (contribution .entry)) .buffer) ⌝ }
 {
     EntityManifest::add(manifest, contribution)
+}
+
+// Makes a manifest its union with another one; a refusal leaves it as it was.
+pub fn unite_manifests(manifest: &mut [u64], other: &[u64]) -> Reply
+    ensures { λ r. ⌜ (r ≡ uniteIn (now (manifest .entry)) (now (other .entry)) .reply) × (now (manifest .exit) ≡ uniteIn (now (manifest .entry)) (now (other .entry)) .buffer) ⌝ }
+{
+    EntityManifest::unite_manifests(manifest, other)
 }
 
 // The union of two contributions, or of two manifests, in a third.
