@@ -185,6 +185,20 @@ impl Manifest {
         raw::add(&mut self.0, &contribution.0)
     }
 
+    /// Adds all that another manifest reads; after a refusal the manifest is as it was.
+    ///
+    /// ```
+    /// use terbagyl::Manifest;
+    ///
+    /// let mut manifest = Manifest::read("A\t10\t500\t20\n")?;
+    /// manifest.unite(&Manifest::read("A\t10\t501\t21\n")?)?;
+    /// assert_eq!(manifest.entries().count(), 2);
+    /// # Ok::<(), terbagyl::Refusal>(())
+    /// ```
+    pub fn unite(&mut self, other: &Manifest) -> Result<(), Refusal> {
+        raw::unite_manifests(&mut self.0, &other.0)
+    }
+
     /// What either of two manifests reads. Where both have a node, this one's type stays.
     ///
     /// ```

@@ -20,6 +20,7 @@ pub const SLICE: usize = 12_289;
 extern "C" {
     fn terbagyl_empty_manifest(manifest: *mut u64, manifest_len: usize, value: *mut u64) -> u64;
     fn terbagyl_add(manifest: *mut u64, manifest_len: usize, contribution: *const u64, contribution_len: usize, value: *mut u64) -> u64;
+    fn terbagyl_unite_manifests(manifest: *mut u64, manifest_len: usize, other: *const u64, other_len: usize, value: *mut u64) -> u64;
     fn terbagyl_union_manifests(
         left: *const u64, left_len: usize, right: *const u64, right_len: usize, out: *mut u64, out_len: usize, value: *mut u64,
     ) -> u64;
@@ -101,6 +102,10 @@ pub fn empty_manifest(manifest: &mut [u64; MANIFEST]) -> Result<(), Refusal> {
 
 pub fn add(manifest: &mut [u64; MANIFEST], contribution: &[u64; CONTRIBUTION]) -> Result<(), Refusal> {
     told(|value| unsafe { terbagyl_add(manifest.as_mut_ptr(), MANIFEST, contribution.as_ptr(), CONTRIBUTION, value) }).map(drop)
+}
+
+pub fn unite_manifests(manifest: &mut [u64; MANIFEST], other: &[u64; MANIFEST]) -> Result<(), Refusal> {
+    told(|value| unsafe { terbagyl_unite_manifests(manifest.as_mut_ptr(), MANIFEST, other.as_ptr(), MANIFEST, value) }).map(drop)
 }
 
 pub fn union_manifests(left: &[u64; MANIFEST], right: &[u64; MANIFEST], out: &mut [u64; MANIFEST]) -> Result<(), Refusal> {
