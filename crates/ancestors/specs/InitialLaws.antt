@@ -12,15 +12,15 @@ use Rattle.rules.specs.Tries.{Row, ids}
 use Rattle.rules.specs.Loading.{done, Request, EntityRequest, Event, Wanted, entityNamed, atRoots, initialEntities, batchOf, _then_, takeEvents}
 use Rattle.rules.specs.WalkRows.{remainingRows}
 use Rattle.rows.specs.States.{rowsOf}
-use Rattle.values.specs.ValueWords.{valueRowsOf, rowAsked}
+use Rattle.values.specs.ValueWords.{valueRowsOf, rowAsked, requestWord}
 use Rattle.words.specs.Runs.{Wrote}
 use Rattle.words.specs.RunLaws.{wrote-length}
-use Rattle.row_walk.specs.Batches.{requestWord, yields, BatchWritten}
+use Rattle.row_walk.specs.Batches.{yields, BatchWritten}
 use Rattle.row_walk.specs.Initial.{requestWith as requestOf, asksAt, ContextAt}
 use Rattle.row_walk.specs.InitialLaws.{initial-rows}
 use Rattle.row_walk.specs.declared.initial.Request.{Request as Asked}
 use Rattle.row_walk.specs.YieldLaws.{yields-append, batch-length}
-use Rattle.row_walk.specs.SmallLaws.{SmallRows, small-roots, batch-small, request-again}
+use Rattle.row_walk.specs.SmallLaws.{SmallRows, small-roots, batch-small, rows-again}
 use Rattle.row_walk.specs.declared.batch.Batch.the-variants.{To as BatchTo}
 use Rattle.ancestors.specs.Sets.{IsSet}
 use Rattle.slices.specs.Slices.{rowsAsked}
@@ -29,12 +29,6 @@ use Rattle.ancestors.specs.declared.set.AncestorSet.{AncestorSet}
 use Rattle.ancestors.specs.declared.events.Next.the-variants.{To, Refused}
 use Rattle.ancestors.specs.declared.events.Taken.{Taken}
 use Rattle.ancestors.specs.TakingLaws.{take-append, takes-same, takes-refused, takes-then}
-
--- rows are read back from their words
-rows-again : (rows : List EntityRequest) → SmallRows rows → rowsAsked (map requestWord rows) ≡ rows
-unfolding SmallRows
-rows-again [] h = refl
-rows-again (row ∷ rows) h = let (id, node) = request-again row (h .0) in rw (id, node, rows-again rows (h .1))
 
 -- words that are written behind the rows that wait
 taken-more : (out : List ℕ) (at : ℕ) (words : List ℕ) → at + length words ≤ length out → take (at + length words) (sets out at words) ≡ take at out ++ words

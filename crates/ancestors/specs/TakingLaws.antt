@@ -23,7 +23,7 @@ use Rattle.row_walk.specs.ScanLaws.{rows-left}
 use Rattle.row_walk.specs.Meetings.{going, metThen, Meets}
 use Rattle.row_walk.specs.Batches.{yields}
 use Rattle.row_walk.specs.BatchLaws.{yields-ids, remaining-past}
-use Rattle.row_walk.specs.SmallLaws.{request-again}
+use Rattle.values.specs.ValueWordLaws.{request-again}
 use Rattle.row_walk.specs.declared.walk.Meeting.{Meeting}
 use Rattle.row_walk.specs.declared.walk.Met.{Met}
 use Rattle.row_walk.specs.declared.walk.Met.the-variants.{Row as RowMet, Ids, Bad, End}
@@ -137,7 +137,7 @@ pub waits-more : (out : List ℕ) (at e node : ℕ) → at < length out → e < 
 waits-more out at e node room small =
     rw (add-one, take-suc-set out at (e + node * ids) room)
     (map-append rowAsked (take at out) ((e + node * ids) ∷ [])
-    ∙ (let (id, place) = request-again (record { id = e; node = node }) small in rw (id, place)))
+    ∙ rw (request-again (record { id = e; node = node }) small))
 
 -- What is met so far is taken: the rest of what is met says what the whole comes to, and there is room for its rows.
 pub record Taking

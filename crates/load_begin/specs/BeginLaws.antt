@@ -12,7 +12,7 @@ use lib.Seq.{drop-cons}
 use borrow.Author.Tests.{eq-eqb, ne-eqb, eqb-false, ltb-true, leb-true, not-true}
 use Rattle.rules.specs.Tries.{Row, manifest, ordered, entriesIn, nodesIn}
 use Rattle.rules.specs.ValueRowTests.{lawfulValueRows}
-use Rattle.values.specs.ValueWords.{valueRowsOf}
+use Rattle.values.specs.ValueWords.{valueRowsOf, requestWord}
 use Rattle.rules.specs.Listing.{read}
 use Rattle.rules.specs.Loading.{LoadAnswer, done, refusedAt, Request, EntityRequest, Load, loadBegun, batchOf, initialEntities, counted, _then_}
 use Rattle.rules.specs.LoadCalls.{Entry, entryFor, ended, transcript, beginLoad, turnFor}
@@ -21,7 +21,7 @@ use Rattle.rows.specs.Words.{depthIn, markIn, stepIn, isWord, wordOf}
 use Rattle.rows.specs.WordLaws.{entry-word, all-words-cons, word-at, words-rows}
 use Rattle.rows.specs.States.{allWords, lawfulState, rowsIn, rowsOf}
 use Rattle.rows.specs.StateLaws.{rows-lawful}
-use Rattle.row_walk.specs.Batches.{requestWord, BatchWritten}
+use Rattle.row_walk.specs.Batches.{BatchWritten}
 use Rattle.row_walk.specs.declared.batch.Batch.{Batch}
 use Rattle.row_walk.specs.declared.batch.Batch.the-variants.{To, Bad}
 use Rattle.batches.specs.Replays.{firstLoad}

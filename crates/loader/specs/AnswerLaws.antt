@@ -16,7 +16,7 @@ use Rattle.rules.specs.Loading.{LoadAnswer, done, refusedAt, counted, _then_, E
 use Rattle.rules.specs.LoadCalls.{turnFor, isSummed}
 use Rattle.rows.specs.Words.{rowIn}
 use Rattle.rows.specs.States.{rowsOf}
-use Rattle.row_walk.specs.Batches.{requestWord}
+use Rattle.values.specs.ValueWords.{requestWord}
 use Rattle.answers.specs.Answers.{ReadItem, readItem, readFrom, AllRead, lentFrom, lentItems, itemAt, PlacedAt}
 use Rattle.answers.specs.LentLaws.{joined, all-joined, all-summed, any-place}
 use Rattle.answers.specs.declared.Lending.the-variants.{Answers}

@@ -16,8 +16,7 @@ use Rattle.rules.specs.Trips.{EachOf, and-each, Primary, nodesAsked}
 use Rattle.rules.specs.Loading.{done, refusedAt, EntityRequest, Load, tripsFor}
 use Rattle.rules.specs.LoadCalls.{batchWaits, handBatch}
 use Rattle.words.specs.SeqLaws.{sets-snoc}
-use Rattle.values.specs.ValueWords.{rowAsked}
-use Rattle.row_walk.specs.Batches.{requestWord}
+use Rattle.values.specs.ValueWords.{rowAsked, requestWord}
 use Rattle.batches.specs.ReplayLaws.{trips-some}
 use Rattle.load_state.specs.LoadStates.{loadWords}
 use Rattle.load_state.specs.Transcripts.{turnIn, transcriptIn, lentLoad, CameTo}

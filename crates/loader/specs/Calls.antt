@@ -7,7 +7,7 @@ use lib.ListN.{length, take, getD}
 use lib.Seq.{sets}
 use Rattle.rules.specs.Loading.{LoadAnswer, done, refusedAt, counted, _then_, EntityRequest, Load}
 use Rattle.rules.specs.LoadCalls.{turnFor, Called, outOfTurn, handBatch, takeBatch}
-use Rattle.row_walk.specs.Batches.{requestWord}
+use Rattle.values.specs.ValueWords.{requestWord}
 use Rattle.answers.specs.declared.Lending.the-variants.{Answers}
 use Rattle.load_state.specs.LoadStates.{loadWords, turnNumber, answerWords}
 use Rattle.load_state.specs.Transcripts.{transcriptIn, lentLoad}

@@ -17,13 +17,13 @@ use Rattle.rules.specs.Loading.{EntityRequest, Event, yielded, bad, batchOf}
 use Rattle.rules.specs.WalkRows.{walkRows, remainingRows}
 use Rattle.rows.specs.Words.{rowIn, depthIn}
 use Rattle.rows.specs.States.{rowsOf}
-use Rattle.values.specs.ValueWords.{valueRowsOf}
+use Rattle.values.specs.ValueWords.{valueRowsOf, requestWord}
 use Rattle.words.specs.Runs.{Wrote}
 use Rattle.words.specs.RunLaws.{wrote-length, wrote-ended}
 use Rattle.row_walk.specs.RowWalks.{ancestorsAt}
 use Rattle.row_walk.specs.ScanLaws.{rows-left}
 use Rattle.row_walk.specs.Meetings.{going, metThen, Meets}
-use Rattle.row_walk.specs.Batches.{requestWord, metBelow, yields, BatchWritten}
+use Rattle.row_walk.specs.Batches.{metBelow, yields, BatchWritten}
 use Rattle.row_walk.specs.declared.batch.Batch.the-variants.{To, Bad}
 use Rattle.row_walk.specs.declared.walk.Meeting.{Meeting}
 use Rattle.row_walk.specs.declared.walk.Met.{Met}

@@ -1,21 +1,16 @@
 -- A batch as words, and what writing it leaves.
-use Prim.Native.Nat.{ℕ, suc, _+_, _*_}
+use Prim.Native.Nat.{ℕ, suc}
 use mathlib.Core.Path.{_≡_}
 use mathlib.Core.List.{List, [], _∷_, map}
 use mathlib.Core.Option.{Option, none, some}
 use lib.ListN.{length, take, drop}
-use Rattle.rules.specs.Tries.{ids}
 use Rattle.rules.specs.Loading.{EntityRequest, Event, yielded, ancestor, bad}
 use Rattle.rules.specs.WalkRows.{walkRows}
 use Rattle.rows.specs.States.{rowsOf}
-use Rattle.values.specs.ValueWords.{valueRowsOf}
+use Rattle.values.specs.ValueWords.{valueRowsOf, requestWord}
 use Rattle.words.specs.Runs.{Wrote}
 use Rattle.row_walk.specs.declared.batch.Batch.{Batch}
 use Rattle.row_walk.specs.declared.batch.Batch.the-variants.{To, Bad}
-
--- the word of a row that is asked for
-abbrev pub requestWord : EntityRequest → ℕ
-requestWord row = row .id + row .node * ids
 
 -- what the rows below a depth meet, from a row on, looked up among the words of values
 abbrev pub metBelow : List ℕ → ℕ → ℕ → List ℕ → List Event

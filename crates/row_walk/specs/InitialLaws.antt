@@ -18,11 +18,11 @@ use Rattle.rules.specs.WalkRows.{MetRows, keptRowsAt, atNodeRows, walkRows, inC
 use Rattle.rules.specs.WalkRowLaws.{context-rows}
 use Rattle.rows.specs.Words.{rowIn, depthIn, stepIn}
 use Rattle.rows.specs.States.{rowsOf}
-use Rattle.values.specs.ValueWords.{valueRowsOf}
+use Rattle.values.specs.ValueWords.{valueRowsOf, requestWord}
 use Rattle.words.specs.Runs.{Wrote}
 use Rattle.words.specs.RunLaws.{wrote-length, wrote-more}
 use Rattle.row_walk.specs.ScanLaws.{rows-left}
-use Rattle.row_walk.specs.Batches.{requestWord, yields, BatchWritten}
+use Rattle.row_walk.specs.Batches.{yields, BatchWritten}
 use Rattle.row_walk.specs.BatchLaws.{inFront, Gathered, gathered-row, gathered-all, remaining-below, remaining-past}
 use Rattle.row_walk.specs.declared.batch.Batch.the-variants.{To, Bad}
 use Rattle.row_walk.specs.Initial.{requestWith, asksAt, ContextAt}

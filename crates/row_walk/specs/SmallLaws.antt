@@ -1,9 +1,9 @@
 -- Laws of ids: those that a walk over words of values meets are below 65,536. No contract cites this file.
-use Prim.Native.Nat.{ℕ, zero, suc, _-_, _/_, _%_, _<_}
+use Prim.Native.Nat.{ℕ, zero, suc, _-_, _<_}
 use native.Mathlib.Omega.{arith}
 use mathlib.Core.Path.{_≡_, refl}
 use mathlib.Core.Bool.{Bool, true, false, cond, _&&_, _||_}
-use mathlib.Core.List.{List, [], _∷_, _++_}
+use mathlib.Core.List.{List, [], _∷_, _++_, map}
 use mathlib.Core.Option.{Option, none, some}
 use lib.Dec.{leb, ltb, eqb}
 use lib.ListN.{take, drop}
@@ -27,8 +27,8 @@ use Rattle.rules.specs.WalkRows.{
   remainingRows,
   inContextRows,
 }
-use Rattle.values.specs.ValueWords.{valueRowsOf}
-use Rattle.row_walk.specs.Batches.{requestWord}
+use Rattle.values.specs.ValueWords.{valueRowsOf, rowAsked, requestWord}
+use Rattle.values.specs.ValueWordLaws.{request-again}
 use Rattle.row_walk.specs.Initial.{requestWith, asksAt}
 use Rattle.row_walk.specs.InitialLaws.{named-small, initial-rows}
 use Rattle.row_walk.specs.declared.initial.Request.{Request as Asked}
@@ -197,9 +197,11 @@ batch-small (yielded row ∷ events) rows e h =
 batch-small (ancestor x ∷ events) rows e h = batch-small events rows e (h .1)
 batch-small (bad ∷ events) rows e h = let z : _≡_ {A = ℕ} 0 1 = cc in absurd (omega arith)
 
--- so a batch is read back from its words
-pub request-again : (row : EntityRequest) → row .id < ids → (requestWord row % ids ≡ row .id) × (requestWord row / ids ≡ row .node)
-request-again row h = (omega arith, omega arith)
+-- so they are read back from their words
+pub rows-again : (rows : List EntityRequest) → SmallRows rows → map rowAsked (map requestWord rows) ≡ rows
+unfolding SmallRows
+rows-again [] h = refl
+rows-again (row ∷ rows) h = rw (request-again row (h .0), rows-again rows (h .1))
 
 -- ---- the first batch
 

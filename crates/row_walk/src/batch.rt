@@ -9,6 +9,7 @@ ghost use Rattle.row_walk.specs.Batches.{metBelow, yields, BatchWritten}
 use crate::walk::Met;
 use crate::walk::next_event;
 use rows::Row;
+use values::EntityRequest;
 
 // A batch: the place after its rows, or 14.
 pub enum Batch {
@@ -16,7 +17,7 @@ pub enum Batch {
     Bad,
 }
 
-// The rows below a depth, from a row on, looked up among values. A row that is found is one word: its entity id, and 65,536 times its node.
+// The rows below a depth, from a row on, looked up among values. A row that is found is one word.
 fn batch_below(
     nodes: &[u64],
     depth: u64,
@@ -41,7 +42,11 @@ fn batch_below(
         let met = meeting.met;
         match met {
             Met::Row(id) => {
-                out[at] = id + node as u64 * 0x1_0000;
+                let request = EntityRequest {
+                    id,
+                    node: node as u64,
+                };
+                out[at] = request.word();
                 at += 1;
             }
             Met::Ids(_, _) => {}

@@ -16,6 +16,7 @@ use crate::batch::find_remaining_entities;
 use rows::RequestType;
 use rows::Row;
 use rows::StepParts;
+use values::EntityRequest;
 
 // A request without its context: its type triple, principal and resource.
 pub struct Request {
@@ -121,7 +122,8 @@ pub fn ask_roots(
         }
         if asks(row, depth) {
             let id = entity_named(request, row.step());
-            out[at] = id + i as u64 * 0x1_0000;
+            let asked = EntityRequest { id, node: i as u64 };
+            out[at] = asked.word();
             at += 1;
         }
         i += 1;

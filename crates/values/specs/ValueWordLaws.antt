@@ -7,10 +7,11 @@ use mathlib.Core.Bool.{true, false}
 use lib.Dec.{eqb}
 use borrow.Author.Tests.{lt-ltb, le-ltb, le-leb, lt-leb}
 use Rattle.rules.specs.Facts.{compared}
-use Rattle.rules.specs.Tries.{Next, first, second, same}
+use Rattle.rules.specs.Tries.{Next, first, second, same, ids}
 use Rattle.rules.specs.ValueRows.{ValueRow, valueRow}
 use Rattle.rules.specs.ValueRowTests.{isValueRow, byNumber, byRow}
-use Rattle.values.specs.ValueWords.{depthFrom, keyFrom, kindFrom, numberFrom, valueRowIn, valueWord, unkeyedWord}
+use Rattle.rules.specs.Loading.{EntityRequest}
+use Rattle.values.specs.ValueWords.{depthFrom, keyFrom, kindFrom, numberFrom, valueRowIn, valueWord, unkeyedWord, rowAsked, requestWord}
 
 -- a word packs one row, and is that row's word
 pub word-again : (w : ℕ) → valueWord (valueRowIn w) ≡ w
@@ -102,3 +103,10 @@ unkeyed-word v w =
     ap (λ x. byRow x (unkeyedRow w)) (unkeyed-row v)
     ∙ ap (λ y. byRow (valueRowIn (unkeyedWord v)) y) (unkeyed-row w)
     ∙ row-word (unkeyedWord v) (unkeyedWord w)
+
+-- a row asked is read back from its word
+pub request-again : (row : EntityRequest) → row .id < ids → rowAsked (requestWord row) ≡ row
+request-again row small =
+    let id : requestWord row % ids ≡ row .id = omega arith in
+    let node : requestWord row / ids ≡ row .node = omega arith in
+    λ i. record { id = id i; node = node i }

@@ -37,3 +37,7 @@ valueRowsOf words = map valueRowIn words
 -- the row asked for that a word says: an entity, and its node
 abbrev pub rowAsked : ℕ → EntityRequest
 rowAsked w = record { id = w % ids; node = w / ids }
+
+-- the word of a row that is asked for
+abbrev pub requestWord : EntityRequest → ℕ
+requestWord row = row .id + row .node * ids

@@ -7,8 +7,7 @@ use mathlib.Core.List.{map}
 use borrow.Author.Needs.{needs}
 use lib.ListN.{length, take, getD, length-set}
 use lib.Seq.{sets, take-all}
-use Rattle.values.specs.ValueWords.{rowAsked}
-use Rattle.row_walk.specs.Batches.{requestWord}
+use Rattle.values.specs.ValueWords.{rowAsked, requestWord}
 use Rattle.loader.specs.Calls.{numbered}
 use Rattle.loader.specs.BatchLaws.{numbered-word, changed-next}
 use Rattle.loader.proofs.batch.write_batch.Statement.{statement}

@@ -39,20 +39,17 @@ inside : (c : tie.After-known-told Inv-loop μ-loop) →
     (c .before .before .before .before .next-event .result .node < length (s .args .nodes .now)) × (c .before .met .given .0 .0 < 65536) × (c .before .before .before .before .before .before .before .loop .at < length (s .args .out .now))
 inside c = row-inside (c .before .before .before .before .before .before .before .loop .inv) (c .before .before .before .before .next-event .ensures) (c .before .before .before .before .next-event .kept .1 .1 .1 .0) (c .before .met .given .1)
 
+word-requires : tie.Need-word-requires Inv-loop μ-loop
+word-requires c κs = (omega (arith, inside c), omega (arith, inside c))
+
 mul-out : tie.Need-mul-out Inv-loop μ-loop
-mul-out c = omega (arith, inside c)
-
-add-out : tie.Need-add-out Inv-loop μ-loop
-add-out c = omega (arith, inside c)
-
-mul-out-2 : tie.Need-mul-out-2 Inv-loop μ-loop
-mul-out-2 c = omega (arith, inside c)
+mul-out c = omega (arith, inside (c .before))
 
 slice-write-out : tie.Need-slice-write-out Inv-loop μ-loop
-slice-write-out c = omega (arith, inside c, gathering-length (c .before .before .before .before .before .before .before .loop .inv))
+slice-write-out c = omega (arith, inside (c .before), gathering-length (c .before .before .before .before .before .before .before .before .loop .inv))
 
 add-at : tie.Need-add-at Inv-loop μ-loop
-add-at c = omega (arith, inside c)
+add-at c = omega (arith, inside (c .before))
 
 enum-told : tie.Need-enum-told Inv-loop μ-loop
 enum-told c = search needs
@@ -86,7 +83,7 @@ again c =
     let meets = c .before .before .next-event .ensures in
     let same = c .before .before .next-event .kept .1 .1 .1 .0 in
     ⊎-elim
-    (λ w. rw (w .3, w .4) (gathering-row sofar meets same (w .1 .given .1)))
+    (λ w. rw (w .4, w .5, w .3 .ensures) (gathering-row sofar meets same (w .1 .given .1)))
     (λ w. rw (w .2, w .3) (gathering-ids sofar meets same (w .1 .given .1)))
     (c .match .came)
 
@@ -116,9 +113,8 @@ batch-below-spec =
     slice-aggregate-next-event
     next-event-requires
     enum-known-met
+    word-requires
     mul-out
-    add-out
-    mul-out-2
     slice-write-out
     add-at
     enum-told

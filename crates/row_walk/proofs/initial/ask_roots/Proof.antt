@@ -57,20 +57,17 @@ inside c =
       asking-room (c .before .before .before .before .before .before .before .before .loop .inv) (c .before .before .before .before .before .before .before .loop-test .taken) (omega arith) (sym (c .before .before .before .asks .ensures) ∙ c .before .before .if2 .taken),
     )
 
+word-requires : tie.Need-word-requires Inv-loop μ-loop
+word-requires c κs = (omega (arith, inside c), omega (arith, inside c))
+
 mul-out : tie.Need-mul-out Inv-loop μ-loop
-mul-out c = omega (arith, inside c)
-
-add-out : tie.Need-add-out Inv-loop μ-loop
-add-out c = omega (arith, inside c)
-
-mul-out-2 : tie.Need-mul-out-2 Inv-loop μ-loop
-mul-out-2 c = omega (arith, inside c)
+mul-out c = omega (arith, inside (c .before))
 
 slice-write-out : tie.Need-slice-write-out Inv-loop μ-loop
-slice-write-out c = omega (arith, inside c, asking-length (c .before .before .before .before .before .before .before .before .loop .inv))
+slice-write-out c = omega (arith, inside (c .before), asking-length (c .before .before .before .before .before .before .before .before .before .loop .inv))
 
 add-at : tie.Need-add-at Inv-loop μ-loop
-add-at c = omega (arith, inside c)
+add-at c = omega (arith, inside (c .before))
 
 add-i : tie.Need-add-i Inv-loop μ-loop
 add-i c = search needs
@@ -84,7 +81,7 @@ loop-again c =
     let more = c .before .before .before .before .before .loop-test .taken in
     let said = c .before .asks .ensures in
     ⊎-elim
-    (λ w. rw (w .3, w .4, w .2 .ensures, w .1 .ensures) (asking-row sofar more (omega arith) (sym said ∙ w .0 .taken)))
+    (λ w. rw (w .4, w .5, w .3 .ensures, w .2 .ensures, w .1 .ensures) (asking-row sofar more (omega arith) (sym said ∙ w .0 .taken)))
     (λ w. rw (w .1, w .2) (asking-other sofar more (omega arith) (sym said ∙ w .0 .left)))
     (c .if2 .came)
 
@@ -109,9 +106,8 @@ ask-roots-spec =
     asks-requires
     step-requires
     entity-named-requires
+    word-requires
     mul-out
-    add-out
-    mul-out-2
     slice-write-out
     add-at
     add-i
