@@ -39,13 +39,12 @@ use Rattle.rules.specs.SliceLaws.{answersTo, LoadOf, batch-slice, load-slice}
 use Rattle.rules.specs.TripLaws.{GoingLoad}
 use Rattle.rules.specs.TakeLaws.{takenBy, foundOr, allTakenBy, slicesAfter}
 use Rattle.rules.specs.WalkRows.{remainingRows}
-use Rattle.values.specs.ValueWords.{valueRowsOf, rowAsked}
+use Rattle.values.specs.ValueWords.{valueRowsOf, rowAsked, requestWord}
 use Rattle.answers.specs.Answers.{headIn}
 use Rattle.words.specs.Runs.{Wrote}
 use Rattle.words.specs.RunLaws.{wrote-length}
 use Rattle.row_walk.specs.BatchLaws.{take-sets}
-use Rattle.row_walk.specs.Batches.{requestWord}
-use Rattle.row_walk.specs.SmallLaws.{SmallRows, remaining-small, batch-small, request-again}
+use Rattle.row_walk.specs.SmallLaws.{SmallRows, remaining-small, batch-small, rows-again}
 use Rattle.merging.specs.MergeEntityLaws.{entityOf}
 use Rattle.batches.specs.Hearings.{heardAt, askedBefore, heardBefore, askedIn, heardIn, Standing, AllStand, mergesWith}
 use Rattle.batches.specs.HearingLaws.{standing-absent, standing-present}
@@ -287,14 +286,6 @@ all-small nodes asked before place (row ∷ rows) words (at ∷ places) found h 
     go (refusedAt number place) more small others e = let z : _≡_ {A = ℕ} 0 1 = cc in absurd (omega arith)
     go (counted expected got) more small others e = let z : _≡_ {A = ℕ} 0 1 = cc in absurd (omega arith)
 
-read-back : (rows : List EntityRequest) → SmallRows rows → map rowAsked (map requestWord rows) ≡ rows
-unfolding SmallRows
-read-back [] h = refl
-read-back (row ∷ rows) h =
-    let (id, node) = request-again row (h .0) in
-    let same : rowAsked (requestWord row) ≡ row = λ i. record { id = id i; node = node i } in
-    rw (same, read-back rows (h .1))
-
 -- rows that were written, read from there
 pub written-rows :
     (rows : List ℕ) (to : ℕ) (found : List EntityRequest) (rows′ : List ℕ) (end : ℕ)
@@ -309,7 +300,7 @@ written-rows rows to found rows′ end small wrote fits =
     wrote .text ∙ sets-eq xs rows to (omega (arith, wrote .after)) ∙ append-assoc (take to rows) xs (drop (to + length xs) rows) in
     let behind : drop to rows′ ≡ xs ++ drop (to + length xs) rows =
     rw stands (drop-at (take to rows) (xs ++ drop (to + length xs) rows) to (length-take-le to rows (omega (arith, wrote .after)))) in
-    rw (count, behind, take-at xs (drop (to + length xs) rows) (length xs) refl) (read-back found small)
+    rw (count, behind, take-at xs (drop (to + length xs) rows) (length xs) refl) (rows-again found small)
 
 -- One batch answered, where its sum is done.
 module _

@@ -19,7 +19,8 @@ use Rattle.rules.specs.TakeLaws.{foundOr, takenBy}
 use Rattle.words.specs.Runs.{Wrote}
 use Rattle.words.specs.RunLaws.{wrote-length}
 use Rattle.row_walk.specs.BatchLaws.{take-sets}
-use Rattle.row_walk.specs.Batches.{requestWord, BatchWritten}
+use Rattle.values.specs.ValueWords.{requestWord}
+use Rattle.row_walk.specs.Batches.{BatchWritten}
 use Rattle.row_walk.specs.declared.batch.Batch.{Batch}
 use Rattle.row_walk.specs.declared.batch.Batch.the-variants.{To as BatchTo, Bad}
 use Rattle.batches.specs.Hearings.{mergesWith}

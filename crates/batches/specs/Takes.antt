@@ -9,7 +9,7 @@ use Rattle.rules.specs.Loading.{LoadAnswer, done, refusedAt, counted, EntityReq
 use Rattle.rules.specs.SliceLaws.{LoadOf}
 use Rattle.rules.specs.TripLaws.{GoingLoad}
 use Rattle.words.specs.Runs.{Wrote}
-use Rattle.row_walk.specs.Batches.{requestWord}
+use Rattle.values.specs.ValueWords.{requestWord}
 use Rattle.batches.specs.Hearings.{askedBefore, askedIn, heardBefore}
 use Rattle.batches.specs.declared.taking.Taken.{Taken}
 use Rattle.batches.specs.declared.taking.Taken.the-variants.{To, Refused}

@@ -20,13 +20,12 @@ use Rattle.rules.specs.Loading.{LoadAnswer, done, refusedAt, counted, _then_, E
 use Rattle.rules.specs.LoadLaws.{rows-fit-so-far}
 use Rattle.rules.specs.MergeLaws.{GoodEntity}
 use Rattle.rules.specs.TakeLaws.{takenBy, allTakenBy, taken-append, taken-one, slicesAfter, takes-by}
-use Rattle.values.specs.ValueWords.{valueRowsOf, rowAsked}
+use Rattle.values.specs.ValueWords.{valueRowsOf, rowAsked, requestWord}
 use Rattle.answers.specs.Answers.{headIn}
 use Rattle.answers.specs.AnswerLaws.{set-ids}
 use Rattle.words.specs.Runs.{Wrote}
 use Rattle.words.specs.RunLaws.{wrote-length, wrote-more}
 use Rattle.row_walk.specs.BatchLaws.{take-sets}
-use Rattle.row_walk.specs.Batches.{requestWord}
 use Rattle.batches.specs.Hearings.{heardAt, askedBefore, heardBefore, askedIn, heardIn, Standing, AllStand}
 use Rattle.batches.specs.HearingLaws.{standing-absent, standing-present, all-stand}
 use Rattle.batches.specs.Takes.{StaysBefore, TakenInto, LoadAt}

@@ -9,6 +9,7 @@ ghost use Rattle.batches.specs.Hearings.{heardAt, Standing, AllStand, ag
 use answers::Head;
 use merging::Merged;
 use merging::merge_entities;
+use values::EntityRequest;
 
 // Whether the answers at two places merge; an absent one does with any. What is merged goes into scratch.
 fn agree(words: &[u64], left: usize, right: usize, scratch: &mut [u64]) -> bool
@@ -57,7 +58,7 @@ fn agrees_if_asked(
     requires { ⌜ Standing (now words) place × Standing (now words) at × (length (now words) + length (now words) ≤ length (now scratch)) ⌝ }
     ensures { λ r. ⌜ r ≡ agreesIfAsked id (rowAsked row) (heardAt (now (words .entry)) place) (heardAt (now (words .entry)) at) ⌝ }
 {
-    if row % 0x1_0000 == id {
+    if EntityRequest::of(row).id == id {
         return agree(words, place, at, scratch);
     }
     true

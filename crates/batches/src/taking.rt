@@ -12,6 +12,7 @@ use crate::merges::merges_with_earlier;
 use answers::Head;
 use row_walk::Batch;
 use row_walk::find_remaining_entities;
+use values::EntityRequest;
 
 // What is taken: the place after the rows that come of it, or a refusal with its place.
 pub enum Taken {
@@ -49,11 +50,12 @@ fn take_answer(
     let head = Head::of(word);
     let from = at + 1 + head.parents;
     let to = from + head.rows;
-    let node = (row / 0x1_0000) as usize;
+    let asked = EntityRequest::of(row);
+    let node = asked.node as usize;
     let Batch::To(next) = find_remaining_entities(nodes, node, &words[from..to], rows, end) else {
         return Taken::Refused(14, place);
     };
-    if merges_with_earlier(words, &rows[..i], &places[..i], row % 0x1_0000, at, scratch) {
+    if merges_with_earlier(words, &rows[..i], &places[..i], asked.id, at, scratch) {
         return Taken::To(next);
     }
     Taken::Refused(13, place)
