@@ -10,8 +10,8 @@ use Rattle.rules.specs.ValueRows.{attributeRows}
 use Rattle.rules.specs.ValueRowTestLaws.{read-run}
 use Rattle.rules.specs.Loading.{Loaded}
 use Rattle.values.specs.ValueWords.{valueRowsOf}
-use Rattle.slices.specs.Slices.{rowWords, headWord, sliceWords, FitsHead}
-use Rattle.answers.specs.Answers.{headIn, entityIn}
+use Rattle.slices.specs.Slices.{rowWords, sliceWords, FitsHead}
+use Rattle.answers.specs.Answers.{headIn, headWord, entityIn}
 use Rattle.ancestors.specs.SliceWords.{sliceOf, sliceIn}
 
 -- an entity whose head and rows are read back from their words

@@ -1,5 +1,5 @@
 -- Answers and sets of ancestor ids as words (docs/FORMS.md, 'Answers in' and 'Ancestors answers in'): a head, and words behind it.
-use Prim.Native.Nat.{ℕ, zero, suc, _+_, _/_, _%_, _^_, _≤_, _<_}
+use Prim.Native.Nat.{ℕ, zero, suc, _+_, _*_, _/_, _%_, _^_, _≤_, _<_}
 use mathlib.Core.Path.{_≡_}
 use mathlib.Core.Bool.{Bool, true, false, cond, _&&_}
 use mathlib.Core.List.{List, [], _∷_}
@@ -30,6 +30,10 @@ idSet least (id ∷ more) = let rest : Bool = idSet (suc id) more in cond (leb l
 -- an answer's head: 1 + 2^16 × parents + 2^32 × rows, or 0 where the entity is absent
 abbrev pub headIn : ℕ → Head
 headIn word = record { flag = word % 2 ^ 16; parents = word / 2 ^ 16 % 2 ^ 16; rows = word / 2 ^ 32 }
+
+-- the word of a head, by its parts
+abbrev pub headWord : ℕ → ℕ → ℕ → ℕ
+headWord flag parents rows = flag + parents * 2 ^ 16 + rows * 2 ^ 32
 
 -- an answer, or a set of ids, at the front of words, and how many words it takes
 pub record ReadItem (A : Type 0) : Type 0 where

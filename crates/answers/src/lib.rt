@@ -4,11 +4,12 @@ ghost use mathlib.Core.Path.{_≡_};
 ghost use Prim.Native.Nat.{_+_, _^_, _≤_, _<_};
 ghost use lib.ListN.{length};
 ghost use Rattle.rules.specs.Loading.{summed};
-ghost use Rattle.answers.specs.Answers.{headIn, idSet, lentFrom, lentItems, sizeOfItem, wordsBehind, AllRead, sumIn, PlacedAt, frontOf, checkedAs, isEntity, itemAt, answerAt, setAt, HasScratch};
+ghost use Rattle.answers.specs.Answers.{headIn, headWord, idSet, lentFrom, lentItems, sizeOfItem, wordsBehind, AllRead, sumIn, PlacedAt, frontOf, checkedAs, isEntity, itemAt, answerAt, setAt, HasScratch};
 use values::ValueRow;
 use values::is_lawful;
 
-// An answer's head: a flag, 1 for an entity, and how many parents and rows stand behind it. The word 0 is an absent entity.
+// A head: a flag, and how many parents and rows stand behind it. An answer's flag is 1, and the word 0 is an absent entity; in a slice the
+// flag is the entity's id.
 pub struct Head {
     pub flag: u64,
     pub parents: usize,
@@ -48,6 +49,13 @@ impl Head {
             parents: (word / 0x1_0000 % 0x1_0000) as usize,
             rows: (word / 0x1_0000_0000) as usize,
         }
+    }
+
+    pub fn word(self) -> u64
+        requires { ⌜ (self .flag < 2 ^ 16) × (self .parents < 2 ^ 16) × (self .rows < 2 ^ 32) ⌝ }
+        ensures { λ r. ⌜ r ≡ headWord (self .flag) (self .parents) (self .rows) ⌝ }
+    {
+        self.flag + self.parents as u64 * 0x1_0000 + self.rows as u64 * 0x1_0000_0000
     }
 }
 

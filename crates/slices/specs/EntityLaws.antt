@@ -13,7 +13,8 @@ use Rattle.rules.specs.SliceLaws.{withMore}
 use Rattle.words.specs.Runs.{Wrote}
 use Rattle.words.specs.RunLaws.{wrote-length, wrote-more}
 use Rattle.words.specs.SeqLaws.{set-before}
-use Rattle.slices.specs.Slices.{parentCount, parentsAt, entityAt, EntityStands, answersFor, rowWords, headWord, entityWords, idsFor}
+use Rattle.answers.specs.Answers.{headWord}
+use Rattle.slices.specs.Slices.{parentCount, parentsAt, entityAt, EntityStands, answersFor, rowWords, entityWords, idsFor}
 use Rattle.slices.specs.Writing.{FirstAnswer, rowsIn, entitySizes, RowsFit, MayUniteAll, ParentsFit, EntityFit, EntityWritten}
 use Rattle.slices.specs.HeardLaws.{stands-good}
 use Rattle.slices.specs.WriteLaws.{all-parents, parents-count, wrote-back, wrote-over}

@@ -18,7 +18,7 @@ use Rattle.rules.specs.SliceLaws.{answersTo, SliceOf, idsTo}
 use Rattle.words.specs.Runs.{Wrote}
 use Rattle.values.specs.ValueWords.{valueRowsOf, valueWord, rowAsked}
 use Rattle.merging.specs.MergeEntityLaws.{entityOf}
-use Rattle.answers.specs.Answers.{headIn, idSet}
+use Rattle.answers.specs.Answers.{headIn, headWord, idSet}
 use Rattle.slices.specs.declared.Built.{Built}
 use Rattle.slices.specs.declared.NextEntity.{NextEntity}
 use Rattle.slices.specs.declared.NextEntity.the-variants.{Entity as Next, Ended}
@@ -107,9 +107,6 @@ nextAsked least (row ∷ rows) (answer ∷ answers) = nearer least (row .id) ans
 
 abbrev pub rowWords : Entity → List ℕ
 rowWords value = map valueWord (attributeRows 1 (value .attributes))
-
-abbrev pub headWord : ℕ → ℕ → ℕ → ℕ
-headWord id parents rows = id + parents * 2 ^ 16 + rows * 2 ^ 32
 
 abbrev pub entityWords : ℕ → Entity → List ℕ
 entityWords id value = headWord id (length (value .parents)) (length (rowWords value)) ∷ (value .parents ++ rowWords value)

@@ -12,11 +12,11 @@ ghost use Rattle.words.specs.Runs.{Wrote};
 ghost use Rattle.values.specs.ValueWords.{valueRowsOf, valueWord};
 ghost use Rattle.slices.specs.Slices.{parentCount, rowCount, rowsAt, answersFor, rowWords, EntityStands, Heard, idsFor};
 ghost use Rattle.slices.specs.Writing.{asksFor, AnswerFound, MayMerge, RowsFit, rowsIn, ParentsFit, EntityFit, EntityWritten};
-use crate::IDS;
 use crate::ids::add_ancestors;
 use answers::Head;
 use merging::Merged;
 use merging::merge_values;
+use values::EntityRequest;
 use words::copy_words;
 
 // The next row that asks for an entity and has an answer, if there is one.
@@ -29,7 +29,7 @@ enum NextAnswer {
 fn asks_for(row: u64, head: u64, entity: u64) -> bool
     ensures { λ r. ⌜ r ≡ asksFor row head entity ⌝ }
 {
-    if row % IDS == entity {
+    if EntityRequest::of(row).id == entity {
         return head != 0;
     }
     false
@@ -181,6 +181,11 @@ pub fn write_entity(
     );
     let from = start + parents;
     let size = write_rows(words, rows, places, entity, out, from, scratch);
-    out[to] = entity + parents as u64 * 0x1_0000 + size as u64 * 0x1_0000_0000;
+    let head = Head {
+        flag: entity,
+        parents,
+        rows: size,
+    };
+    out[to] = head.word();
     from + size
 }

@@ -13,6 +13,7 @@ ghost use Rattle.rules.specs.SliceLaws.{SliceOf};
 ghost use Rattle.slices.specs.Slices.{rowsAsked, answersIn, nearer as nearerOf, nextAsked, Heard, setsIn, SliceFit, WroteSlice};
 use entity::write_entity;
 pub use ids::union_ids;
+use values::EntityRequest;
 
 // The next entity of a slice, if there is one.
 pub enum NextEntity {
@@ -58,7 +59,7 @@ pub fn next_entity(words: &[u64], rows: &[u64], places: &[u64], least: u64) -> N
     while 0 < k {
         k -= 1;
         let place = places[k] as usize;
-        best = nearer(best, least, rows[k] % IDS, words[place]);
+        best = nearer(best, least, EntityRequest::of(rows[k]).id, words[place]);
     }
     best
 }

@@ -2,7 +2,7 @@
 -- Assumes nothing.
 use native.Mathlib.Omega.{arith}
 use Prim.Native.Nat.{_-_, _<_}
-use mathlib.Core.Path.{_≡_}
+use mathlib.Core.Path.{_≡_, sym}
 use lib.ListN.{length, getD}
 use borrow.Author.Needs.{needs}
 use Rattle.slices.specs.NextLaws.{NearestFrom, nearest-none, nearest-next}
@@ -40,17 +40,20 @@ shared-slice-read-place c =
       c .before .before .before .before .before .before .pre .as-many,
     )
 
+mul-of : tie.Need-mul-of Inv-loop μ-loop
+mul-of c = search needs
+
+shared-slice-read-of : tie.Need-shared-slice-read-of Inv-loop μ-loop
+shared-slice-read-of c = omega (arith, c .before .before .before .loop .inv .inside, c .before .before .loop-test .taken)
+
+of-requires : tie.Need-of-requires Inv-loop μ-loop
+of-requires c κs = search needs
+
 mul-nearer : tie.Need-mul-nearer Inv-loop μ-loop
-mul-nearer c = search needs
+mul-nearer c = omega (arith, inside (c .before .before .before), c .before .before .before .before .before .before .before .before)
 
 shared-slice-read-nearer : tie.Need-shared-slice-read-nearer Inv-loop μ-loop
-shared-slice-read-nearer c = omega (arith, c .before .before .before .loop .inv .inside, c .before .before .loop-test .taken)
-
-mul-nearer-2 : tie.Need-mul-nearer-2 Inv-loop μ-loop
-mul-nearer-2 c = omega (arith, inside (c .before .before), c .before .before .before .before .before .before .before)
-
-shared-slice-read-nearer-2 : tie.Need-shared-slice-read-nearer-2 Inv-loop μ-loop
-shared-slice-read-nearer-2 c = inside (c .before .before .before)
+shared-slice-read-nearer c = inside (c .before .before .before .before)
 
 nearer-requires : tie.Need-nearer-requires Inv-loop μ-loop
 nearer-requires c κs = search needs
@@ -60,8 +63,8 @@ loop-less c = search needs
 
 loop-again : tie.Need-loop-again Inv-loop μ-loop
 loop-again c =
-    nearest-next (c .before .before .before .before .before .before .before .before .before .pre)
-    (c .before .before .before .before .before .loop .inv) (c .before .before .before .before .loop-test .taken) (c .nearer .ensures)
+    nearest-next (c .before .before .before .before .before .before .before .before .before .before .pre) (c .before .before .before .before .before .before .loop .inv) (c .before .before .before .before .before .loop-test .taken)
+    (λ value. rw (sym (c .before .before .of .ensures .0)) (c .nearer .ensures value))
 
 returns : tie.Need-returns Inv-loop μ-loop
 returns c =
@@ -77,10 +80,11 @@ next-entity-spec =
     sub-k
     mul-place
     shared-slice-read-place
+    mul-of
+    shared-slice-read-of
+    of-requires
     mul-nearer
     shared-slice-read-nearer
-    mul-nearer-2
-    shared-slice-read-nearer-2
     nearer-requires
     loop-less
     loop-again

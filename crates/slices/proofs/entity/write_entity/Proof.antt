@@ -42,52 +42,27 @@ write-rows-requires : tie.Need-write-rows-requires
 write-rows-requires c κs =
     entity-rows (c .before .before .before .before .before .before .before .before .before .before .before .before .before .before .before .before .pre) _ _ (c .before .before .before .before .before .before .write-parents .ensures) _ (search needs)
 
+word-requires : tie.Need-word-requires
+word-requires c κs = (
+  omega (arith, c .before .before .before .before .before .before .before .before .before .before .before .before .before .before .before .before .before .before .before .before .before .pre .id),
+  omega (arith, small-parents (c .before .before .before .before .before .before .before)),
+  omega (arith, small-size c),
+)
+
 mul-out : tie.Need-mul-out
-mul-out c =
-    omega (
-      arith,
-      small-parents (c .before .before .before .before .before .before .before),
-      c .before .before .before .before .before .before .before .before .before .before .before .before .before .before .before .before .before .before .before .before .before,
-    )
-
-add-out : tie.Need-add-out
-add-out c =
-    omega (
-      arith,
-      small-parents (c .before .before .before .before .before .before .before),
-      c .before .before .before .before .before .before .before .before .before .before .before .before .before .before .before .before .before .before .before .before .before .pre .id,
-      c .before .before .before .before .before .before .before .before .before .before .before .before .before .before .before .before .before .before .before .before .before,
-    )
-
-mul-out-2 : tie.Need-mul-out-2
-mul-out-2 c =
-    omega (arith, small-size c, c .before .before .before .before .before .before .before .before .before .before .before .before .before .before .before .before .before .before .before .before .before)
-
-add-out-2 : tie.Need-add-out-2
-add-out-2 c =
-    omega (
-      arith,
-      small-parents (c .before .before .before .before .before .before .before),
-      small-size c,
-      c .before .before .before .before .before .before .before .before .before .before .before .before .before .before .before .before .before .before .before .before .before .pre .id,
-      c .before .before .before .before .before .before .before .before .before .before .before .before .before .before .before .before .before .before .before .before .before,
-    )
-
-mul-out-3 : tie.Need-mul-out-3
-mul-out-3 c =
-    omega (arith, inside c, c .before .before .before .before .before .before .before .before .before .before .before .before .before .before .before .before .before .before .before .before .before)
+mul-out c = omega (arith, inside (c .before), c .before .before .before .before .before .before .before .before .before .before .before .before .before .before .before .before .before .before .before .before .before .before)
 
 slice-write-out : tie.Need-slice-write-out
-slice-write-out c = inside c
+slice-write-out c = inside (c .before)
 
 add-result : tie.Need-add-result
 add-result c =
     omega (
       arith,
-      small-parents (c .before .before .before .before .before .before .before),
-      small-size c,
-      c .before .before .before .before .before .before .before .before .before .before .before .before .before .before .before .before .before .before .before .before .before .pre .room,
-      c .before .before .before .before .before .before .before .before .before .before .before .before .before .before .before .before .before .before .before .before .before,
+      small-parents (c .before .before .before .before .before .before .before .before),
+      small-size (c .before),
+      c .before .before .before .before .before .before .before .before .before .before .before .before .before .before .before .before .before .before .before .before .before .before .pre .room,
+      c .before .before .before .before .before .before .before .before .before .before .before .before .before .before .before .before .before .before .before .before .before .before,
     )
 
 same-length : tie.Need-same-length
@@ -98,7 +73,8 @@ same-length-2 c = search needs
 
 returns : tie.Need-returns
 returns c =
-    entity-written (c .before .before .before .before .before .before .before .before .before .before .before .before .before .before .before .before .before .before .before .before .before .pre) _ _ (c .before .before .before .before .before .before .before .before .before .before .before .write-parents .ensures) _ _ (c .before .before .before .before .write-rows .ensures .0) (c .before .before .before .before .write-rows .ensures .1)
+    rw (c .word .ensures)
+    (entity-written (c .before .before .before .before .before .before .before .before .before .before .before .before .before .before .before .before .before .before .before .before .before .before .pre) _ _ (c .before .before .before .before .before .before .before .before .before .before .before .before .write-parents .ensures) _ _ (c .before .before .before .before .before .write-rows .ensures .0) (c .before .before .before .before .before .write-rows .ensures .1))
 
 pub write-entity-spec : {M : Type 1} → statement M
 write-entity-spec =
@@ -108,11 +84,8 @@ write-entity-spec =
     write-parents-requires
     add-from
     write-rows-requires
+    word-requires
     mul-out
-    add-out
-    mul-out-2
-    add-out-2
-    mul-out-3
     slice-write-out
     add-result
     same-length
