@@ -1,12 +1,12 @@
 -- Laws of judging and writing all ancestors requests. No contract cites this file.
-use Prim.Native.Nat.{ℕ, suc, _+_, _*_, _%_, _≤_, _<_}
+use Prim.Native.Nat.{ℕ, suc, _+_, _≤_, _<_}
 use native.Mathlib.Numerals.{add-one}
 use native.Mathlib.Omega.{arith}
 use mathlib.Core.Path.{_≡_, refl, sym, ap, _∙_}
 use mathlib.Core.List.{List, [], _∷_, _++_, flatten, map-append, append-assoc, append-nil}
 use lib.ListN.{length, take, drop, getD, set, length-append, length-map, drop-of-length-le}
 use lib.Seq.{sets, length-sets, length-take-le, take-all, take-suc}
-use Rattle.rules.specs.Tries.{Row, ids}
+use Rattle.rules.specs.Tries.{Row}
 use Rattle.rules.specs.Loading.{LoadAnswer, done, refusedAt, counted, _then_, Request, EntityRequest, Loaded, ancestorsRequest, ancestorsRequests}
 use Rattle.words.specs.Runs.{Wrote}
 use Rattle.words.specs.RunLaws.{wrote-more}
@@ -18,7 +18,7 @@ use Rattle.row_walk.specs.ScanLaws.{rows-left}
 use Rattle.ancestors.specs.Sets.{idsOf}
 use Rattle.slices.specs.Slices.{rowsAsked}
 use Rattle.ancestors.specs.Takings.{Asks}
-use Rattle.ancestors.specs.Requests.{heads, JudgedAs, MayWrite, WrittenAs, RoomFor, RequestsAnswered}
+use Rattle.ancestors.specs.Requests.{headOf, heads, JudgedAs, MayWrite, WrittenAs, RoomFor, RequestsAnswered}
 use Rattle.ancestors.specs.declared.events.Next.{Next}
 use Rattle.ancestors.specs.declared.events.Next.the-variants.{To, Refused}
 use Rattle.ancestors.specs.declared.events.Taken.{Taken}
@@ -105,7 +105,7 @@ flatten-length lists wanted more =
     (omega (arith, length-append (flatten lists ++ wanted) (flatten more), length-append (flatten lists) wanted))
 
 heads-more : (rows : List EntityRequest) (lists : List (List ℕ)) (row : EntityRequest) (wanted : List ℕ) → length rows ≡ length lists →
-    heads (rows ++ (row ∷ [])) (lists ++ (wanted ∷ [])) ≡ heads rows lists ++ ((row .id + length wanted * ids) ∷ [])
+    heads (rows ++ (row ∷ [])) (lists ++ (wanted ∷ [])) ≡ heads rows lists ++ (headOf (row .id) (length wanted) ∷ [])
 unfolding heads
 heads-more [] [] row wanted e = refl
 heads-more [] (x ∷ lists) row wanted e = absurd (omega arith)
@@ -204,14 +204,15 @@ module _ (request : Request) (nodes : List Row) (slice : List Loaded) (asked : L
 
       -- its head and its ids are written
       pub writing-next :
-          {out₂ : List ℕ} {at₂ : ℕ}
-          → Wrote (set out (i + 1) (getD asked i 0 % ids + r .set .len * ids)) at (idsOf (r .set)) out₂ at₂
+          {word : ℕ} {out₂ : List ℕ} {at₂ : ℕ}
+          → word ≡ headOf (rowAsked (getD asked i 0) .id) (r .set .len)
+          → Wrote (set out (i + 1) word) at (idsOf (r .set)) out₂ at₂
           → Writing out₀ out₂ at₂ (i + 1)
-      writing-next {out₂} {at₂} wrote =
+      writing-next {word} {out₂} {at₂} is-head wrote =
           let wanted : List ℕ = idsOf (r .set) in
           let hs : List ℕ = heads (rowsAsked (take i asked)) front in
           let many : length wanted ≡ r .set .len = length-take-le (r .set .len) (r .set .ids) (omega (arith, asks .is-set .places, asks .is-set .few)) in
-          let head : ℕ = getD asked i 0 % ids + length wanted * ids in
+          let head : ℕ = headOf (rowAsked (getD asked i 0) .id) (length wanted) in
           let long : length hs ≡ i =
           heads-length (rowsAsked (take i asked)) front rows-many ∙ rows-many ∙ writing .judging .as-many in
           let rows : rowsAsked (take (i + 1) asked) ≡ rowsAsked (take i asked) ++ (rowAsked (getD asked i 0) ∷ []) =
@@ -228,7 +229,8 @@ module _ (request : Request) (nodes : List Row) (slice : List Loaded) (asked : L
             text =
                 rw (next-front, rows, heads-more (rowsAsked (take i asked)) front (rowAsked (getD asked i 0)) wanted rows-many, flatten-more front wanted)
                 (wrote .text
-                ∙ ap (λ n. sets (set out (i + 1) (getD asked i 0 % ids + n * ids)) at wanted) (sym many)
+                ∙ ap (λ w. sets (set out (i + 1) w) at wanted) is-head
+                ∙ ap (λ n. sets (set out (i + 1) (headOf (rowAsked (getD asked i 0) .id) n)) at wanted) (sym many)
                 ∙ ap (λ l. sets l at wanted) with-head
                 ∙ ap (λ n. sets (sets (sets out₀ 1 (hs ++ (head ∷ []))) (length asked + 1) (flatten front)) n wanted) (writing .after)
                 ∙ sets-both (sets out₀ 1 (hs ++ (head ∷ []))) (flatten front) wanted (length asked + 1));

@@ -1,5 +1,5 @@
 -- All ancestors requests as words, and what the call that writes them answers and leaves.
-use Prim.Native.Nat.{ℕ, _+_, _*_, _≤_}
+use Prim.Native.Nat.{ℕ, _+_, _*_, _/_, _%_, _≤_}
 use mathlib.Core.Path.{_≡_}
 use mathlib.Core.List.{List, [], _∷_, _++_, flatten}
 use lib.ListN.{length}
@@ -11,6 +11,7 @@ use Rattle.words.specs.declared.Reply.{Reply}
 use Rattle.words.specs.declared.Reply.the-variants.{Done, Refused}
 use Rattle.row_walk.specs.Initial.{requestWith as requestOf}
 use Rattle.row_walk.specs.declared.initial.Request.{Request as Asked}
+use Rattle.ancestors.specs.declared.requests.AncestorsRequest.{AncestorsRequest}
 use Rattle.ancestors.specs.SliceWords.{sliceIn}
 use Rattle.slices.specs.Slices.{rowsAsked}
 
@@ -20,10 +21,17 @@ allRequests request context nodes slice asked =
     ancestorsRequests (requestOf request context) (rowsOf nodes) (sliceIn slice) 0 (rowsAsked asked)
 
 -- a request's head: its entity, and 65,536 times the count of its ids
+abbrev pub headOf : ℕ → ℕ → ℕ
+headOf id count = id + count * ids
+
+-- what a head says
+abbrev pub requestIn : ℕ → AncestorsRequest
+requestIn word = record { id = word % ids; count = word / ids }
+
 unfoldable pub heads : List EntityRequest → List (List ℕ) → List ℕ
 heads [] lists = []
 heads (row ∷ rows) [] = []
-heads (row ∷ rows) (wanted ∷ lists) = (row .id + length wanted * ids) ∷ heads rows lists
+heads (row ∷ rows) (wanted ∷ lists) = headOf (row .id) (length wanted) ∷ heads rows lists
 
 -- 'Ancestors requests out': the count, the heads, and the ids of each
 abbrev pub requestWords : List ℕ → List (List ℕ) → List ℕ

@@ -16,6 +16,7 @@ use crate::set::Put;
 use row_walk::Met;
 use row_walk::next_event;
 use rows::Row;
+use values::EntityRequest;
 use values::ValueRow;
 
 // How many rows wait, or the number of a refusal: 14 or 15.
@@ -64,8 +65,7 @@ fn put_all(set: AncestorSet, values: &[u64], from: usize, depth: u64) -> Put
     }
 }
 
-// Takes what is met below a depth, from a row on, by looking it up among values. Each row that is found is one word: its entity id, and
-// 65,536 times its node.
+// Takes what is met below a depth, from a row on, by looking it up among values. Each row that is found is one word.
 fn take_below(
     nodes: &[u64],
     depth: u64,
@@ -92,7 +92,11 @@ fn take_below(
         let met = meeting.met;
         match met {
             Met::Row(id) => {
-                out[at] = id + node as u64 * 0x1_0000;
+                let request = EntityRequest {
+                    id,
+                    node: node as u64,
+                };
+                out[at] = request.word();
                 at += 1;
             }
             Met::Ids(place, below) => {

@@ -9,6 +9,7 @@ mod slice;
 
 pub use events::Next;
 pub use events::Taken;
+pub use requests::AncestorsRequest;
 pub use requests::compute_ancestors_requests;
 pub use rounds::compute_ancestors_request;
 pub use set::AncestorSet;

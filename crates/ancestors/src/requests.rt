@@ -1,14 +1,40 @@
 // The one ancestors call: a request for each row ever asked, in asking order (docs/FORMS.md, 'Ancestors requests out').
-ghost use Prim.Native.Nat.{_+_, _≤_, _<_};
+ghost use mathlib.Core.Path.{_≡_};
+ghost use Prim.Native.Nat.{_+_, _^_, _≤_, _<_};
 ghost use lib.ListN.{length};
 ghost use Rattle.words.specs.Runs.{Wrote};
 ghost use Rattle.ancestors.specs.Sets.{idsOf, IsSet};
-ghost use Rattle.ancestors.specs.Requests.{allRequests, JudgedAs, MayWrite, WrittenAs, RoomFor, RequestsAnswered};
+ghost use Rattle.ancestors.specs.Requests.{requestIn, headOf, allRequests, JudgedAs, MayWrite, WrittenAs, RoomFor, RequestsAnswered};
 use crate::events::Next;
 use crate::rounds::compute_ancestors_request;
 use crate::set::AncestorSet;
 use row_walk::Request;
+use values::EntityRequest;
 use words::Reply;
+
+// A request's head is one word: the entity whose ancestors are asked for, and how many ids are wanted.
+pub struct AncestorsRequest {
+    pub id: u64,
+    pub count: usize,
+}
+
+impl AncestorsRequest {
+    pub fn of(word: u64) -> AncestorsRequest
+        ensures { λ r. ⌜ r ≡ requestIn word ⌝ }
+    {
+        AncestorsRequest {
+            id: word % 0x1_0000,
+            count: (word / 0x1_0000) as usize,
+        }
+    }
+
+    pub fn word(self) -> u64
+        requires { ⌜ (self .id < 2 ^ 16) × (self .count < 2 ^ 48) ⌝ }
+        ensures { λ r. ⌜ r ≡ headOf (self .id) (self .count) ⌝ }
+    {
+        self.id + self.count as u64 * 0x1_0000
+    }
+}
 
 // Writes the ids of a set to a place, and answers the place after them.
 fn write_ids(set: AncestorSet, out: &mut [u64], to: usize) -> usize
@@ -83,7 +109,12 @@ fn write_requests(
         let row = asked[i];
         let taken = compute_ancestors_request(nodes, slice, request, context, row, rows, found);
         let set = taken.set;
-        out[i + 1] = row % 0x1_0000 + set.len as u64 * 0x1_0000;
+        let own = EntityRequest::of(row);
+        let head = AncestorsRequest {
+            id: own.id,
+            count: set.len,
+        };
+        out[i + 1] = head.word();
         at = write_ids(set, out, at);
         i += 1;
     }

@@ -20,6 +20,7 @@ use crate::set::AncestorSet;
 use row_walk::Request;
 use rows::Kind;
 use rows::Row;
+use values::EntityRequest;
 use words::copy_words;
 
 // Takes the rows of a round, one after the other. The rows that they find are written from the start on.
@@ -105,7 +106,7 @@ pub fn compute_ancestors_request(
         (sliceIn (now (slice .entry))) place (rowAsked row)) r ⌝ }
 {
     let set = AncestorSet::new();
-    let node = (row / 0x1_0000) as usize;
+    let node = EntityRequest::of(row).node as usize;
     if nodes.len() <= node {
         return Taken {
             set,

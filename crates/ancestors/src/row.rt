@@ -17,6 +17,7 @@ use crate::set::Put;
 use crate::slice::Found;
 use crate::slice::find_loaded;
 use rows::Row;
+use values::EntityRequest;
 
 // Puts an entity's id where its node is marked.
 fn put_marked(nodes: &[u64], node: usize, set: AncestorSet, id: u64) -> Put
@@ -46,9 +47,9 @@ pub fn take_row(
     ensures { λ r. ⌜ Takes (λ place. takeRow (rowsOf (now (nodes .entry))) (sliceIn (now (slice .entry))) place (rowAsked row)
         (wantedIn set (now (out .entry)) to)) (now (out .exit)) r ⌝ }
 {
-    let id = row % 0x1_0000;
-    let node = (row / 0x1_0000) as usize;
-    let put = put_marked(nodes, node, set, id);
+    let asked = EntityRequest::of(row);
+    let node = asked.node as usize;
+    let put = put_marked(nodes, node, set, asked.id);
     if put.full {
         return Taken {
             set,
@@ -56,7 +57,7 @@ pub fn take_row(
         };
     }
     let more = put.set;
-    let found = find_loaded(slice, id);
+    let found = find_loaded(slice, asked.id);
     let Found::Rows(from, end) = found else {
         return Taken {
             set: more,

@@ -1,5 +1,5 @@
 -- Rows that were asked and their answers, as they stand in words, and the slice that they come to, as words (docs/FORMS.md, 'Slice out').
-use Prim.Native.Nat.{ℕ, _+_, _*_, _/_, _^_, _≤_, _<_}
+use Prim.Native.Nat.{ℕ, _+_, _^_, _≤_, _<_}
 use mathlib.Core.Path.{_≡_}
 use mathlib.Core.Logic.{_≢_}
 use mathlib.Core.Bool.{true, cond}

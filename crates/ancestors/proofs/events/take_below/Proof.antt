@@ -51,20 +51,17 @@ inside : (c : tie.After-known-told Inv-loop μ-loop) →
     × (c .before .before .before .before .before .before .before .loop .at < length (c .before .before .before .before .before .before .before .loop .out))
 inside c = below-room (c .before .before .before .before .before .before .before .loop .inv) (c .before .before .before .before .next-event .ensures) (c .before .before .before .before .next-event .kept .1 .1 .1 .0) (c .before .met .given .1)
 
+word-requires : tie.Need-word-requires Inv-loop μ-loop
+word-requires c κs = (omega (arith, inside c), omega (arith, inside c))
+
 mul-out : tie.Need-mul-out Inv-loop μ-loop
-mul-out c = omega (arith, inside c)
-
-add-out : tie.Need-add-out Inv-loop μ-loop
-add-out c = omega (arith, inside c)
-
-mul-out-2 : tie.Need-mul-out-2 Inv-loop μ-loop
-mul-out-2 c = omega (arith, inside c, c .before .before .before .before .before .before .before .loop .inv .taking .same)
+mul-out c = omega (arith, inside (c .before), c .before .before .before .before .before .before .before .before .loop .inv .taking .same)
 
 slice-write-out : tie.Need-slice-write-out Inv-loop μ-loop
-slice-write-out c = omega (arith, inside c)
+slice-write-out c = omega (arith, inside (c .before))
 
 add-at : tie.Need-add-at Inv-loop μ-loop
-add-at c = omega (arith, inside c, c .before .before .before .before .before .before .before .loop .inv .taking .same)
+add-at c = omega (arith, inside (c .before), c .before .before .before .before .before .before .before .before .loop .inv .taking .same)
 
 enum-known-met-2 : tie.Need-enum-known-met-2 Inv-loop μ-loop
 enum-known-met-2 c = search needs
@@ -109,7 +106,7 @@ again c =
     let meets = c .before .before .next-event .ensures in
     let same = c .before .before .next-event .kept .1 .1 .1 .0 in
     ⊎-elim
-    (λ w. rw (w .3, w .4, w .5) (below-row sofar meets same (w .1 .given .1)))
+    (λ w. rw (w .4, w .5, w .6, w .3 .ensures) (below-row sofar meets same (w .1 .given .1)))
     (λ w. rw (w .6, w .7, w .8) (below-ids sofar meets same (w .1 .given .1) (w .3 .ensures) (w .4 .left)))
     (c .match .came)
 
@@ -139,9 +136,8 @@ take-below-spec =
     slice-aggregate-next-event
     next-event-requires
     enum-known-met
+    word-requires
     mul-out
-    add-out
-    mul-out-2
     slice-write-out
     add-at
     enum-known-met-2

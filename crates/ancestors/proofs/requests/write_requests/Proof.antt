@@ -51,35 +51,35 @@ fits c =
     let room = writing-room _ _ _ _ may writing (c .before .before .before .before .before .before .before .before .before .loop-test .taken) asks in
     (omega (arith, may .room, same, c .before .before .before .before .before .before .before .before .before .loop-test .taken), omega (arith, room, same), asks .is-set .few)
 
-mul-out : tie.Need-mul-out Inv-loop μ-loop
-mul-out c = omega (arith, fits c)
+of-requires : tie.Need-of-requires Inv-loop μ-loop
+of-requires c κs = search needs
+
+word-requires : tie.Need-word-requires Inv-loop μ-loop
+word-requires c κs = (omega (arith, c .of .ensures .0), omega (arith, fits (c .before)))
 
 add-out : tie.Need-add-out Inv-loop μ-loop
-add-out c = omega (arith, fits c)
+add-out c = omega (arith, c .before .before .before .before .before .before .before .before .before .before .before .loop-test .taken, c .before .before .before .before .before .before .before .before .before .before .before .before .before .before .before .before .before .before .before .before .good)
 
-add-out-2 : tie.Need-add-out-2 Inv-loop μ-loop
-add-out-2 c = search needs
-
-mul-out-2 : tie.Need-mul-out-2 Inv-loop μ-loop
-mul-out-2 c = omega (arith, fits c, writing-length _ _ _ _ (c .before .before .before .before .before .before .before .before .before .before .before .before .before .before .before .before .before .before .pre .1 .1) (c .before .before .before .before .before .before .before .before .before .before .loop .inv .2), c .before .before .before .before .before .before .before .before .before .before .before .before .before .before .before .before .before .before .good)
+mul-out : tie.Need-mul-out Inv-loop μ-loop
+mul-out c = omega (arith, fits (c .before .before), writing-length _ _ _ _ (c .before .before .before .before .before .before .before .before .before .before .before .before .before .before .before .before .before .before .before .before .pre .1 .1) (c .before .before .before .before .before .before .before .before .before .before .before .before .loop .inv .2), c .before .before .before .before .before .before .before .before .before .before .before .before .before .before .before .before .before .before .before .before .good)
 
 slice-write-out : tie.Need-slice-write-out Inv-loop μ-loop
-slice-write-out c = fits c .0
+slice-write-out c = fits (c .before .before) .0
 
 write-ids-requires : tie.Need-write-ids-requires Inv-loop μ-loop
-write-ids-requires c κs = (c .before .before .before .before .before .before .compute-ancestors-request .ensures .is-set, rw length-set (fits (c .before) .1))
+write-ids-requires c κs = (c .before .before .before .before .before .before .before .before .compute-ancestors-request .ensures .is-set, rw length-set (fits (c .before .before .before) .1))
 
 add-i : tie.Need-add-i Inv-loop μ-loop
 add-i c = search needs
 
 loop-less : tie.Need-loop-less Inv-loop μ-loop
-loop-less c = omega (arith, c .before .before .before .before .before .before .before .before .before .before .before .before .before .loop-test .taken)
+loop-less c = omega (arith, c .before .before .before .before .before .before .before .before .before .before .before .before .before .before .before .loop-test .taken)
 
 loop-again : tie.Need-loop-again Inv-loop μ-loop
 loop-again c = (
-  c .before .before .before .before .before .before .before .before .before .compute-ancestors-request .kept .1 .1 .1 .1 .1 .0 ∙ c .before .before .before .before .before .before .before .before .before .before .before .before .before .before .loop .inv .0,
-  c .before .before .before .before .before .before .before .before .before .compute-ancestors-request .kept .1 .1 .1 .1 .1 .1 .0 ∙ c .before .before .before .before .before .before .before .before .before .before .before .before .before .before .loop .inv .1,
-  writing-next _ _ _ _ (c .before .before .before .before .before .before .before .before .before .before .before .before .before .before .before .before .before .before .before .before .before .before .pre .1 .1) (c .before .before .before .before .before .before .before .before .before .before .before .before .before .before .loop .inv .2) (c .before .before .before .before .before .before .before .before .before .before .before .before .before .loop-test .taken) (c .before .before .before .before .before .before .before .before .before .compute-ancestors-request .ensures) (c .before .before .write-ids .ensures),
+  c .before .before .before .before .before .before .before .before .before .before .before .compute-ancestors-request .kept .1 .1 .1 .1 .1 .0 ∙ c .before .before .before .before .before .before .before .before .before .before .before .before .before .before .before .before .loop .inv .0,
+  c .before .before .before .before .before .before .before .before .before .before .before .compute-ancestors-request .kept .1 .1 .1 .1 .1 .1 .0 ∙ c .before .before .before .before .before .before .before .before .before .before .before .before .before .before .before .before .loop .inv .1,
+  writing-next _ _ _ _ (c .before .before .before .before .before .before .before .before .before .before .before .before .before .before .before .before .before .before .before .before .before .before .before .before .pre .1 .1) (c .before .before .before .before .before .before .before .before .before .before .before .before .before .before .before .before .loop .inv .2) (c .before .before .before .before .before .before .before .before .before .before .before .before .before .before .before .loop-test .taken) (c .before .before .before .before .before .before .before .before .before .before .before .compute-ancestors-request .ensures) (omega (arith, c .before .before .before .before .word .ensures, c .before .before .before .before .before .of .ensures .0)) (c .before .before .write-ids .ensures),
 )
 
 slice-write-out-2 : tie.Need-slice-write-out-2 Inv-loop μ-loop
@@ -108,10 +108,10 @@ write-requests-spec =
     mul-row
     shared-slice-read-row
     compute-ancestors-request-requires
-    mul-out
+    of-requires
+    word-requires
     add-out
-    add-out-2
-    mul-out-2
+    mul-out
     slice-write-out
     write-ids-requires
     add-i
