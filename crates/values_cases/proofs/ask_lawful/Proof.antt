@@ -5,11 +5,11 @@ use borrow.Author.Needs.{needs}
 use Rattle.values_cases.proofs.ask_lawful.Statement.{statement}
 use Rattle.values_cases.proofs.ask_lawful.Tie as tie
 
-slice-aggregate-read : tie.Need-slice-aggregate-read
-slice-aggregate-read c = search needs
+slice-aggregate-read-field : tie.Need-slice-aggregate-read-field
+slice-aggregate-read-field c = search needs
 
-read-requires : tie.Need-read-requires
-read-requires c κs = search needs
+read-field-requires : tie.Need-read-field-requires
+read-field-requires c κs = search needs
 
 array-share-prefix-words : tie.Need-array-share-prefix-words
 array-share-prefix-words c = search needs
@@ -30,8 +30,8 @@ pub ask-lawful-spec : {M : Type 1} → statement M
 ask-lawful-spec =
     tie.close
     (tie.spec
-    slice-aggregate-read
-    read-requires
+    slice-aggregate-read-field
+    read-field-requires
     array-share-prefix-words
     slice-aggregate-tell-lawful
     slice-aggregate-tell-lawful-2

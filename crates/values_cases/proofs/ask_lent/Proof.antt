@@ -5,11 +5,11 @@ use borrow.Author.Needs.{needs}
 use Rattle.values_cases.proofs.ask_lent.Statement.{statement}
 use Rattle.values_cases.proofs.ask_lent.Tie as tie
 
-slice-aggregate-read : tie.Need-slice-aggregate-read
-slice-aggregate-read c = search needs
+slice-aggregate-read-field : tie.Need-slice-aggregate-read-field
+slice-aggregate-read-field c = search needs
 
-read-requires : tie.Need-read-requires
-read-requires c κs = search needs
+read-field-requires : tie.Need-read-field-requires
+read-field-requires c κs = search needs
 
 number-requires : tie.Need-number-requires
 number-requires c κs = search needs
@@ -36,8 +36,8 @@ pub ask-lent-spec : {M : Type 1} → statement M
 ask-lent-spec =
     tie.close
     (tie.spec
-    slice-aggregate-read
-    read-requires
+    slice-aggregate-read-field
+    read-field-requires
     number-requires
     number-requires-2
     array-share-prefix-words

@@ -5,17 +5,17 @@ use borrow.Author.Needs.{needs}
 use Rattle.values_cases.proofs.ask_merge.Statement.{statement}
 use Rattle.values_cases.proofs.ask_merge.Tie as tie
 
-slice-aggregate-read : tie.Need-slice-aggregate-read
-slice-aggregate-read c = search needs
+slice-aggregate-read-field : tie.Need-slice-aggregate-read-field
+slice-aggregate-read-field c = search needs
 
-read-requires : tie.Need-read-requires
-read-requires c κs = search needs
+read-field-requires : tie.Need-read-field-requires
+read-field-requires c κs = search needs
 
-slice-aggregate-read-2 : tie.Need-slice-aggregate-read-2
-slice-aggregate-read-2 c = search needs
+slice-aggregate-read-field-2 : tie.Need-slice-aggregate-read-field-2
+slice-aggregate-read-field-2 c = search needs
 
-read-requires-2 : tie.Need-read-requires-2
-read-requires-2 c κs = search needs
+read-field-requires-2 : tie.Need-read-field-requires-2
+read-field-requires-2 c κs = search needs
 
 array-share-prefix-parents : tie.Need-array-share-prefix-parents
 array-share-prefix-parents c = search needs
@@ -39,10 +39,10 @@ pub ask-merge-spec : {M : Type 1} → statement M
 ask-merge-spec =
     tie.close
     (tie.spec
-    slice-aggregate-read
-    read-requires
-    slice-aggregate-read-2
-    read-requires-2
+    slice-aggregate-read-field
+    read-field-requires
+    slice-aggregate-read-field-2
+    read-field-requires-2
     array-share-prefix-parents
     slice-aggregate-ask-other
     array-share-prefix-left

@@ -5,20 +5,20 @@ use borrow.Author.Needs.{needs}
 use Rattle.values_cases.proofs.ask_walk.Statement.{statement}
 use Rattle.values_cases.proofs.ask_walk.Tie as tie
 
-slice-aggregate-read : tie.Need-slice-aggregate-read
-slice-aggregate-read c = search needs
+slice-aggregate-read-field : tie.Need-slice-aggregate-read-field
+slice-aggregate-read-field c = search needs
 
-read-requires : tie.Need-read-requires
-read-requires c κs = search needs
+read-field-requires : tie.Need-read-field-requires
+read-field-requires c κs = search needs
 
 number-requires : tie.Need-number-requires
 number-requires c κs = search needs
 
-slice-aggregate-read-2 : tie.Need-slice-aggregate-read-2
-slice-aggregate-read-2 c = search needs
+slice-aggregate-read-field-2 : tie.Need-slice-aggregate-read-field-2
+slice-aggregate-read-field-2 c = search needs
 
-read-requires-2 : tie.Need-read-requires-2
-read-requires-2 c κs = search needs
+read-field-requires-2 : tie.Need-read-field-requires-2
+read-field-requires-2 c κs = search needs
 
 array-share-prefix-nodes : tie.Need-array-share-prefix-nodes
 array-share-prefix-nodes c = search needs
@@ -45,11 +45,11 @@ pub ask-walk-spec : {M : Type 1} → statement M
 ask-walk-spec =
     tie.close
     (tie.spec
-    slice-aggregate-read
-    read-requires
+    slice-aggregate-read-field
+    read-field-requires
     number-requires
-    slice-aggregate-read-2
-    read-requires-2
+    slice-aggregate-read-field-2
+    read-field-requires-2
     array-share-prefix-nodes
     slice-aggregate-tell-walk
     array-share-prefix-values

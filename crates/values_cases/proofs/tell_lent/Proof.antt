@@ -31,8 +31,8 @@ print-refused-requires c κs = search needs
 enum-known-checked-2 : tie.Need-enum-known-checked-2
 enum-known-checked-2 c = search needs
 
-print-number-requires : tie.Need-print-number-requires
-print-number-requires c κs = search needs
+print-decimal-requires : tie.Need-print-decimal-requires
+print-decimal-requires c κs = search needs
 
 sum-requires : tie.Need-sum-requires
 sum-requires c κs =
@@ -69,7 +69,7 @@ tell-lent-spec =
     enum-known-checked
     print-refused-requires
     enum-known-checked-2
-    print-number-requires
+    print-decimal-requires
     sum-requires
     tell-sum-requires
     same-length

@@ -1,11 +1,11 @@
--- `loader_cases::put` stays within `out`.
+-- `load_items::items::put` stays within `out`.
 use Prim.Native.Nat.{_≤_, _-_}
 use mathlib.Core.Path.{_≡_}
 use native.Mathlib.Omega.{arith}
 use lib.ListN.{length, length-set}
 use borrow.Author.Needs.{needs}
-use Rattle.loader_cases.proofs.put.Statement.{statement}
-use Rattle.loader_cases.proofs.put.Tie as tie
+use Rattle.load_items.proofs.items.put.Statement.{statement}
+use Rattle.load_items.proofs.items.put.Tie as tie
 
 abbrev Inv-loop : tie.InvT-loop
 Inv-loop out₀ at item more by word₀ to₀ k₀ out word to k = (to ≤ length out) × (length out ≡ length out₀)

@@ -1,9 +1,9 @@
--- `loader_cases::end_of` stays within the text.
+-- `load_items::items::end_of` stays within the text.
 use Prim.Native.Nat.{_≤_, _-_}
 use lib.ListN.{length}
 use borrow.Author.Needs.{needs}
-use Rattle.loader_cases.proofs.end_of.Statement.{statement}
-use Rattle.loader_cases.proofs.end_of.Tie as tie
+use Rattle.load_items.proofs.items.end_of.Statement.{statement}
+use Rattle.load_items.proofs.items.end_of.Tie as tie
 
 abbrev Inv-loop : tie.InvT-loop
 Inv-loop text from mark i₀ i = (from ≤ i) × (i ≤ length text)

@@ -1,15 +1,15 @@
--- `loader_cases::tell_words` is safe: each word that is shown is one of the words.
+-- `load_items::shown::show_left` is safe: each word that is shown is one of the words.
 use Prim.Native.Nat.{_≤_, _-_}
 use lib.ListN.{length}
 use borrow.Author.Needs.{needs}
-use Rattle.loader_cases.proofs.tell_words.Statement.{statement}
-use Rattle.loader_cases.proofs.tell_words.Tie as tie
+use Rattle.load_items.proofs.shown.show_left.Statement.{statement}
+use Rattle.load_items.proofs.shown.show_left.Tie as tie
 
 abbrev Inv-loop : tie.InvT-loop
-Inv-loop handed count words left₀ i₀ left i = i ≤ length words
+Inv-loop handed words left₀ i₀ left i = i ≤ length words
 
 abbrev μ-loop : tie.MeasureT-loop
-μ-loop handed count words left₀ i₀ left i = length words - i
+μ-loop handed words left₀ i₀ left i = length words - i
 
 loop-holds : tie.Need-loop-holds Inv-loop μ-loop
 loop-holds c = search needs
@@ -44,8 +44,8 @@ loop-again c = search needs
 returns-3 : tie.Need-returns-3 Inv-loop μ-loop
 returns-3 c = search needs
 
-pub tell-words-spec : {M : Type 1} → statement M
-tell-words-spec =
+pub show-left-spec : {M : Type 1} → statement M
+show-left-spec =
     tie.close
     (tie.spec
     Inv-loop

@@ -1,9 +1,9 @@
--- `loader_cases::part` is safe: each place that is passed to lies within the item.
+-- `load_items::items::part` is safe: each place that is passed to lies within the item.
 use Prim.Native.Nat.{_≤_, _-_}
 use lib.ListN.{length}
 use borrow.Author.Needs.{needs}
-use Rattle.loader_cases.proofs.part.Statement.{statement}
-use Rattle.loader_cases.proofs.part.Tie as tie
+use Rattle.load_items.proofs.items.part.Statement.{statement}
+use Rattle.load_items.proofs.items.part.Tie as tie
 
 abbrev Inv-loop : tie.InvT-loop
 Inv-loop item n at₀ k₀ at k = (at ≤ length item) × (k ≤ n)

@@ -1,15 +1,15 @@
--- `values_cases::number_at` is safe: the part is read byte by byte to the end of the row.
+-- `load_items::items::number_at` is safe: the part is read byte by byte to the end of the item.
 use Prim.Native.Nat.{_-_}
 use lib.ListN.{length}
 use borrow.Author.Needs.{needs}
-use Rattle.values_cases.proofs.number_at.Statement.{statement}
-use Rattle.values_cases.proofs.number_at.Tie as tie
+use Rattle.load_items.proofs.items.number_at.Statement.{statement}
+use Rattle.load_items.proofs.items.number_at.Tie as tie
 
 abbrev Inv-loop : tie.InvT-loop
-Inv-loop row from form value₀ i₀ value i = Unit
+Inv-loop item from value₀ i₀ value i = Unit
 
 abbrev μ-loop : tie.MeasureT-loop
-μ-loop row from form value₀ i₀ value i = length row - i
+μ-loop item from value₀ i₀ value i = length item - i
 
 loop-holds : tie.Need-loop-holds Inv-loop μ-loop
 loop-holds c = search needs

@@ -1,10 +1,10 @@
--- `loader_cases::read_words` is safe: each item ends within the text, and the words stay within `out`.
+-- `load_items::items::read_words` is safe: each item ends within the text, and the words stay within `out`.
 use Prim.Native.Nat.{_≤_, _-_}
 use mathlib.Core.Path.{_≡_}
 use lib.ListN.{length}
 use borrow.Author.Needs.{needs}
-use Rattle.loader_cases.proofs.read_words.Statement.{statement}
-use Rattle.loader_cases.proofs.read_words.Tie as tie
+use Rattle.load_items.proofs.items.read_words.Statement.{statement}
+use Rattle.load_items.proofs.items.read_words.Tie as tie
 
 abbrev Inv-loop : tie.InvT-loop
 Inv-loop text out₀ at₀ to₀ out at to = (to ≤ length out) × (length out ≡ length out₀)
