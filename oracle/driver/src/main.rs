@@ -5,13 +5,25 @@ mod cases;
 mod gen;
 #[cfg(feature = "terbagyl")]
 mod library;
+#[cfg(feature = "terbagyl")]
+mod library_loads;
+mod lends;
+mod load_gen;
+mod load_side;
+mod loads;
 mod model;
 mod plain;
+mod plain_load;
+mod plain_typing;
 mod runs;
 mod rust;
+mod rust_loads;
 mod sample;
+mod scripts;
 mod side;
 mod smoke;
+mod typing;
+mod values;
 
 use std::path::Path;
 use std::process::exit;
@@ -68,7 +80,7 @@ fn work() -> u64 {
         known = true;
         run.differences += smoke::run();
     }
-    for (name, count) in [("pairs", 0), ("unions", 20_000), ("builds", 20_000), ("steps", 100_000), ("damaged", 100_000), ("states", 20_000), ("schemas", 5_000)] {
+    for (name, count) in [("pairs", 0), ("unions", 20_000), ("builds", 20_000), ("steps", 100_000), ("damaged", 100_000), ("states", 20_000), ("schemas", 5_000), ("typings", 100_000), ("loads", 50_000)] {
         if !all && what != name {
             continue;
         }
@@ -81,6 +93,8 @@ fn work() -> u64 {
             "steps" => run.steps(count),
             "damaged" => run.damaged(count),
             "states" => run.states(count),
+            "typings" => run.typings(count),
+            "loads" => run.loads(count),
             _ => run.schemas(count),
         }
     }

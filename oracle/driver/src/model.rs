@@ -54,7 +54,6 @@ impl Kind {
     }
 }
 
-#[cfg_attr(not(feature = "terbagyl"), allow(dead_code))]
 pub const SCHEMA_WORDS: usize = 142_337;
 pub const STEPS: usize = 24;
 

@@ -165,7 +165,7 @@ pub fn lawful(kind: Kind, rows: &[u64]) -> bool {
             return !mark_of(*w) && w / 64 < 1 << 48 && before.judge(0, w / 64) == 0;
         }
         let (k, id) = (s / 65_536, s % 65_536);
-        let shaped = w >> 36 == 0 && w >> 25 <= 1_024 && k <= 5 && !(depth == 1 && k == F) && !((1..5).contains(&k) && id != 0);
+        let shaped = w >> 36 == 0 && w >> 25 <= 1_026 && k <= 5 && !(depth == 1 && k == F) && !((1..5).contains(&k) && id != 0);
         shaped && before.judge(depth, s as u64) == 0
     })
 }

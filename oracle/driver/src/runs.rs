@@ -19,22 +19,22 @@ pub struct Run<'a> {
 
 /// What a run counts.
 #[derive(Default)]
-struct Tally {
-    cases: u64,
+pub struct Tally {
+    pub cases: u64,
     by_rust: u64,
     differences: u64,
     /// answers by number, 0 for done
-    answers: BTreeMap<u64, u64>,
+    pub answers: BTreeMap<u64, u64>,
 }
 
 impl Tally {
-    fn answer<T>(&mut self, a: &Answer<T>) {
+    pub fn answer<T>(&mut self, a: &Answer<T>) {
         *self.answers.entry(a.as_ref().map_or_else(|r| r.number, |_| 0)).or_default() += 1;
     }
 }
 
 /// Leaves out parts, ever smaller ones, as long as it still fails, and for no more than some seconds.
-fn shrunk<T: Clone>(mut items: Vec<T>, fails: &mut dyn FnMut(&[T]) -> bool) -> Vec<T> {
+pub fn shrunk<T: Clone>(mut items: Vec<T>, fails: &mut dyn FnMut(&[T]) -> bool) -> Vec<T> {
     let (mut part, began) = (items.len().div_ceil(2), Instant::now());
     while part > 0 {
         let mut at = 0;
@@ -55,17 +55,17 @@ fn shrunk<T: Clone>(mut items: Vec<T>, fails: &mut dyn FnMut(&[T]) -> bool) -> V
     items
 }
 
-fn text_of(rows: &[u64]) -> Vec<u8> {
+pub fn text_of(rows: &[u64]) -> Vec<u8> {
     let mut out = Vec::new();
     plain::write(rows, &mut out);
     out
 }
 
-fn shown(text: &[u8]) -> String {
+pub fn shown(text: &[u8]) -> String {
     cut(String::from_utf8_lossy(text).escape_debug().to_string(), 1_500)
 }
 
-fn cut(s: String, most: usize) -> String {
+pub fn cut(s: String, most: usize) -> String {
     match s.char_indices().nth(most) {
         Some((at, _)) => format!("{} .. ({} bytes)", &s[..at], s.len()),
         None => s,
@@ -279,11 +279,11 @@ fn table(t: &Tally) -> String {
 }
 
 impl Run<'_> {
-    fn wanted(&self, run: &str, case: u64) -> bool {
+    pub fn wanted(&self, run: &str, case: u64) -> bool {
         self.only.as_ref().is_none_or(|(r, c)| r == run && *c == case)
     }
 
-    fn differ(&mut self, t: &mut Tally, run: &str, case: u64, why: String, input: impl FnOnce(&mut Self) -> String) {
+    pub fn differ(&mut self, t: &mut Tally, run: &str, case: u64, why: String, input: impl FnOnce(&mut Self) -> String) {
         t.differences += 1;
         self.differences += 1;
         // the first few are shrunk and shown
@@ -294,7 +294,7 @@ impl Run<'_> {
         }
     }
 
-    fn report(&self, name: &str, t: &Tally, began: Instant) {
+    pub fn report(&self, name: &str, t: &Tally, began: Instant) {
         println!("{name:<12} {:>7} cases, {} differences, {:.1} s; {}", t.cases, t.differences, began.elapsed().as_secs_f64(), table(t));
     }
 

@@ -86,7 +86,7 @@ pub fn model(trie: &RootAccessTrie) -> Trie {
     trie.trie().iter().map(|(r, n)| (root_step(r), model_node(n))).collect()
 }
 
-fn model_node(n: &AccessTrie) -> Node {
+pub fn model_node(n: &AccessTrie) -> Node {
     let mut below = model(n.ancestors_required());
     below.extend(n.children().iter().map(|(f, n)| (step(F, id(f)), model_node(n))));
     Node { mark: probe::is_ancestor(n), below }

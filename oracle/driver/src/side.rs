@@ -1,12 +1,14 @@
 //! The side that is held against the published Rust: our library, or the plain one.
 
+use crate::load_side::Loads;
 use crate::model::*;
 use crate::plain::{self, Types};
+use crate::plain_typing::Typer;
 
 /// A call with its input at hand, to be timed. It gives back the refusal's number, 0 where there is none.
 pub type Ready<'a> = Box<dyn FnMut() -> u64 + 'a>;
 
-pub trait Side {
+pub trait Side: Loads {
     fn name(&self) -> &'static str;
     fn empty(&mut self) -> Answer<Vec<u64>>;
     fn add(&mut self, manifest: &[u64], contribution: &[u64]) -> Answer<Vec<u64>>;
@@ -36,6 +38,7 @@ fn number<T>(answer: Answer<T>) -> u64 {
 pub struct Plain {
     /// the last schema asked with, and its types where it is lawful
     schema: Option<(Vec<u64>, Option<Types>)>,
+    pub typer: Typer,
 }
 
 impl Plain {
