@@ -10,7 +10,7 @@ use std::collections::HashMap;
 use std::hint::black_box;
 use std::time::{Duration, Instant};
 
-const ROUNDS: usize = 15;
+pub const ROUNDS: usize = 15;
 
 fn median(mut times: Vec<Duration>) -> f64 {
     times.sort();
@@ -18,7 +18,7 @@ fn median(mut times: Vec<Duration>) -> f64 {
 }
 
 /// Nanoseconds of one call, the median of rounds that each take a few milliseconds.
-fn time(mut ready: Ready) -> f64 {
+pub fn time(mut ready: Ready) -> f64 {
     let one = Instant::now();
     assert_eq!(ready(), 0, "a benchmark's input is refused");
     let calls = (5_000_000 / one.elapsed().as_nanos().max(1)).clamp(1, 2_000) as u32;
@@ -33,7 +33,7 @@ fn time(mut ready: Ready) -> f64 {
 }
 
 /// The Rust consumes what it works on: `make` gives it fresh copies and results are dropped, both outside the time.
-fn time_rust<T, R>(mut make: impl FnMut() -> T, mut f: impl FnMut(T) -> R) -> f64 {
+pub fn time_rust<T, R>(mut make: impl FnMut() -> T, mut f: impl FnMut(T) -> R) -> f64 {
     let rounds = (0..ROUNDS).map(|_| {
         let inputs: Vec<T> = (0..4).map(|_| make()).collect();
         let mut results = Vec::with_capacity(4);
@@ -48,7 +48,7 @@ fn time_rust<T, R>(mut make: impl FnMut() -> T, mut f: impl FnMut(T) -> R) -> f6
     median(rounds.collect())
 }
 
-fn show(what: &str, base: &str, base_ns: f64, side: &str, side_ns: f64) {
+pub fn show(what: &str, base: &str, base_ns: f64, side: &str, side_ns: f64) {
     println!("{what:<58} {base} {:>9.1} us, {side} {:>9.1} us, {side} takes {:.2} of it", base_ns / 1e3, side_ns / 1e3, side_ns / base_ns);
 }
 

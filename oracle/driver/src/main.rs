@@ -1,6 +1,7 @@
 //! Holds our library against the published Rust. See oracle/README.md.
 
 mod bench;
+mod bench_loads;
 mod cases;
 mod gen;
 #[cfg(feature = "terbagyl")]
@@ -8,6 +9,7 @@ mod library;
 #[cfg(feature = "terbagyl")]
 mod library_loads;
 mod lends;
+mod load_damage;
 mod load_gen;
 mod load_side;
 mod loads;
@@ -80,7 +82,7 @@ fn work() -> u64 {
         known = true;
         run.differences += smoke::run();
     }
-    for (name, count) in [("pairs", 0), ("unions", 20_000), ("builds", 20_000), ("steps", 100_000), ("damaged", 100_000), ("states", 20_000), ("schemas", 5_000), ("typings", 100_000), ("loads", 50_000)] {
+    for (name, count) in [("pairs", 0), ("unions", 20_000), ("builds", 20_000), ("steps", 100_000), ("damaged", 100_000), ("states", 20_000), ("schemas", 5_000), ("typings", 100_000), ("loads", 50_000), ("load_damage", 100_000)] {
         if !all && what != name {
             continue;
         }
@@ -95,6 +97,7 @@ fn work() -> u64 {
             "states" => run.states(count),
             "typings" => run.typings(count),
             "loads" => run.loads(count),
+            "load_damage" => run.load_damage(count),
             _ => run.schemas(count),
         }
     }
@@ -108,6 +111,7 @@ fn work() -> u64 {
     }
     if matches!(what, "all" | "bench") {
         bench::run(&mut *side, seed);
+        bench_loads::run(&mut *side, seed);
     }
     differences
 }

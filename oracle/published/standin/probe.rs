@@ -165,3 +165,29 @@ impl EntityLoader for Through<'_> {
 pub fn load_entities(manifest: &EntityManifest, request: &Request, store: &mut dyn Store) -> Result<Entities, EntitySliceError> {
     loader::load_entities(manifest, request, &mut Through(store))
 }
+
+/// An `EntityLoader` whose answers are at hand, batch by batch: nothing is recorded or copied.
+struct AtHand {
+    batches: std::vec::IntoIter<Vec<EntityAnswer>>,
+    ancestors: Vec<HashSet<EntityUID>>,
+}
+
+impl EntityLoader for AtHand {
+    fn load_entities(&mut self, _to_load: &[EntityRequest]) -> Result<Vec<EntityAnswer>, EntitySliceError> {
+        Ok(self.batches.next().unwrap_or_default())
+    }
+
+    fn load_ancestors(&mut self, _entities: &[AncestorsRequest]) -> Result<Vec<HashSet<EntityUID>>, EntitySliceError> {
+        Ok(std::mem::take(&mut self.ancestors))
+    }
+}
+
+/// A load with answers at hand, in the order in which this manifest's rows are asked for.
+pub fn load_at_hand(
+    manifest: &EntityManifest,
+    request: &Request,
+    batches: Vec<Vec<EntityAnswer>>,
+    ancestors: Vec<HashSet<EntityUID>>,
+) -> Result<Entities, EntitySliceError> {
+    loader::load_entities(manifest, request, &mut AtHand { batches: batches.into_iter(), ancestors })
+}
