@@ -32,8 +32,6 @@ enum Buffer {
 /// What is done to a load before its next call.
 #[derive(Clone, Debug)]
 struct Damage {
-    /// after so many good calls
-    after: usize,
     call: Call,
     pokes: Vec<(Buffer, usize, u64)>,
     lengths: Vec<(Buffer, isize)>,
@@ -160,7 +158,7 @@ fn a_place(rng: &mut Rng, lends: &mut Lends, buffer: Buffer) -> usize {
     }
 }
 
-fn a_damage(rng: &mut Rng, lends: &mut Lends, way: &Way, after: usize) -> Damage {
+fn a_damage(rng: &mut Rng, lends: &mut Lends, way: &Way) -> Damage {
     let in_turn = way.next(lends);
     let call = match rng.below(20) {
         0..=1 => Call::Type,
@@ -178,7 +176,7 @@ fn a_damage(rng: &mut Rng, lends: &mut Lends, way: &Way, after: usize) -> Damage
         call => call,
     };
     let lent = buffers(call);
-    let mut damage = Damage { after, call, pokes: Vec::new(), lengths: Vec::new() };
+    let mut damage = Damage { call, pokes: Vec::new(), lengths: Vec::new() };
     if rng.percent(8) {
         let buffer = *rng.pick(lent);
         let by = *rng.pick(&[-1, -1, -2, -1_000_000, 1, 7]);
@@ -205,7 +203,7 @@ fn case_damage(
     schema: &LoadSchema,
     case: &Case,
     after: usize,
-    draw: &mut dyn FnMut(&mut Lends, &Way, usize) -> Damage,
+    draw: &mut dyn FnMut(&mut Lends, &Way) -> Damage,
 ) -> (Damage, Result<Told, String>) {
     let rows = lent_rows(schema, case);
     let (first, nodes) = entry_of(&rows, case.request.kind).unwrap_or((0, &[]));
@@ -218,7 +216,7 @@ fn case_damage(
     for buffer in [Buffer::Typed, Buffer::Batch, Buffer::Requests, Buffer::Slice] {
         twin(lends, buffer).put(&[], 512);
     }
-    let none = Damage { after, call: way.begin(), pokes: Vec::new(), lengths: Vec::new() };
+    let none = Damage { call: way.begin(), pokes: Vec::new(), lengths: Vec::new() };
     for number in 0..after {
         let call = if number == 0 { way.begin() } else { way.next(lends) };
         match lends.call(side, call) {
@@ -227,7 +225,7 @@ fn case_damage(
             Err(why) => return (none, Err(why)),
         }
     }
-    let damage = draw(lends, &way, after);
+    let damage = draw(lends, &way);
     if damage.call == Call::Type {
         // typed once it would be typed again
         lends.manifest.put(&counted(&crate::model::rows(&case.manifest)), 64);
@@ -292,15 +290,15 @@ impl Run<'_> {
             let case = if limit { load_gen::limit_case(rng, schema) } else { load_gen::case(rng, schema) };
             let after = rng.upto(0, &[2, 4, 8]);
             t.cases += 1;
-            let (damage, told) = case_damage(self.side, &mut lends, schema, &case, after, &mut |lends, way, after| a_damage(rng, lends, way, after));
+            let (damage, told) = case_damage(self.side, &mut lends, schema, &case, after, &mut |lends, way| a_damage(rng, lends, way));
             *calls.entry(name_of(damage.call)).or_default() += 1;
             match told {
                 Ok(told) => *t.answers.entry(told.number).or_default() += 1,
                 Err(why) => self.differ(&mut t, "load_damage", number, why, |me| {
-                    let mut fails = |damage: &Damage| case_damage(me.side, &mut lends, schema, &case, after, &mut |_, _, _| damage.clone()).1.is_err();
+                    let mut fails = |damage: &Damage| case_damage(me.side, &mut lends, schema, &case, after, &mut |_, _| damage.clone()).1.is_err();
                     let pokes = shrunk(damage.pokes.clone(), &mut |pokes| fails(&Damage { pokes: pokes.to_vec(), ..damage.clone() }));
                     let damage = Damage { pokes, ..damage };
-                    format!("{damage:x?} in {}\n    with schema {}", scripts::of_case(schema, &case), shown(schema.text.as_bytes()))
+                    format!("after {after} good calls {damage:x?} in {}\n    with schema {}", scripts::of_case(schema, &case), shown(schema.text.as_bytes()))
                 }),
             }
         }

@@ -21,6 +21,7 @@ mod runs;
 mod rust;
 mod rust_loads;
 mod sample;
+mod sample_loads;
 mod scripts;
 mod side;
 mod smoke;
@@ -33,9 +34,9 @@ use std::time::Instant;
 
 const USAGE: &str = "driver [all | runs | bench | smoke | cases FOLDER | sample FOLDER | RUN [CASE]] [seed=N] [part=N]
   all     runs, then bench (what is done without words)
-  RUN     pairs, unions, builds, steps, damaged, states, schemas: one of them, or one case of it by its number
+  RUN     pairs, unions, builds, steps, damaged, states, schemas, typings, loads, load_damage: one of them, or one case of it by its number
   cases   the vectors cases*, stdout* of a folder through the published Rust
-  sample  writes the data files trie, manifest and steps of the published Rust's answers
+  sample  writes the data files trie, manifest, steps, typing and loader of the published Rust's answers
   seed    where the generators begin (1)
   part    a part of the counts: 10 for a tenth";
 

@@ -1,10 +1,12 @@
-//! A sample of the published Rust's answers as data files, which the programs trie_cases, manifest_cases and steps_cases replay (their data/oracle).
+//! A sample of the published Rust's answers as data files, which the programs trie_cases, manifest_cases, steps_cases, typing_cases and
+//! loader_cases replay (their data/oracle; of the last two see sample_loads.rs).
 //! Generators give the questions; every answer is made by the Rust's own functions and written here, row by row, from the Rust's result.
 
 use crate::gen::{self, Rng};
 use crate::model::*;
 use crate::plain;
 use crate::runs::rust_union;
+use crate::sample_loads;
 use crate::rust::{self, Ran, Schema};
 use std::collections::BTreeMap;
 use std::fs;
@@ -15,21 +17,21 @@ const ROOM: usize = 65_536;
 
 /// A data file: its lines after the header, and how many cases they are.
 #[derive(Default)]
-struct Sample {
-    lines: Vec<String>,
+pub struct Sample {
+    pub lines: Vec<String>,
     cases: usize,
 }
 
 impl Sample {
     /// The number of the next case.
-    fn next(&mut self) -> usize {
+    pub fn next(&mut self) -> usize {
         self.cases += 1;
         self.cases
     }
 }
 
 /// A manifest as the lines of its listing.
-fn listed(manifest: &Manifest) -> Vec<String> {
+pub fn listed(manifest: &Manifest) -> Vec<String> {
     let mut out = Vec::new();
     for (request, trie) in manifest {
         out.push(format!("A\t{}\t{}\t{}", request >> 32, request >> 16 & 65_535, request & 65_535));
@@ -42,11 +44,11 @@ fn listed(manifest: &Manifest) -> Vec<String> {
     out
 }
 
-fn escaped(text: &str) -> String {
+pub fn escaped(text: &str) -> String {
     text.replace('\t', "\\t").replace('\n', "\\n")
 }
 
-fn listing(manifest: &Manifest) -> String {
+pub fn listing(manifest: &Manifest) -> String {
     listed(manifest).iter().map(|line| escaped(line) + "\\n").collect()
 }
 
@@ -64,7 +66,7 @@ fn spread<T: Clone>(rng: &mut Rng, list: &[T], count: usize) -> Vec<T> {
 }
 
 /// From `low` to `high`, slowly at first, as n goes from 0 to `count`.
-fn growing(low: usize, high: usize, n: usize, count: usize) -> usize {
+pub fn growing(low: usize, high: usize, n: usize, count: usize) -> usize {
     low + (high - low) * n * n / (count * count)
 }
 
@@ -300,12 +302,12 @@ fn steps(seed: u64) -> Sample {
 // ---------------------------------------------------------------- files
 
 /// What a file says of itself: the functions of the Rust that answer, the generators that ask, the columns.
-struct About {
-    name: &'static str,
-    files: &'static str,
-    functions: &'static str,
-    questions: &'static str,
-    columns: &'static str,
+pub struct About {
+    pub name: &'static str,
+    pub files: &'static str,
+    pub functions: &'static str,
+    pub questions: &'static str,
+    pub columns: &'static str,
 }
 
 const OF_TRIES: About = About {
@@ -361,5 +363,7 @@ pub fn run(folder: &Path, seed: u64) -> Result<u64, String> {
     put_file(folder, seed, &OF_TRIES, &unions(seed))?;
     put_file(folder, seed, &OF_MANIFESTS, &builds(seed))?;
     put_file(folder, seed, &OF_STEPS, &steps(seed))?;
+    put_file(folder, seed, &sample_loads::OF_TYPINGS, &sample_loads::typings(seed))?;
+    put_file(folder, seed, &sample_loads::OF_LOADS, &sample_loads::loads(seed))?;
     Ok(0)
 }

@@ -26,7 +26,7 @@ fn row_item(word: u64) -> String {
     format!("{}.{}.{letter}.{}", if mark_of(word) { 'M' } else { 'N' }, word % 32, step % 65_536)
 }
 
-fn value_item(word: u64) -> String {
+pub fn value_item(word: u64) -> String {
     format!("{}.{}.{}.{}", word >> 35, word >> 19 & 65_535, KINDS[(word >> 16 & 7) as usize] as char, word & 65_535)
 }
 
@@ -58,12 +58,13 @@ pub fn calls(told: &Story) -> Vec<String> {
     out
 }
 
-pub fn line(name: &str, rows: &[u64], request: &Request, told: &Story) -> String {
+/// A line without the case's name.
+pub fn line(rows: &[u64], request: &Request, told: &Story) -> String {
     let manifest = items([format!("i.{}", rows.len())].into_iter().chain(rows.iter().map(|w| row_item(*w))));
     let asked = format!("t.{} i.{} i.{}", request_numbers(request.kind), request.principal, request.resource);
     let context = rows_of_fields(&request.context);
     let context = items([format!("i.{}", context.len())].into_iter().chain(context.into_iter().map(value_item)));
-    [name.to_string(), manifest, asked, context].into_iter().chain(calls(told)).collect::<Vec<_>>().join("\t")
+    [manifest, asked, context].into_iter().chain(calls(told)).collect::<Vec<_>>().join("\t")
 }
 
 /// A case as a script, its answers those to the batches that document 01 gives.
@@ -72,5 +73,5 @@ pub fn of_case(schema: &LoadSchema, case: &Case) -> String {
     let nodes = entry_of(&rows, case.request.kind).map_or(&[][..], |(_, nodes)| nodes);
     let (tree, pruned) = (Tree::of(nodes), load_gen::pruned(&schema.lines, nodes));
     let told = story(&Loader { tree: &tree, request: &case.request, rule: Rule::Document }, &pruned, &case.plan);
-    cut(line("smallest", &rows, &case.request, &told), 6_000)
+    cut(line(&rows, &case.request, &told), 6_000)
 }

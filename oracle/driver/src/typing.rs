@@ -66,7 +66,7 @@ pub fn wide_trie(rng: &mut Rng, lines: &plain_typing::Lines, kind: u64, nodes: u
 
 /// The first refusal in listing order by the Rust alone: the shortest front of the listing that it refuses. A leaf type's node is refused
 /// with its first child.
-fn by_fronts(schema: &LoadSchema, rows: &[u64]) -> Refusal {
+pub fn by_fronts(schema: &LoadSchema, rows: &[u64]) -> Refusal {
     let answer = |n: usize| rust_loads::to_typed(&schema.rust, &rust::manifest(&manifest_of(&rows[..n])));
     let (mut fine, mut bad) = (0, rows.len());
     while bad - fine > 1 {
