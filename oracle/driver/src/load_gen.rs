@@ -448,21 +448,19 @@ pub fn limit_case(rng: &mut Rng, schema: &LoadSchema) -> Case {
             context = Some(Fields::from([(0, Value::Entity(10)), (1, Value::Set((0..many).map(Value::Entity).collect())), (2, Value::Plain(1))]));
         }
         _ => {
-            // 4,096 rows: p, its 61 entities, and as many below each
-            let mut left = rng.from(4_094, 4_096) - 1;
-            for f in 0..64 {
+            // 4,096 rows: roots, their 61 entities, and as many below each of these
+            let mut left = rng.from(4_094, 4_096);
+            let steps = || (0..61).map(|f| step(F, f));
+            let places = [p, r].into_iter().flat_map(|root| {
+                let below = steps().flat_map(move |f| [vec![root, f]].into_iter().chain(steps().map(move |g| vec![root, f, g])));
+                [vec![root]].into_iter().chain(below)
+            });
+            for place in places {
                 if left == 0 {
                     break;
                 }
+                insert(&mut trie, &place, false);
                 left -= 1;
-                insert(&mut trie, &[p, step(F, f % 61), step(F, 61 * (f / 61))], false);
-                for g in 0..61.min(left) {
-                    insert(&mut trie, &[p, step(F, f % 61), step(F, g as u32)], false);
-                }
-            }
-            while count(&trie) > 4_096 {
-                let last = *trie[&p].below.keys().next_back().unwrap();
-                trie.get_mut(&p).unwrap().below.remove(&last);
             }
             plan.sliced = 1;
             plan.parents = 0;

@@ -101,25 +101,28 @@ impl Answers for Cut<'_> {
 }
 
 /// The first row of a batch that the Rust refuses, by the Rust alone: the shortest front of the batch whose answers it refuses, the rest being
-/// absent. None where two rows look alike to the store.
-fn row_by_fronts(run: &RustRun, batch: usize, rows: &[(u32, Node)]) -> Option<(u64, u64)> {
+/// absent. None where two rows look alike to the store, or where a front leads to a 14 of an ancestors walk, which looks like the batch's own.
+fn row_by_fronts(run: &RustRun, loader: &Loader, pruned: &[Node], batch: usize, rows: &[(u32, Node)]) -> Option<(u64, u64)> {
     let keys: Vec<(u32, u64)> = rows.iter().map(|(e, node)| (*e, hash_of(node))).collect();
     if keys.iter().collect::<BTreeSet<_>>().len() < keys.len() {
         return None;
     }
     let refused = |n: usize| {
         let cut = Cut { plan: run.plan, batch, kept: keys[..n].iter().copied().collect() };
-        match rust_loads::load(run.typed, run.request, &cut) {
-            (Ended::Number(number), log) if log.batches.len() == batch + 1 && !log.asked => Some(number),
-            _ => None,
+        if matches!(story(loader, pruned, &cut).end, Err((Stage::Ancestors, _))) {
+            return None;
         }
+        Some(match rust_loads::load(run.typed, run.request, &cut) {
+            (Ended::Number(number), log) if log.batches.len() == batch + 1 && !log.asked => number,
+            _ => 0,
+        })
     };
     let (mut fine, mut bad) = (0, rows.len());
     while bad - fine > 1 {
         let mid = (fine + bad) / 2;
-        if refused(mid).is_some() { bad = mid } else { fine = mid }
+        if refused(mid)? == 0 { fine = mid } else { bad = mid }
     }
-    refused(bad).map(|number| (number, bad as u64 - 1))
+    Some((refused(bad)?, bad as u64 - 1))
 }
 
 /// What a load of the Rust needs.
@@ -146,7 +149,7 @@ pub fn rust_as_told(run: &RustRun, loader: &Loader, pruned: &[Node], told: &Stor
         (Err((_, Refused::Counts(expected, got))), Ended::Counts(e, g)) => (expected, got) == (e, g),
         (Err((Stage::Batch, Refused::At(number, place))), Ended::Number(theirs)) => {
             let rows = rows_with_tries(&told.load.waiting, pruned);
-            let first = row_by_fronts(run, told.batches.len() - 1, &rows);
+            let first = row_by_fronts(run, loader, pruned, told.batches.len() - 1, &rows);
             found = first.is_some();
             loader.occurring(&told.load, &told.answers[told.answers.len() - 1]).contains(theirs) && first.is_none_or(|first| first == (*number, *place)) && !log.asked
         }
