@@ -4,7 +4,7 @@ use crate::gen::{self, Rng, Shape};
 use crate::model::*;
 use crate::plain::{lines, Line};
 use crate::side::{Plain, Ready, Side};
-use crate::{plain, rust};
+use crate::{plain, policies, rust};
 use published::entity_manifest::slicing::probe;
 use std::collections::HashMap;
 use std::hint::black_box;
@@ -49,6 +49,10 @@ pub fn time_rust<T, R>(mut make: impl FnMut() -> T, mut f: impl FnMut(T) -> R) -
 }
 
 pub fn show(what: &str, base: &str, base_ns: f64, side: &str, side_ns: f64) {
+    if base == side {
+        println!("{what:<58} nothing shown: the plain side against itself");
+        return;
+    }
     println!("{what:<58} {base} {:>9.1} us, {side} {:>9.1} us, {side} takes {:.2} of it", base_ns / 1e3, side_ns / 1e3, side_ns / base_ns);
 }
 
@@ -143,7 +147,12 @@ pub fn run(side: &mut dyn Side, seed: u64) {
     let what = format!("1,000 step lists of {} steps on average", total / 1_000);
     show(&what, "Rust", base, name, time(side.ready_analyse(&items, r, &texts)));
 
+    policies::bench(side, &items, &schema, rng);
+
     println!("nanoseconds per node of one trie, two tries of n nodes united that share 79 of 80; listing of n nodes read, written");
+    if name == "plain" {
+        println!("reading and writing: nothing shown, the plain side against itself");
+    }
     println!("{:>8} {:>12} {:>12} {:>8} {:>12} {:>12} {:>12} {:>12}", "n", "Rust", name, "ratio", "plain read", name, "plain write", name);
     for n in [250, 500, 1_000, 2_000, 4_000] {
         let (a, b) = pair(rng, n, n / 80);

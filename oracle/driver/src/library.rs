@@ -8,6 +8,7 @@ use crate::side::{Ready, Side};
 extern "C" {
     fn terbagyl_empty_manifest(out: *mut u64, out_len: usize, value: *mut u64) -> u64;
     fn terbagyl_add(manifest: *mut u64, manifest_len: usize, contribution: *const u64, contribution_len: usize, value: *mut u64) -> u64;
+    fn terbagyl_add_policy(schema: *const u64, schema_len: usize, text: *const u8, text_len: usize, manifest: *mut u64, manifest_len: usize, value: *mut u64) -> u64;
     fn terbagyl_union_manifests(a: *const u64, a_len: usize, b: *const u64, b_len: usize, out: *mut u64, out_len: usize, value: *mut u64) -> u64;
     fn terbagyl_union_contributions(a: *const u64, a_len: usize, b: *const u64, b_len: usize, out: *mut u64, out_len: usize, value: *mut u64) -> u64;
     fn terbagyl_has_in_manifest(state: *const u64, state_len: usize, place: *const u64, place_len: usize, value: *mut u64) -> u64;
@@ -196,6 +197,23 @@ impl Side for Library {
             self.faults.push("add: the contribution was changed".into());
         }
         words_left("add", m, number, value, &mut self.faults)
+    }
+
+    fn add_policy(&mut self, schema: &[u64], manifest: &[u64], text: &[u8]) -> Answer<Vec<u64>> {
+        if self.schema_rows.as_deref() != Some(schema) {
+            self.schema.put_state(schema);
+            self.schema_rows = Some(schema.to_vec());
+        }
+        let text = guarded(text);
+        let (s, m) = (&self.schema, &mut self.manifests[2]);
+        m.put_state(manifest);
+        let mut value = VALUE;
+        // SAFETY: as above; the three buffers are apart.
+        let number = unsafe { terbagyl_add_policy(s.start(), s.len, text.start(), text.len, m.start_mut(), m.len, &mut value) };
+        if !text.unchanged() || !s.unchanged() {
+            self.faults.push("add_policy: the text or the schema was changed".into());
+        }
+        words_left("add_policy", m, number, value, &mut self.faults)
     }
 
     fn union(&mut self, kind: Kind, a: &[u64], b: &[u64]) -> Answer<Vec<u64>> {
@@ -422,6 +440,24 @@ impl Side for Library {
                 let mut most = terbagyl_empty_manifest(m.start_mut(), m.len, &mut value);
                 for c in &list {
                     most = most.max(terbagyl_add(m.start_mut(), m.len, c.start(), c.len, &mut value));
+                }
+                most
+            }
+        })
+    }
+
+    fn ready_policies<'a>(&'a mut self, schema: &'a [u64], texts: &'a [Vec<u8>]) -> Ready<'a> {
+        self.schema.put_state(schema);
+        self.schema_rows = Some(schema.to_vec());
+        let (s, m) = (&self.schema, &mut self.manifests[2]);
+        Box::new(move || {
+            let mut value = 0;
+            m.used = m.len;
+            // SAFETY: as above.
+            unsafe {
+                let mut most = terbagyl_empty_manifest(m.start_mut(), m.len, &mut value);
+                for t in texts {
+                    most = most.max(terbagyl_add_policy(s.start(), s.len, t.as_ptr(), t.len(), m.start_mut(), m.len, &mut value));
                 }
                 most
             }

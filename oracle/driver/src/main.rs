@@ -17,6 +17,7 @@ mod model;
 mod plain;
 mod plain_load;
 mod plain_typing;
+mod policies;
 mod runs;
 mod rust;
 mod rust_loads;
@@ -34,7 +35,7 @@ use std::time::Instant;
 
 const USAGE: &str = "driver [all | runs | bench | smoke | cases FOLDER | sample FOLDER | RUN [CASE]] [seed=N] [part=N]
   all     runs, then bench (what is done without words)
-  RUN     pairs, unions, builds, steps, damaged, states, schemas, typings, loads, load_damage: one of them, or one case of it by its number
+  RUN     pairs, unions, builds, policies, steps, damaged, states, schemas, typings, loads, load_damage: one of them, or one case of it by its number
   cases   the vectors cases*, stdout* of a folder through the published Rust
   sample  writes the data files trie, manifest, steps, typing and loader of the published Rust's answers
   seed    where the generators begin (1)
@@ -74,6 +75,9 @@ fn work() -> u64 {
     }
     let mut side = the_side();
     println!("the published Rust against: {}; seed {seed}", side.name());
+    if side.name() == "plain" {
+        println!("our library is not linked: of listings written and read nothing is shown, the plain side against itself");
+    }
     let only = words.get(1).and_then(|c| c.parse().ok()).map(|c| (what.to_string(), c));
     let began = Instant::now();
     let mut run = runs::Run { side: &mut *side, seed, only, differences: 0 };
@@ -83,7 +87,7 @@ fn work() -> u64 {
         known = true;
         run.differences += smoke::run();
     }
-    for (name, count) in [("pairs", 0), ("unions", 20_000), ("builds", 20_000), ("steps", 100_000), ("damaged", 100_000), ("states", 20_000), ("schemas", 5_000), ("typings", 100_000), ("loads", 50_000), ("load_damage", 100_000)] {
+    for (name, count) in [("pairs", 0), ("unions", 20_000), ("builds", 20_000), ("policies", 20_000), ("steps", 100_000), ("damaged", 100_000), ("states", 20_000), ("schemas", 5_000), ("typings", 100_000), ("loads", 50_000), ("load_damage", 100_000)] {
         if !all && what != name {
             continue;
         }
@@ -93,6 +97,7 @@ fn work() -> u64 {
             "pairs" => run.pairs(),
             "unions" => run.unions(count),
             "builds" => run.builds(count),
+            "policies" => run.policies(count),
             "steps" => run.steps(count),
             "damaged" => run.damaged(count),
             "states" => run.states(count),

@@ -21,8 +21,9 @@ pub struct Run<'a> {
 #[derive(Default)]
 pub struct Tally {
     pub cases: u64,
-    by_rust: u64,
-    differences: u64,
+    pub by_rust: u64,
+    pub too_large: u64,
+    pub differences: u64,
     /// answers by number, 0 for done
     pub answers: BTreeMap<u64, u64>,
 }
@@ -79,19 +80,19 @@ fn said<T>(a: &Answer<T>, f: impl Fn(&T) -> String) -> String {
     }
 }
 
-fn rows_said(a: &Answer<Vec<u64>>) -> String {
+pub fn rows_said(a: &Answer<Vec<u64>>) -> String {
     said(a, |rows| if rows.iter().all(|w| w % 32 != 0 || w / 64 < 1 << 48) { shown(&text_of(rows)) } else { format!("{rows:x?}") })
 }
 
 /// A difference, or what was wrong with a lent buffer.
-fn compared(what: &str, expected: &Answer<Vec<u64>>, got: &Answer<Vec<u64>>) -> Result<(), String> {
+pub fn compared(what: &str, expected: &Answer<Vec<u64>>, got: &Answer<Vec<u64>>) -> Result<(), String> {
     if expected == got {
         return Ok(());
     }
     Err(format!("{what}\n    expected {}\n    got      {}", cut(rows_said(expected), 500), cut(rows_said(got), 500)))
 }
 
-fn no_faults(side: &mut dyn Side) -> Result<(), String> {
+pub fn no_faults(side: &mut dyn Side) -> Result<(), String> {
     match side.faults().as_slice() {
         [] => Ok(()),
         faults => Err(faults.join("; ")),
@@ -205,7 +206,7 @@ fn case_build(side: &mut dyn Side, list: &[(u64, Trie)], orders: &[Vec<usize>]) 
 }
 
 /// What is expected, and whether the Rust gave it.
-fn expected_steps(schema: &Schema, request: u64, text: &[u8]) -> (Answer<Vec<u64>>, bool) {
+pub fn expected_steps(schema: &Schema, request: u64, text: &[u8]) -> (Answer<Vec<u64>>, bool) {
     match rust::steps(schema, text) {
         Ran::Answer(a) => (a.map(|t| rows_of_trie(request, &t)), true),
         Ran::TooLarge => (plain::analyse(&schema.plain, request, text), false),
@@ -281,6 +282,24 @@ fn table(t: &Tally) -> String {
 impl Run<'_> {
     pub fn wanted(&self, run: &str, case: u64) -> bool {
         self.only.as_ref().is_none_or(|(r, c)| r == run && *c == case)
+    }
+
+    /// Without our library the plain side stands for it, and against itself it shows nothing.
+    fn plain_alone(&self) -> bool {
+        self.side.name() == "plain"
+    }
+
+    /// What the plain side is worth where the Rust has no answer.
+    pub fn by_plain(&self) -> &'static str {
+        if self.plain_alone() { "nothing shown: the plain side against itself" } else { "held against the plain side" }
+    }
+
+    /// Says of a run that it would hold the plain side against itself.
+    fn nothing_shown(&self, name: &str) -> bool {
+        if self.plain_alone() {
+            println!("{name:<12} nothing shown: the plain side against itself");
+        }
+        self.plain_alone()
     }
 
     pub fn differ(&mut self, t: &mut Tally, run: &str, case: u64, why: String, input: impl FnOnce(&mut Self) -> String) {
@@ -474,7 +493,7 @@ impl Run<'_> {
     }
 
     /// Each schema serves for 50 step texts.
-    fn schema(&mut self, case: u64, run: &str) -> (Vec<u8>, Vec<u64>, Schema, bool) {
+    pub fn schema(&mut self, case: u64, run: &str) -> (Vec<u8>, Vec<u64>, Schema, bool) {
         let rng = &mut Rng::new(self.seed, &format!("{run} schema"), case / 50);
         let limit = case / 50 % 7 == 3;
         let text = if limit { gen::limit_schema(rng) } else { gen::schema(rng) }.into_bytes();
@@ -512,6 +531,7 @@ impl Run<'_> {
                 Ok((answer, by_rust)) => {
                     t.answer(&answer);
                     t.by_rust += by_rust as u64;
+                    t.too_large += !by_rust as u64;
                 }
                 Err(why) => self.differ(&mut t, "steps", case, why, |me| {
                     let least = shrunk(lines, &mut |l| case_steps(me.side, &items, &schema, r, &gen::text_of(l)).is_err());
@@ -520,13 +540,14 @@ impl Run<'_> {
             }
         }
         self.report("steps", &t, began);
-        println!("{:<12} {lines_run} lines; {} answered by the Rust, {} too large for it (held against the plain side)", "", t.by_rust, t.cases - t.by_rust - t.differences);
+        println!("{:<12} {lines_run} lines; {} answered by the Rust, {} too large for it ({})", "", t.by_rust, t.too_large, self.by_plain());
     }
 
     /// Damaged copies of good texts: any reply, no crash; and the reply is the one that the plain reader gives.
     pub fn damaged(&mut self, count: u64) {
         let (began, mut t) = (Instant::now(), Tally::default());
         let (mut text, mut items, mut schema, _) = self.schema(0, "damaged");
+        let mut left_out = 0;
         for case in 0..count {
             if !self.wanted("damaged", case) {
                 continue;
@@ -600,6 +621,10 @@ impl Run<'_> {
                 }
             };
             let bad = if whole { good } else { gen::damaged(rng, &good) };
+            if self.plain_alone() && !matches!(what, Text::Steps) {
+                left_out += 1;
+                continue;
+            }
             t.cases += 1;
             match case_text(self.side, what, &items, &schema, &bad) {
                 Ok(answer) => t.answer(&answer),
@@ -612,10 +637,16 @@ impl Run<'_> {
             }
         }
         self.report("damaged", &t, began);
+        if left_out > 0 {
+            println!("{:<12} {left_out} listings, contributions and schemas left out ({})", "", self.by_plain());
+        }
     }
 
     /// Schemas at their limits, and damaged words of schemas.
     pub fn schemas(&mut self, count: u64) {
+        if self.nothing_shown("schemas") {
+            return;
+        }
         let (began, mut t) = (Instant::now(), Tally::default());
         let r = request(10, 500, 20);
         for (case, (what, text)) in gen::limit_schemas().into_iter().enumerate() {
@@ -661,6 +692,9 @@ impl Run<'_> {
 
     /// States with damaged words, and the lengths of buffers.
     pub fn states(&mut self, count: u64) {
+        if self.nothing_shown("states") {
+            return;
+        }
         let (began, mut t) = (Instant::now(), Tally::default());
         for case in 0..count {
             if !self.wanted("states", case) {

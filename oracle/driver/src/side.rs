@@ -4,6 +4,7 @@ use crate::load_side::Loads;
 use crate::model::*;
 use crate::plain::{self, Types};
 use crate::plain_typing::Typer;
+use crate::policies;
 
 /// A call with its input at hand, to be timed. It gives back the refusal's number, 0 where there is none.
 pub type Ready<'a> = Box<dyn FnMut() -> u64 + 'a>;
@@ -12,6 +13,7 @@ pub trait Side: Loads {
     fn name(&self) -> &'static str;
     fn empty(&mut self) -> Answer<Vec<u64>>;
     fn add(&mut self, manifest: &[u64], contribution: &[u64]) -> Answer<Vec<u64>>;
+    fn add_policy(&mut self, schema: &[u64], manifest: &[u64], text: &[u8]) -> Answer<Vec<u64>>;
     fn union(&mut self, kind: Kind, a: &[u64], b: &[u64]) -> Answer<Vec<u64>>;
     fn has(&mut self, kind: Kind, state: &[u64], place: &[u64]) -> Answer<u64>;
     fn read(&mut self, kind: Kind, text: &[u8]) -> Answer<Vec<u64>>;
@@ -25,6 +27,8 @@ pub trait Side: Loads {
 
     fn ready_union<'a>(&'a mut self, a: &'a [u64], b: &'a [u64]) -> Ready<'a>;
     fn ready_build<'a>(&'a mut self, list: &'a [Vec<u64>]) -> Ready<'a>;
+    /// Policy texts added to an empty manifest, one call each.
+    fn ready_policies<'a>(&'a mut self, schema: &'a [u64], texts: &'a [Vec<u8>]) -> Ready<'a>;
     fn ready_read<'a>(&'a mut self, text: &'a [u8]) -> Ready<'a>;
     fn ready_write<'a>(&'a mut self, rows: &'a [u64]) -> Ready<'a>;
     fn ready_analyse<'a>(&'a mut self, schema: &'a [u64], request: u64, texts: &'a [Vec<u8>]) -> Ready<'a>;
@@ -61,6 +65,13 @@ impl Side for Plain {
 
     fn add(&mut self, manifest: &[u64], contribution: &[u64]) -> Answer<Vec<u64>> {
         plain::add(manifest, contribution)
+    }
+
+    fn add_policy(&mut self, schema: &[u64], manifest: &[u64], text: &[u8]) -> Answer<Vec<u64>> {
+        match self.types(schema) {
+            Some(types) => policies::plain_add_policy(types, manifest, text),
+            None => refuse(1, 0),
+        }
     }
 
     fn union(&mut self, kind: Kind, a: &[u64], b: &[u64]) -> Answer<Vec<u64>> {
@@ -112,6 +123,20 @@ impl Side for Plain {
             let mut m = Vec::new();
             for c in list {
                 match plain::add(&m, c) {
+                    Ok(next) => m = next,
+                    Err(r) => return r.number,
+                }
+            }
+            0
+        })
+    }
+
+    fn ready_policies<'a>(&'a mut self, schema: &'a [u64], texts: &'a [Vec<u8>]) -> Ready<'a> {
+        let types = Types::of(schema);
+        Box::new(move || {
+            let mut m = Vec::new();
+            for text in texts {
+                match policies::plain_add_policy(&types, &m, text) {
                     Ok(next) => m = next,
                     Err(r) => return r.number,
                 }

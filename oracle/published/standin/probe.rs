@@ -119,6 +119,10 @@ impl Analysed {
         &self.0.global_trie
     }
 
+    pub fn into_global_trie(self) -> RootAccessTrie {
+        self.0.global_trie
+    }
+
     pub fn paths(&self) -> Paths<'_> {
         seen(&self.0.resulting_paths)
     }
