@@ -481,6 +481,29 @@ static void answer_fan(Answers *a, uint64_t batch, uint64_t row, uint64_t entity
     }
 }
 
+/* The same rows from the context, whose values are not counted: so many fields, all the entity 1. */
+static void context_fan(uint64_t fields, State *manifest, State *context) {
+    *manifest = state(MANIFEST_WORDS);
+    *context = state(CONTEXT_WORDS);
+    put_entry(*manifest, request_type(10, 500, 20));
+    put_node(*manifest, 1, C, 0, 0);
+    for (uint64_t f = 0; f < fields; f++) {
+        put_node(*manifest, 2, F, f, 0);
+        put_word(*context, value_row(1, f, ENTITY, 1));
+    }
+}
+
+static void answer_context_fan(Answers *a, uint64_t batch, uint64_t row, uint64_t entity, uint64_t node) {
+    answer_fan(a, batch + 1, row, entity, node);
+}
+
+/* One answer of sets of one, as deep as the lent words: judged for its form before 15. */
+static void answer_too_deep(Answers *a, uint64_t batch, uint64_t row, uint64_t entity, uint64_t node) {
+    (void)batch, (void)row, (void)entity, (void)node;
+    begin_answer(a, 0, 24575);
+    for (uint64_t n = 1; n <= 24575; n++) put_answer(a, nested(n, 24575, SET));
+}
+
 static void answer_fan_apart(Answers *a, uint64_t batch, uint64_t row, uint64_t entity, uint64_t node) {
     (void)row, (void)entity, (void)node;
     if (batch == 0) {
@@ -626,6 +649,23 @@ static void loads(void) {
         fan_fields = fans[n].fields, fan_values = fans[n].values, fan_parents = fans[n].parents, fan_other_keys = fans[n].other_keys;
         load(&(Load){fans[n].what, fan(fan_fields), none, 65535, 2, answer_fan, 0, 0, 0});
     }
+    static const struct {
+        const char *what;
+        uint64_t fields, values, parents, other_keys;
+    } by_context[] = {
+        {"4,095 answers to one entity of the context, two values each", 4095, 2, 0, 0},
+        {"4,095 answers to one entity of the context, two values each under other keys", 4095, 2, 0, 1},
+        {"4,095 answers to one entity of the context, two parents each", 4095, 0, 2, 0},
+        {"2,730 answers to one entity of the context, three values each under other keys", 2730, 3, 0, 1},
+    };
+    for (size_t n = 0; n < sizeof by_context / sizeof *by_context; n++) {
+        State m, c;
+        fan_values = by_context[n].values, fan_parents = by_context[n].parents, fan_other_keys = by_context[n].other_keys;
+        context_fan(by_context[n].fields, &m, &c);
+        load(&(Load){by_context[n].what, m, c, 65535, 2, answer_context_fan, 0, 0, 0});
+        free(m.words), free(c.words);
+    }
+    load(&(Load){"an answer of sets of one, 24,575 deep: 15", p, none, 1, 2, answer_too_deep, 0, 0, 1});
     fan_fields = 4095;
     load(&(Load){"4,095 answers to as many entities", fan(4095), none, 65535, 2, answer_fan_apart, 0, 0, 0});
 
@@ -647,6 +687,18 @@ static void loads(void) {
         asked_rows = asks[n].rows, asked_sets = asks[n].sets, asked_apart = asks[n].apart;
         load(&(Load){asks[n].what, asking(asked_rows, asked_sets), none, 65535, 65535, answer_asked, asks[n].ids, 1, 0});
     }
+    State sets = state(CONTEXT_WORDS), ask = state(MANIFEST_WORDS);
+    for (uint64_t n = 0; n < 31; n++) {
+        put_word(sets, value_row(1, n, SET, 0));
+        for (uint64_t k = 0; k < 256; k++) put_word(sets, value_row(2, k, ENTITY, 7 * k));
+    }
+    put_entry(ask, request_type(10, 500, 20));
+    for (uint64_t e = 0; e < 124; e++) {
+        put_node(ask, 1, E, e, 0);
+        put_node(ask, 2, C, 0, 0);
+        for (uint64_t n = 0; n < 31; n++) put_node(ask, 3, F, n, 1);
+    }
+    load(&(Load){"124 requests for 31 sets of 256 ids in the context", ask, sets, 1, 2, answer_empty, 5, 1, 0});
     asked_rows = 178;
     load(&(Load){"178 requests, each through 21 entities", walking(178, 21), none, 65535, 65535, answer_walking, 4, 1, 0});
     asked_rows = 1000;

@@ -169,12 +169,12 @@ fn chains(request: u64, from: usize, count: usize) -> Vec<u8> {
 }
 
 fn a_list(rng: &mut Rng, types: &Types) -> Vec<Vec<u8>> {
-    match rng.below(400) {
+    match rng.below(1_000) {
         0 => {
             // nodes around 4,096: chains that share some, over three request types
             (0..rng.from(14, 17)).map(|n| chains(request(n as u64 % 3, 500, 20), 11 * (n / 3), rng.from(12, 14))).collect()
         }
-        1..=2 => {
+        1..=5 => {
             // request types around 64, one or two a text
             let (mut list, mut n) = (Vec::new(), 0);
             let most = rng.from(62, 67) as u64;
