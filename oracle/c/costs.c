@@ -50,13 +50,19 @@ static void *thread_run(void *job) {
     return NULL;
 }
 
-/* The call made on a thread with a stack of so many bytes. */
+/* The call made on a thread with a stack of exactly so many bytes, whole pages, and a page below it that nobody may touch: the C library would
+   lend a larger stack that is left over. */
 static void on_a_thread(Job *j, size_t bytes) {
+    enum { PAGE = 4096 };
     pthread_attr_t attr;
     pthread_t thread;
-    if (pthread_attr_init(&attr) || pthread_attr_setstacksize(&attr, bytes) || pthread_create(&thread, &attr, thread_run, j)) cannot("start a thread");
+    Stack s = new_stack(PAGE + bytes);
+    if (mprotect(s.low, PAGE, PROT_NONE) || pthread_attr_init(&attr) || pthread_attr_setstack(&attr, s.low + PAGE, bytes) ||
+        pthread_create(&thread, &attr, thread_run, j))
+        cannot("start a thread");
     pthread_join(thread, NULL);
     pthread_attr_destroy(&attr);
+    munmap(s.low, s.bytes);
 }
 
 static Cost made(Job *j) {
@@ -202,15 +208,19 @@ static Text many_paths(const char *before) {
     return t;
 }
 
-/* A trie of 42 paths with 24 steps; then 127 roots of those paths, which gain the 23 fields again, and again and again. */
-static Text fields_gained(const char *before) {
+/* A trie of 42 paths with 24 steps; then so many roots of those paths, which gain the 23 fields again, and again and again. Of 127 the first fill
+   the small stack, of 36 the last lines: the text is then run again from its first line. */
+static Text fields_gained(const char *before, int paths) {
     Text t = text();
-    SAY(&t, "%s", before);
-    for (size_t round = 0; t.len + 2048 < text_bytes || round < 2; round++) {
-        for (int n = 0; n < (round ? 127 : 42); n++) SAY(&t, "lit\t%d\n%s", n % 42, round || n ? "union\n" : "");
+    SAY(&t, "%snone\n", before);
+    for (int round = 0; t.len + 2048 < text_bytes || round < 3; round++) {
+        for (int n = 0; n < (round < 2 ? 21 : paths); n++) SAY(&t, "lit\t%d\nunion\n", (n + 21 * round) % 42);
         for (int n = 0; n < 23; n++) SAY(&t, "attr\t%d\n", n % 10);
         SAY(&t, "drop\n");
     }
+    SAY(&t, "lit\t0\n");
+    for (int n = 0; n < 23; n++) SAY(&t, "attr\t%d\n", n % 10);
+    SAY(&t, "union\n");
     return t;
 }
 
@@ -251,6 +261,7 @@ static void step_texts(State schema) {
         const char *what, *again;
     } rounds[] = {
         {"127 paths gain 23 fields in a trie of 1,008 nodes, again and again", ""},
+        {"36 paths gain 23 fields in a trie of 1,008 nodes, again and again, and all of it on both stacks", ""},
         {"127 paths, a trie of 1,016 nodes, `attr` of a field that the literal lacks, again and again", "attr\t9\n"},
         {"the same, `attr` of the literal's field and `rec`, again and again", "attr\t1\nrec\t1\n"},
         {"the same, `none` and `union`, again and again", "drop\nnone\nunion\n"},
@@ -263,9 +274,9 @@ static void step_texts(State schema) {
     for (size_t n = 0; n < sizeof rounds / sizeof *rounds; n++) {
         for (int policy = 0; policy < 2; policy++) {
             Text t;
-            if (n == 0) {
-                t = fields_gained(policy ? "A\t10\t500\t20\n" : "");
-            } else if (n < 4) {
+            if (n < 2) {
+                t = fields_gained(policy ? "A\t10\t500\t20\n" : "", n == 0 ? 127 : 36);
+            } else if (n < 5) {
                 t = filled(many_paths(policy ? "A\t10\t500\t20\n" : ""), rounds[n].again);
             } else {
                 t = text();
@@ -719,6 +730,7 @@ static void part_on_threads(const char *what, void (*part)(void)) {
     fflush(stdout);
     pid_t child = fork();
     if (child == 0) {
+        passed = 0;
         part();
         if (write(counts[1], &passed, sizeof passed) != sizeof passed) _exit(2);
         _exit(0);

@@ -9,13 +9,34 @@ static const struct {
     const char *call;
     size_t bytes;
 } stated[] = {
-    {"read_schema", 1200000}, {"analyse", 2300000}, {"add_policy", 2300000},
+    {"empty_manifest", 4096},
+    {"has_in_manifest", 4096},
+    {"has_in_contribution", 4096},
+    {"write_manifest", 4096},
+    {"write_contribution", 4096},
+    {"union_manifests", 8192},
+    {"union_contributions", 8192},
+    {"read_manifest", 36864},
+    {"read_contribution", 36864},
+    {"add", 36864},
+    {"unite_manifests", 40960},
+    {"type", 53248},
+    {"load_begin", 102400},
+    {"load_batch", 299008},
+    {"load_ancestors_answer", 299008},
+    {"load_result", 331776},
+    {"load_answer", 397312},
+    {"load_ancestors", 499712},
+    {"read_schema", 1142784},
+    {"analyse", 2191360},
+    {"add_policy", 2191360},
 };
 
+/* 0 for a name that is not stated, so that whatever it takes is too much. */
 static inline size_t stated_bytes(const char *call) {
     for (size_t n = 0; n < sizeof stated / sizeof *stated; n++)
         if (!strcmp(stated[n].call, call)) return stated[n].bytes;
-    return 1 << 20;
+    return 0;
 }
 
 /* A thread's own share: its frames, and what the C library keeps on its stack. */

@@ -360,6 +360,10 @@ impl Side for Library {
                 let n = terbagyl_empty_manifest(out.start_mut(), out.len, &mut value);
                 check("empty_manifest", 1, n, value, out.unchanged());
 
+                let (s, mut m, policy) = (state(0, sl, &[]), state(1, ml, &[]), guarded(b"A\t10\t500\t20\nnone\n"));
+                let n = terbagyl_add_policy(s.start(), s.len, policy.start(), policy.len, m.start_mut(), m.len, &mut value);
+                check("add_policy", 2, n, value, s.unchanged() && m.unchanged());
+
                 let (mut m, c) = (state(0, ml, &[]), state(1, cl, &[row]));
                 let n = terbagyl_add(m.start_mut(), m.len, c.start(), c.len, &mut value);
                 check("add", 2, n, value, m.unchanged() && c.unchanged());
