@@ -1,5 +1,6 @@
 //! Benchmarks: the published Rust and the other side on the same inputs, in one run. See oracle/README.md for what is timed.
 
+use crate::clock::Instant;
 use crate::gen::{self, Rng, Shape};
 use crate::model::*;
 use crate::plain::{lines, Line};
@@ -8,7 +9,7 @@ use crate::{plain, policies, rust};
 use published::entity_manifest::slicing::probe;
 use std::collections::HashMap;
 use std::hint::black_box;
-use std::time::{Duration, Instant};
+use std::time::Duration;
 
 pub const ROUNDS: usize = 15;
 
@@ -68,7 +69,7 @@ pub fn run(side: &mut dyn Side, seed: u64) {
     let r = request(10, 500, 20);
     let name = side.name();
     let mut plain_side = Plain::default();
-    println!("benchmarks: medians of {ROUNDS} rounds; our buffers are not cleared between calls, the Rust's copies and drops are not timed");
+    println!("benchmarks: medians of {ROUNDS} rounds, processor time; our buffers are not cleared between calls, the Rust's copies and drops are not timed");
 
     // two tries of 2,000 nodes: nothing in common but by chance, half of it, and nearly all
     let shape = Shape { fields: 40, deep: 12, roots: 5, marks: 5, long: 30 };

@@ -3,6 +3,7 @@
 mod bench;
 mod bench_loads;
 mod cases;
+mod clock;
 mod gen;
 #[cfg(feature = "terbagyl")]
 mod library;

@@ -268,15 +268,18 @@ impl Run<'_> {
 
 // ---------------------------------------------------------------- the benchmark
 
-/// Policies of about 20 steps over 16 request types, one contribution each, that a manifest takes.
-fn bench_texts(rng: &mut Rng, types: &Types, count: usize) -> (Vec<Vec<u8>>, usize, usize) {
+/// Policies of about so many steps over 16 request types, one contribution each, that a manifest takes.
+fn bench_texts(rng: &mut Rng, types: &Types, count: usize, length: usize) -> (Vec<Vec<u8>>, usize, usize) {
     let (mut texts, mut m, mut steps) = (Vec::new(), Vec::new(), 0);
     while texts.len() < count {
         let n = texts.len() as u64 % 16;
-        let lines = gen::steps(rng, types, 18, 0);
+        let lines = gen::steps(rng, types, length, 0);
+        if lines.len() < length || lines.len() > length + length / 4 {
+            continue;
+        }
         let mut text = a_line(request(n % 4, 500 + n, 20));
         text.extend(gen::text_of(&lines));
-        if let (16..=24, Ok(next)) = (lines.len(), plain_add_policy(types, &m, &text)) {
+        if let Ok(next) = plain_add_policy(types, &m, &text) {
             steps += lines.len();
             texts.push(text);
             m = next;
@@ -308,13 +311,15 @@ fn rust_policies(schema: &Schema, texts: &[Vec<u8>]) -> f64 {
 
 pub fn bench(side: &mut dyn Side, items: &[u64], schema: &Schema, rng: &mut Rng) {
     let name = side.name();
-    let (texts, steps, nodes) = bench_texts(rng, &schema.plain, 200);
-    let what = format!("200 policies of {steps} steps, 16 types, {nodes} nodes in the end");
-    show(&what, "Rust", rust_policies(schema, &texts), name, time(side.ready_policies(items, &texts)));
-    println!("microseconds per policy, n policies added to an empty manifest");
+    for length in [56, 18] {
+        let (texts, steps, nodes) = bench_texts(rng, &schema.plain, 200, length);
+        let what = format!("200 policies of {steps} steps, 16 types, {nodes} nodes in the end");
+        show(&what, "Rust", rust_policies(schema, &texts), name, time(side.ready_policies(items, &texts)));
+    }
+    println!("microseconds per policy, n policies of about 60 steps added to an empty manifest");
     println!("{:>8} {:>12} {:>12} {:>8}", "n", "Rust", name, "ratio");
-    for n in [25, 50, 100, 200, 400, 800] {
-        let (texts, _, nodes) = bench_texts(rng, &schema.plain, n);
+    for n in [25, 50, 100, 200, 400] {
+        let (texts, _, nodes) = bench_texts(rng, &schema.plain, n, 56);
         let (base, ours) = (rust_policies(schema, &texts), time(side.ready_policies(items, &texts)));
         let per = |ns: f64| ns / 1e3 / n as f64;
         println!("{n:>8} {:>12.1} {:>12.1} {:>8.2}  ({nodes} nodes in the end)", per(base), per(ours), ours / base);
