@@ -19,7 +19,7 @@ static const struct {
     {"read_manifest", 36864},
     {"read_contribution", 36864},
     {"add", 36864},
-    {"unite_manifests", 40960},
+    {"unite_manifests", 36864},
     {"type", 53248},
     {"load_begin", 102400},
     {"load_batch", 299008},
