@@ -88,7 +88,7 @@ static Cost cost_of(Job *j, const char *input) {
 
 /* 64 entries of 64 nodes, in chains of 24 steps that alternate fields and roots; `other`: other ids. */
 static State full_manifest(uint64_t other) {
-    State m = state(MANIFEST_WORDS);
+    State m = state(TERBAGYL_MANIFEST_LEN);
     for (uint64_t e = 0; e < 64; e++) {
         put_entry(m, request_type(e, 500, 20));
         uint64_t nodes = 0;
@@ -113,37 +113,35 @@ static State one_entry(size_t words, uint64_t nodes, uint64_t first, uint64_t by
 }
 
 static Text listing_of(State m, int contribution) {
-    State out = state(MANIFEST_BYTES / 8);
+    State out = state(TERBAGYL_MANIFEST_TEXT_LEN / 8);
     uint64_t bytes = 0;
-    uint64_t n = contribution ? terbagyl_write_contribution(LENT(m), (uint8_t *)out.words, MANIFEST_BYTES, &bytes)
-                              : terbagyl_write_manifest(LENT(m), (uint8_t *)out.words, MANIFEST_BYTES, &bytes);
+    uint64_t n = contribution ? terbagyl_write_contribution(LENT(m), (uint8_t *)out.words, TERBAGYL_MANIFEST_TEXT_LEN, &bytes)
+                              : terbagyl_write_manifest(LENT(m), (uint8_t *)out.words, TERBAGYL_MANIFEST_TEXT_LEN, &bytes);
     if (n) cannot("write a listing");
-    Text t = {(char *)out.words, bytes, MANIFEST_BYTES};
+    Text t = {(char *)out.words, bytes, TERBAGYL_MANIFEST_TEXT_LEN};
     return t;
 }
 
 static void manifests(void) {
-    State out = state(MANIFEST_WORDS), out_c = state(CONTRIBUTION_WORDS), bytes = state(MANIFEST_BYTES / 8);
+    State out = state(TERBAGYL_MANIFEST_LEN), out_c = state(TERBAGYL_CONTRIBUTION_LEN), bytes = state(TERBAGYL_MANIFEST_TEXT_LEN / 8);
     COST("", CALL(empty_manifest), .out = out);
     State a = full_manifest(0), b = full_manifest(1);
     COST("4,096 nodes each, all the same", CALL(union_manifests), .x = a, .y = a, .out = out);
     COST("4,096 nodes each, 64 entries, none the same: 4", CALL(union_manifests), .x = a, .y = b, .out = out);
-    State l = one_entry(MANIFEST_WORDS, 2048, 0, 2), r = one_entry(MANIFEST_WORDS, 2048, 1, 2);
+    State l = one_entry(TERBAGYL_MANIFEST_LEN, 2048, 0, 2), r = one_entry(TERBAGYL_MANIFEST_LEN, 2048, 1, 2);
     COST("2,048 nodes each in one entry, in turn", CALL(union_manifests), .x = l, .y = r, .out = out);
-    State c = one_entry(CONTRIBUTION_WORDS, 512, 0, 2), d = one_entry(CONTRIBUTION_WORDS, 512, 1, 2);
+    State c = one_entry(TERBAGYL_CONTRIBUTION_LEN, 512, 0, 2), d = one_entry(TERBAGYL_CONTRIBUTION_LEN, 512, 1, 2);
     COST("512 nodes each, in turn", CALL(union_contributions), .x = c, .y = d, .out = out_c);
-    State e = one_entry(CONTRIBUTION_WORDS, 1024, 0, 1);
+    State e = one_entry(TERBAGYL_CONTRIBUTION_LEN, 1024, 0, 1);
     COST("1,024 nodes each, all the same", CALL(union_contributions), .x = e, .y = e, .out = out_c);
 
-    State m = one_entry(MANIFEST_WORDS, 3072, 0, 2);
-    State more = one_entry(CONTRIBUTION_WORDS, 1024, 1, 2);
+    State m = one_entry(TERBAGYL_MANIFEST_LEN, 3072, 0, 2);
+    State more = one_entry(TERBAGYL_CONTRIBUTION_LEN, 1024, 1, 2);
     COST("1,024 nodes to 3,072, in turn", CALL(add), .x = more, .out = m);
-    if (terbagyl_unite_manifests) {
-        State u = one_entry(MANIFEST_WORDS, 2048, 0, 2);
-        COST("2,048 nodes to 2,048, in turn", CALL(unite_manifests), .x = r, .out = u);
-        State v = full_manifest(0);
-        COST("4,096 nodes each, 64 entries, none the same: 4", CALL(unite_manifests), .x = b, .out = v);
-    }
+    State u = one_entry(TERBAGYL_MANIFEST_LEN, 2048, 0, 2);
+    COST("2,048 nodes to 2,048, in turn", CALL(unite_manifests), .x = r, .out = u);
+    State v = full_manifest(0);
+    COST("4,096 nodes each, 64 entries, none the same: 4", CALL(unite_manifests), .x = b, .out = v);
 
     State place = state(25);
     place.words[0] = request_type(63, 500, 20);
@@ -192,7 +190,7 @@ static Text wide_schema(void) {
 }
 
 static State schema_of(Text t) {
-    State s = state(SCHEMA_WORDS);
+    State s = state(TERBAGYL_SCHEMA_LEN);
     uint64_t value;
     if (terbagyl_read_schema(BYTES(t), LENT(s), &value)) cannot("read a schema");
     return s;
@@ -268,7 +266,7 @@ static void step_texts(State schema) {
         {"a type of 942 nodes and `in`, again and again", "drop\nvar\tp\nfull\t14\nin\n"},
         {"a type of 942 nodes united, again and again", "drop\nvar\tp\nfull\t14\nunion\n"},
     };
-    State out = state(CONTRIBUTION_WORDS);
+    State out = state(TERBAGYL_CONTRIBUTION_LEN);
     uint64_t request = request_type(10, 500, 20);
     char input[200];
     for (size_t n = 0; n < sizeof rounds / sizeof *rounds; n++) {
@@ -284,7 +282,7 @@ static void step_texts(State schema) {
                 t = filled(t, rounds[n].again);
             }
             snprintf(input, sizeof input, "%s (%zu bytes)", rounds[n].what, t.len);
-            State m = state(MANIFEST_WORDS);
+            State m = state(TERBAGYL_MANIFEST_LEN);
             if (policy)
                 COST(input, CALL(add_policy), .x = schema, .text = t, .out = m);
             else
@@ -298,7 +296,7 @@ static void step_texts(State schema) {
         const char *what[] = {"31 results of 121 path nodes and 23 steps, then `in`", "30 results of 40 paths of 23 steps"};
         for (int n = 0; n < 2; n++) {
             snprintf(input, sizeof input, "%s (%zu bytes)", what[n], texts[n].len);
-            State m = state(MANIFEST_WORDS);
+            State m = state(TERBAGYL_MANIFEST_LEN);
             if (policy)
                 COST(input, CALL(add_policy), .x = schema, .text = texts[n], .out = m);
             else
@@ -317,12 +315,12 @@ static void step_texts(State schema) {
     COST("contributions of two steps to 4,096 nodes, again and again", CALL(add_policy), .x = schema, .text = t, .out = m);
     t.len = 0;
     while (t.len + 40 < text_bytes) SAY(&t, "A\t0\t500\t20\nvar\tp\nfull\t14\n");
-    State n = one_entry(MANIFEST_WORDS, 3000, 0, 1);
+    State n = one_entry(TERBAGYL_MANIFEST_LEN, 3000, 0, 1);
     COST("contributions of 943 nodes to 3,000, again and again", CALL(add_policy), .x = schema, .text = t, .out = n);
 }
 
 static void schemas(void) {
-    State out = state(SCHEMA_WORDS);
+    State out = state(TERBAGYL_SCHEMA_LEN);
     Text t = largest_schema();
     COST("the largest schema", CALL(read_schema), .text = t, .out = out);
     State largest = schema_of(t), wide = schema_of(wide_schema());
@@ -334,19 +332,19 @@ static void schemas(void) {
     }
     COST("four types of 65,536 names each", CALL(read_schema), .text = names, .out = out);
 
-    State typed = state(MANIFEST_WORDS);
-    State m = state(MANIFEST_WORDS);
+    State typed = state(TERBAGYL_MANIFEST_LEN);
+    State m = state(TERBAGYL_MANIFEST_LEN);
     put_entry(m, request_type(10, 500, 20));
     for (uint64_t n = 0; n < 4096; n++) put_node(m, 1, E, 4096 + n, 0);
     COST("the largest schema, 4,096 literals", CALL(type), .x = largest, .y = m, .out = typed);
-    State k = state(MANIFEST_WORDS);
+    State k = state(TERBAGYL_MANIFEST_LEN);
     put_entry(k, request_type(1023, 1023, 1023));
     for (uint64_t n = 0; n < 63; n++) {
         put_node(k, 1, E, 8000 + n, 0);
         for (uint64_t f = 0; f < 64; f++) put_node(k, 2, F, f, 0);
     }
     COST("the largest schema, 63 literals with 64 fields each", CALL(type), .x = largest, .y = k, .out = typed);
-    State v = state(MANIFEST_WORDS);
+    State v = state(TERBAGYL_MANIFEST_LEN);
     put_entry(v, request_type(1023, 1023, 1023));
     put_node(v, 1, P, 0, 0);
     for (uint64_t f = 0; f < 64; f++) {
@@ -354,7 +352,7 @@ static void schemas(void) {
         for (uint64_t g = 0; g < 62; g++) put_node(v, 3, F, g, 0);
     }
     COST("the largest schema, principal with 64 fields of 62", CALL(type), .x = largest, .y = v, .out = typed);
-    State s = state(CONTRIBUTION_WORDS);
+    State s = state(TERBAGYL_CONTRIBUTION_LEN);
     Text small = text();
     SAY(&small, "var\tp\nattr\t7\n");
     COST("the largest schema, two steps", CALL(analyse), .x = largest, .request = request_type(10, 500, 20), .text = small, .out = s);
@@ -383,7 +381,7 @@ static Cost larger(Cost a, Cost b) {
 
 /* All calls of a load; of batches and answers the most. */
 static void load(const Load *l) {
-    State st = state(LOAD_WORDS), batch = state(BATCH_WORDS), requests = state(REQUESTS_WORDS), slice = state(SLICE_WORDS);
+    State st = state(TERBAGYL_LOAD_LEN), batch = state(TERBAGYL_BATCH_LEN), requests = state(TERBAGYL_ANCESTORS_LEN), slice = state(TERBAGYL_SLICE_LEN);
     Job begin = {CALL(load_begin), .x = l->manifest, .y = l->context, .out = st, .request = request_type(10, 500, 20), .principal = l->principal,
                  .resource = l->resource};
     cost_of(&begin, l->what);
@@ -425,7 +423,7 @@ end:
 }
 
 static State entry_with_p(void) {
-    State m = state(MANIFEST_WORDS);
+    State m = state(TERBAGYL_MANIFEST_LEN);
     put_entry(m, request_type(10, 500, 20));
     put_node(m, 1, P, 0, 0);
     return m;
@@ -443,7 +441,7 @@ static uint64_t nested(uint64_t n, uint64_t of, uint64_t kind) {
 }
 
 static State nested_context(uint64_t kind) {
-    State c = state(CONTEXT_WORDS);
+    State c = state(TERBAGYL_CONTEXT_LEN);
     for (uint64_t n = 1; n <= 8192; n++) put_word(c, nested(n, 8192, kind));
     return c;
 }
@@ -461,7 +459,7 @@ static void pairs_of_sets(State c, uint64_t levels, uint64_t last, uint64_t dept
 
 /* A chain of sets, each of two elements: one as long as what follows it, as far as there is room. */
 static State two_long_records(void) {
-    State c = state(CONTEXT_WORDS);
+    State c = state(TERBAGYL_CONTEXT_LEN);
     put_word(c, value_row(1, 0, SET, 0));
     for (uint64_t e = 0; e < 2; e++) {
         put_word(c, value_row(2, e, RECORD, 0));
@@ -494,8 +492,8 @@ static void answer_fan(Answers *a, uint64_t batch, uint64_t row, uint64_t entity
 
 /* The same rows from the context, whose values are not counted: so many fields, all the entity 1. */
 static void context_fan(uint64_t fields, State *manifest, State *context) {
-    *manifest = state(MANIFEST_WORDS);
-    *context = state(CONTEXT_WORDS);
+    *manifest = state(TERBAGYL_MANIFEST_LEN);
+    *context = state(TERBAGYL_CONTEXT_LEN);
     put_entry(*manifest, request_type(10, 500, 20));
     put_node(*manifest, 1, C, 0, 0);
     for (uint64_t f = 0; f < fields; f++) {
@@ -598,7 +596,7 @@ static void answer_walking(Answers *a, uint64_t batch, uint64_t row, uint64_t en
 
 /* Roots e, each asking for the principal among its ancestors. */
 static State literals(uint64_t n, int ask) {
-    State m = state(MANIFEST_WORDS);
+    State m = state(TERBAGYL_MANIFEST_LEN);
     put_entry(m, request_type(10, 500, 20));
     for (uint64_t e = 0; e < n; e++) {
         put_node(m, 1, E, e, 0);
@@ -623,15 +621,15 @@ static void answer_wide(Answers *a, uint64_t batch, uint64_t row, uint64_t entit
 }
 
 static void loads(void) {
-    State none = state(CONTEXT_WORDS), p = entry_with_p();
-    State both = state(MANIFEST_WORDS);
+    State none = state(TERBAGYL_CONTEXT_LEN), p = entry_with_p();
+    State both = state(TERBAGYL_MANIFEST_LEN);
     put_entry(both, request_type(10, 500, 20));
     put_node(both, 1, P, 0, 0);
     put_node(both, 1, R, 0, 0);
 
     load(&(Load){"a context of records, 8,192 deep", p, nested_context(RECORD), 1, 2, answer_empty, 0, 0, 0});
     load(&(Load){"a context of sets of one, 8,192 deep", p, nested_context(SET), 1, 2, answer_empty, 0, 0, 0});
-    State pairs = state(CONTEXT_WORDS);
+    State pairs = state(TERBAGYL_CONTEXT_LEN);
     pairs_of_sets(pairs, 11, 1, 1, 0);
     load(&(Load){"a context of sets of two, alike but for the last, 11 deep", p, pairs, 1, 2, answer_empty, 0, 0, 0});
     load(&(Load){"a context with a set of two records of 4,093 fields, alike but for the last", p, two_long_records(), 1, 2, answer_empty, 0, 0, 0});
@@ -698,7 +696,7 @@ static void loads(void) {
         asked_rows = asks[n].rows, asked_sets = asks[n].sets, asked_apart = asks[n].apart;
         load(&(Load){asks[n].what, asking(asked_rows, asked_sets), none, 65535, 65535, answer_asked, asks[n].ids, 1, 0});
     }
-    State sets = state(CONTEXT_WORDS), ask = state(MANIFEST_WORDS);
+    State sets = state(TERBAGYL_CONTEXT_LEN), ask = state(TERBAGYL_MANIFEST_LEN);
     for (uint64_t n = 0; n < 31; n++) {
         put_word(sets, value_row(1, n, SET, 0));
         for (uint64_t k = 0; k < 256; k++) put_word(sets, value_row(2, k, ENTITY, 7 * k));
@@ -749,7 +747,7 @@ static void part_on_threads(const char *what, void (*part)(void)) {
 
 /* Half of what a call takes: the page below a thread's stack ends the process. */
 static void too_little(void) {
-    State s = state(SCHEMA_WORDS);
+    State s = state(TERBAGYL_SCHEMA_LEN);
     Text t = largest_schema();
     Job j = {CALL(read_schema), .text = t, .out = s};
     fflush(stdout);

@@ -28,7 +28,7 @@ static const char *const LISTING = "A\t10\t500\t20\nN\t1\tp\t0\t0\nN\t2\tf\t7\t0
 #define STRING(s) (const uint8_t *)(s), strlen(s)
 
 static State schema(void) {
-    State s = state(SCHEMA_WORDS);
+    State s = state(TERBAGYL_SCHEMA_LEN);
     uint64_t value;
     if (terbagyl_read_schema(STRING(SCHEMA), LENT(s), &value)) cannot("read the schema");
     return s;
@@ -38,7 +38,7 @@ static State schema(void) {
 static State case_l(size_t words) {
     State m = state(words);
     uint64_t value;
-    uint64_t n = words == MANIFEST_WORDS ? terbagyl_read_manifest(STRING(LISTING), LENT(m), &value)
+    uint64_t n = words == TERBAGYL_MANIFEST_LEN ? terbagyl_read_manifest(STRING(LISTING), LENT(m), &value)
                                          : terbagyl_read_contribution(STRING(LISTING), LENT(m), &value);
     if (n) cannot("read case *L");
     return m;
@@ -56,11 +56,11 @@ static State roots(size_t words, uint64_t request, uint64_t first, uint64_t n) {
 
 static void equal_inputs(void) {
     uint64_t value;
-    State m = case_l(MANIFEST_WORDS), out = state(MANIFEST_WORDS), before = copy_of(m);
+    State m = case_l(TERBAGYL_MANIFEST_LEN), out = state(TERBAGYL_MANIFEST_LEN), before = copy_of(m);
     uint64_t n = terbagyl_union_manifests(LENT(m), LENT(m), LENT(out), &value);
     check("union_manifests of a manifest with itself is that manifest", n == 0 && value == 0 && same_rows(m, out) && same(m.words, before.words, m.len));
 
-    State c = case_l(CONTRIBUTION_WORDS), out_c = state(CONTRIBUTION_WORDS);
+    State c = case_l(TERBAGYL_CONTRIBUTION_LEN), out_c = state(TERBAGYL_CONTRIBUTION_LEN);
     n = terbagyl_union_contributions(LENT(c), LENT(c), LENT(out_c), &value);
     check("union_contributions of a contribution with itself is that contribution", n == 0 && value == 0 && same_rows(c, out_c));
 
@@ -74,11 +74,11 @@ static void equal_inputs(void) {
     check("has_in_manifest of a place inside the manifest's buffer", n == 0 && value == 2);
 
     /* a schema whose buffer is the manifest's too: both empty */
-    State zero = state(SCHEMA_WORDS), typed = state(MANIFEST_WORDS);
+    State zero = state(TERBAGYL_SCHEMA_LEN), typed = state(TERBAGYL_MANIFEST_LEN);
     n = terbagyl_type(LENT(zero), LENT(zero), LENT(typed), &value);
     check("type of an empty manifest by an empty schema, one buffer for both", n == 0 && value == 0 && typed.words[0] == 0);
 
-    State load = state(LOAD_WORDS);
+    State load = state(TERBAGYL_LOAD_LEN);
     uint64_t first, second;
     n = terbagyl_load_begin(LENT(zero), request_type(10, 500, 20), 1, 2, LENT(zero), LENT(load), &value, &first, &second);
     check("load_begin of an empty manifest and an empty context, one buffer for both", n == 0 && value == 0 && first == 0 && second == 0);
@@ -88,17 +88,17 @@ static void equal_inputs(void) {
 
 static void null_with_zero(void) {
     uint64_t value = 9, first = 9, second = 9;
-    State m = case_l(MANIFEST_WORDS), c = case_l(CONTRIBUTION_WORDS), s = schema(), before = copy_of(m);
+    State m = case_l(TERBAGYL_MANIFEST_LEN), c = case_l(TERBAGYL_CONTRIBUTION_LEN), s = schema(), before = copy_of(m);
     uint64_t request = request_type(10, 500, 20);
-    uint8_t *bytes = malloc(MANIFEST_BYTES);
-    State out = state(MANIFEST_WORDS), context = state(CONTEXT_WORDS), load = state(LOAD_WORDS), batch = state(BATCH_WORDS);
+    uint8_t *bytes = malloc(TERBAGYL_MANIFEST_TEXT_LEN);
+    State out = state(TERBAGYL_MANIFEST_LEN), context = state(TERBAGYL_CONTEXT_LEN), load = state(TERBAGYL_LOAD_LEN), batch = state(TERBAGYL_BATCH_LEN);
 
     uint64_t n = terbagyl_read_manifest(NULL, 0, LENT(out), &value);
     check("read_manifest of no text is the empty manifest", n == 0 && value == 0 && out.words[0] == 0);
-    State out_c = state(CONTRIBUTION_WORDS);
+    State out_c = state(TERBAGYL_CONTRIBUTION_LEN);
     n = terbagyl_read_contribution(NULL, 0, LENT(out_c), &value);
     check("read_contribution of no text is 1 at 0", n == 1 && value == 0);
-    State out_s = state(SCHEMA_WORDS);
+    State out_s = state(TERBAGYL_SCHEMA_LEN);
     n = terbagyl_read_schema(NULL, 0, LENT(out_s), &value);
     check("read_schema of no text is a schema without types", n == 0 && value == 0 && out_s.words[0] == 0);
     n = terbagyl_analyse(LENT(s), request, NULL, 0, LENT(out_c), &value);
@@ -129,9 +129,9 @@ static void null_with_zero(void) {
     SHORT("has_in_contribution, state", terbagyl_has_in_contribution(NULL, 0, &request, 1, &value));
     SHORT("read_manifest, out", terbagyl_read_manifest(STRING(LISTING), NULL, 0, &value));
     SHORT("read_contribution, out", terbagyl_read_contribution(STRING(LISTING), NULL, 0, &value));
-    SHORT("write_manifest, state", terbagyl_write_manifest(NULL, 0, bytes, MANIFEST_BYTES, &value));
+    SHORT("write_manifest, state", terbagyl_write_manifest(NULL, 0, bytes, TERBAGYL_MANIFEST_TEXT_LEN, &value));
     SHORT("write_manifest, out", terbagyl_write_manifest(LENT(m), NULL, 0, &value));
-    SHORT("write_contribution, state", terbagyl_write_contribution(NULL, 0, bytes, MANIFEST_BYTES, &value));
+    SHORT("write_contribution, state", terbagyl_write_contribution(NULL, 0, bytes, TERBAGYL_MANIFEST_TEXT_LEN, &value));
     SHORT("write_contribution, out", terbagyl_write_contribution(LENT(c), NULL, 0, &value));
     SHORT("read_schema, out", terbagyl_read_schema(STRING(SCHEMA), NULL, 0, &value));
     SHORT("analyse, schema", terbagyl_analyse(NULL, 0, request, STRING(STEPS), LENT(out_c), &value));
@@ -180,11 +180,11 @@ static uint64_t *at_shift(size_t words, size_t shift) {
 static void set_word(uint64_t *at, uint64_t word) { memcpy((char *)at, &word, 8); }
 
 static Round new_round(size_t shift) {
-    Round r = {.schema = at_shift(SCHEMA_WORDS, shift), .contribution = at_shift(CONTRIBUTION_WORDS, shift), .manifest = at_shift(MANIFEST_WORDS, shift),
-               .united = at_shift(MANIFEST_WORDS, shift), .typed = at_shift(MANIFEST_WORDS, shift), .context = at_shift(CONTEXT_WORDS, shift),
-               .load = at_shift(LOAD_WORDS, shift), .batch = at_shift(BATCH_WORDS, shift), .answers = at_shift(ANSWERS_WORDS, shift),
-               .requests = at_shift(REQUESTS_WORDS, shift), .sets = at_shift(SETS_WORDS, shift), .slice = at_shift(SLICE_WORDS, shift),
-               .text = (uint8_t *)at_shift(MANIFEST_BYTES / 8, shift)};
+    Round r = {.schema = at_shift(TERBAGYL_SCHEMA_LEN, shift), .contribution = at_shift(TERBAGYL_CONTRIBUTION_LEN, shift), .manifest = at_shift(TERBAGYL_MANIFEST_LEN, shift),
+               .united = at_shift(TERBAGYL_MANIFEST_LEN, shift), .typed = at_shift(TERBAGYL_MANIFEST_LEN, shift), .context = at_shift(TERBAGYL_CONTEXT_LEN, shift),
+               .load = at_shift(TERBAGYL_LOAD_LEN, shift), .batch = at_shift(TERBAGYL_BATCH_LEN, shift), .answers = at_shift(TERBAGYL_ANSWERS_LEN, shift),
+               .requests = at_shift(TERBAGYL_ANCESTORS_LEN, shift), .sets = at_shift(TERBAGYL_ANCESTORS_ANSWERS_LEN, shift), .slice = at_shift(TERBAGYL_SLICE_LEN, shift),
+               .text = (uint8_t *)at_shift(TERBAGYL_MANIFEST_TEXT_LEN / 8, shift)};
     return r;
 }
 
@@ -205,20 +205,20 @@ static void all_calls(Round *r, const uint64_t *shared) {
     r->count = 0;
 #define HEAR(call) n = call, heard(r, n, value)
 #define HEAR3(call) n = call, heard(r, n, value), heard(r, first, second)
-    if (!shared) HEAR(terbagyl_read_schema(STRING(SCHEMA), r->schema, SCHEMA_WORDS, &value));
-    HEAR(terbagyl_empty_manifest(r->manifest, MANIFEST_WORDS, &value));
-    HEAR(terbagyl_add_policy(s, SCHEMA_WORDS, STRING(POLICY), r->manifest, MANIFEST_WORDS, &value));
-    HEAR(terbagyl_analyse(s, SCHEMA_WORDS, request, STRING(STEPS), r->contribution, CONTRIBUTION_WORDS, &value));
-    HEAR(terbagyl_add(r->manifest, MANIFEST_WORDS, r->contribution, CONTRIBUTION_WORDS, &value));
-    HEAR(terbagyl_read_manifest(STRING(LISTING), r->united, MANIFEST_WORDS, &value));
-    HEAR(terbagyl_union_manifests(r->manifest, MANIFEST_WORDS, r->united, MANIFEST_WORDS, r->typed, MANIFEST_WORDS, &value));
-    HEAR(terbagyl_type(s, SCHEMA_WORDS, r->united, MANIFEST_WORDS, r->typed, MANIFEST_WORDS, &value));
-    HEAR(terbagyl_has_in_manifest(r->typed, MANIFEST_WORDS, &request, 1, &value));
-    HEAR(terbagyl_write_contribution(r->contribution, CONTRIBUTION_WORDS, r->text, MANIFEST_BYTES, &value));
-    HEAR(terbagyl_write_manifest(r->typed, MANIFEST_WORDS, r->text, MANIFEST_BYTES, &value));
+    if (!shared) HEAR(terbagyl_read_schema(STRING(SCHEMA), r->schema, TERBAGYL_SCHEMA_LEN, &value));
+    HEAR(terbagyl_empty_manifest(r->manifest, TERBAGYL_MANIFEST_LEN, &value));
+    HEAR(terbagyl_add_policy(s, TERBAGYL_SCHEMA_LEN, STRING(POLICY), r->manifest, TERBAGYL_MANIFEST_LEN, &value));
+    HEAR(terbagyl_analyse(s, TERBAGYL_SCHEMA_LEN, request, STRING(STEPS), r->contribution, TERBAGYL_CONTRIBUTION_LEN, &value));
+    HEAR(terbagyl_add(r->manifest, TERBAGYL_MANIFEST_LEN, r->contribution, TERBAGYL_CONTRIBUTION_LEN, &value));
+    HEAR(terbagyl_read_manifest(STRING(LISTING), r->united, TERBAGYL_MANIFEST_LEN, &value));
+    HEAR(terbagyl_union_manifests(r->manifest, TERBAGYL_MANIFEST_LEN, r->united, TERBAGYL_MANIFEST_LEN, r->typed, TERBAGYL_MANIFEST_LEN, &value));
+    HEAR(terbagyl_type(s, TERBAGYL_SCHEMA_LEN, r->united, TERBAGYL_MANIFEST_LEN, r->typed, TERBAGYL_MANIFEST_LEN, &value));
+    HEAR(terbagyl_has_in_manifest(r->typed, TERBAGYL_MANIFEST_LEN, &request, 1, &value));
+    HEAR(terbagyl_write_contribution(r->contribution, TERBAGYL_CONTRIBUTION_LEN, r->text, TERBAGYL_MANIFEST_TEXT_LEN, &value));
+    HEAR(terbagyl_write_manifest(r->typed, TERBAGYL_MANIFEST_LEN, r->text, TERBAGYL_MANIFEST_TEXT_LEN, &value));
 
-    HEAR3(terbagyl_load_begin(r->typed, MANIFEST_WORDS, request, 1, 2, r->context, CONTEXT_WORDS, r->load, LOAD_WORDS, &value, &first, &second));
-    HEAR3(terbagyl_load_batch(r->load, LOAD_WORDS, r->batch, BATCH_WORDS, &value, &first, &second));
+    HEAR3(terbagyl_load_begin(r->typed, TERBAGYL_MANIFEST_LEN, request, 1, 2, r->context, TERBAGYL_CONTEXT_LEN, r->load, TERBAGYL_LOAD_LEN, &value, &first, &second));
+    HEAR3(terbagyl_load_batch(r->load, TERBAGYL_LOAD_LEN, r->batch, TERBAGYL_BATCH_LEN, &value, &first, &second));
     /* the principal has field 7, the resource field 3: records, and a set of entities where a mark stands */
     set_word(r->answers, 2);
     set_word(r->answers + 1, 1 + ((uint64_t)1 << 32));
@@ -227,21 +227,21 @@ static void all_calls(Round *r, const uint64_t *shared) {
     set_word(r->answers + 4, value_row(1, 3, SET, 0));
     set_word(r->answers + 5, value_row(2, 0, ENTITY, 70));
     set_word(r->answers + 6, value_row(2, 1, ENTITY, 71));
-    HEAR3(terbagyl_load_answer(r->load, LOAD_WORDS, r->answers, ANSWERS_WORDS, &value, &first, &second));
-    HEAR3(terbagyl_load_ancestors(r->load, LOAD_WORDS, r->requests, REQUESTS_WORDS, &value, &first, &second));
+    HEAR3(terbagyl_load_answer(r->load, TERBAGYL_LOAD_LEN, r->answers, TERBAGYL_ANSWERS_LEN, &value, &first, &second));
+    HEAR3(terbagyl_load_ancestors(r->load, TERBAGYL_LOAD_LEN, r->requests, TERBAGYL_ANCESTORS_LEN, &value, &first, &second));
     set_word(r->sets, 2);
     set_word(r->sets + 1, 1);
     set_word(r->sets + 2, 71);
     set_word(r->sets + 3, 0);
-    HEAR3(terbagyl_load_ancestors_answer(r->load, LOAD_WORDS, r->sets, SETS_WORDS, &value, &first, &second));
-    HEAR3(terbagyl_load_result(r->load, LOAD_WORDS, r->slice, SLICE_WORDS, &value, &first, &second));
+    HEAR3(terbagyl_load_ancestors_answer(r->load, TERBAGYL_LOAD_LEN, r->sets, TERBAGYL_ANCESTORS_ANSWERS_LEN, &value, &first, &second));
+    HEAR3(terbagyl_load_result(r->load, TERBAGYL_LOAD_LEN, r->slice, TERBAGYL_SLICE_LEN, &value, &first, &second));
 }
 
 static int same_round(const Round *a, const Round *b, int with_schema) {
-    return a->count == b->count && !memcmp(a->said, b->said, (size_t)a->count * 8) && (!with_schema || !memcmp(a->schema, b->schema, SCHEMA_WORDS * 8)) &&
-           !memcmp(a->manifest, b->manifest, MANIFEST_WORDS * 8) && !memcmp(a->contribution, b->contribution, CONTRIBUTION_WORDS * 8) &&
-           !memcmp(a->typed, b->typed, MANIFEST_WORDS * 8) && !memcmp(a->text, b->text, MANIFEST_BYTES) && !memcmp(a->load, b->load, LOAD_WORDS * 8) &&
-           !memcmp(a->batch, b->batch, BATCH_WORDS * 8) && !memcmp(a->requests, b->requests, REQUESTS_WORDS * 8) && !memcmp(a->slice, b->slice, SLICE_WORDS * 8);
+    return a->count == b->count && !memcmp(a->said, b->said, (size_t)a->count * 8) && (!with_schema || !memcmp(a->schema, b->schema, TERBAGYL_SCHEMA_LEN * 8)) &&
+           !memcmp(a->manifest, b->manifest, TERBAGYL_MANIFEST_LEN * 8) && !memcmp(a->contribution, b->contribution, TERBAGYL_CONTRIBUTION_LEN * 8) &&
+           !memcmp(a->typed, b->typed, TERBAGYL_MANIFEST_LEN * 8) && !memcmp(a->text, b->text, TERBAGYL_MANIFEST_TEXT_LEN) && !memcmp(a->load, b->load, TERBAGYL_LOAD_LEN * 8) &&
+           !memcmp(a->batch, b->batch, TERBAGYL_BATCH_LEN * 8) && !memcmp(a->requests, b->requests, TERBAGYL_ANCESTORS_LEN * 8) && !memcmp(a->slice, b->slice, TERBAGYL_SLICE_LEN * 8);
 }
 
 static int none_refused(const Round *r, int calls) {
@@ -312,7 +312,7 @@ static void threads(void) {
 
 /* What unite_manifests answers to these two, and that it leaves what union_manifests gives, or the manifest. */
 static void united(const char *what, State m, State other, uint64_t number) {
-    State expected = state(MANIFEST_WORDS), got = copy_of(m), before = copy_of(other);
+    State expected = state(TERBAGYL_MANIFEST_LEN), got = copy_of(m), before = copy_of(other);
     uint64_t value = 9, unused;
     uint64_t n = terbagyl_union_manifests(LENT(m), LENT(other), LENT(expected), &unused);
     uint64_t k = terbagyl_unite_manifests(LENT(got), LENT(other), &value);
@@ -321,19 +321,15 @@ static void united(const char *what, State m, State other, uint64_t number) {
 }
 
 static void in_place(void) {
-    if (!terbagyl_unite_manifests) {
-        printf("left out: this library has no terbagyl_unite_manifests\n");
-        return;
-    }
     uint64_t r = request_type(10, 500, 20), value = 9;
-    State l = case_l(MANIFEST_WORDS), empty = state(MANIFEST_WORDS);
+    State l = case_l(TERBAGYL_MANIFEST_LEN), empty = state(TERBAGYL_MANIFEST_LEN);
     united("unite_manifests with an empty one", l, empty, 0);
     united("unite_manifests of an empty one", empty, l, 0);
-    united("unite_manifests of two that share an entry", l, roots(MANIFEST_WORDS, r, 5, 9), 0);
+    united("unite_manifests of two that share an entry", l, roots(TERBAGYL_MANIFEST_LEN, r, 5, 9), 0);
     united("unite_manifests with a copy of itself", l, copy_of(l), 0);
-    united("unite_manifests up to 4,096 nodes", roots(MANIFEST_WORDS, r, 0, 4000), roots(MANIFEST_WORDS, r, 3000, 1096), 0);
-    united("unite_manifests over 4,096 nodes is 4", roots(MANIFEST_WORDS, r, 0, 4000), roots(MANIFEST_WORDS, r, 3000, 1097), 4);
-    State many = state(MANIFEST_WORDS), more = state(MANIFEST_WORDS);
+    united("unite_manifests up to 4,096 nodes", roots(TERBAGYL_MANIFEST_LEN, r, 0, 4000), roots(TERBAGYL_MANIFEST_LEN, r, 3000, 1096), 0);
+    united("unite_manifests over 4,096 nodes is 4", roots(TERBAGYL_MANIFEST_LEN, r, 0, 4000), roots(TERBAGYL_MANIFEST_LEN, r, 3000, 1097), 4);
+    State many = state(TERBAGYL_MANIFEST_LEN), more = state(TERBAGYL_MANIFEST_LEN);
     for (uint64_t n = 0; n < 64; n++) put_entry(many, n);
     put_entry(more, 64);
     united("unite_manifests with a 65th request type is 5", many, more, 5);
@@ -341,8 +337,8 @@ static void in_place(void) {
     bad.words[2] = bad.words[1];
     united("unite_manifests with what is no manifest is 1", l, bad, 1);
     united("unite_manifests of what is no manifest is 1", bad, l, 1);
-    check("unite_manifests, manifest too short is 31", terbagyl_unite_manifests(l.words, MANIFEST_WORDS - 1, LENT(empty), &value) == 31 && value == 0);
-    check("unite_manifests, other too short is 31", terbagyl_unite_manifests(LENT(l), empty.words, MANIFEST_WORDS - 1, &value) == 31 && value == 0);
+    check("unite_manifests, manifest too short is 31", terbagyl_unite_manifests(l.words, TERBAGYL_MANIFEST_LEN - 1, LENT(empty), &value) == 31 && value == 0);
+    check("unite_manifests, other too short is 31", terbagyl_unite_manifests(LENT(l), empty.words, TERBAGYL_MANIFEST_LEN - 1, &value) == 31 && value == 0);
     check("unite_manifests, other NULL with 0 is 31", terbagyl_unite_manifests(LENT(l), NULL, 0, &value) == 31 && value == 0);
     check("unite_manifests, manifest NULL with 0 is 31", terbagyl_unite_manifests(NULL, 0, LENT(l), &value) == 31 && value == 0);
 }

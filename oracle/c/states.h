@@ -2,7 +2,7 @@
 #ifndef STATES_H
 #define STATES_H
 
-#include "terbagyl.h"
+#include "../../include/terbagyl.h"
 #include <stdio.h>
 #include <stdlib.h>
 #include <string.h>
@@ -53,7 +53,7 @@ typedef struct {
 } Answers;
 
 static inline Answers answers(void) {
-    Answers a = {calloc(ANSWERS_WORDS, sizeof(uint64_t)), ANSWERS_WORDS, 1};
+    Answers a = {calloc(TERBAGYL_ANSWERS_LEN, sizeof(uint64_t)), TERBAGYL_ANSWERS_LEN, 1};
     if (!a.words) cannot("find memory");
     return a;
 }
