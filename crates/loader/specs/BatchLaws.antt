@@ -1,5 +1,5 @@
 -- Laws of handing out a batch. No contract cites this file.
-use Prim.Native.Nat.{ℕ, zero, suc, _+_, _-_, _*_, _^_, _≤_, _<_}
+use Prim.Native.Nat.{ℕ, zero, suc, _+_, _-_, _^_, _≤_, _<_}
 use native.Mathlib.Nat.{zero-add}
 use native.Mathlib.Numerals.{add-one}
 use native.Mathlib.Omega.{arith}
@@ -25,10 +25,6 @@ use Rattle.load_state.specs.CameLaws.{came-waiting, came-rows, came-ahead}
 use Rattle.load_state.specs.Outcomes.{HandedAs}
 use Rattle.load_state.specs.declared.LoadReply.the-variants.{Done, Refused}
 use Rattle.loader.specs.Calls.{batchWords, numbered, handingBatch, batchIn}
-
--- a row's word, with its node numbered from another on
-pub numbered-word : (first w : ℕ) → requestWord (numbered first (rowAsked w)) ≡ w + first * 65536
-numbered-word first w = omega arith
 
 -- one more word of a copy that is changed on the way
 pub changed-next :

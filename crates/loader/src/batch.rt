@@ -11,6 +11,7 @@ use load_state::LoadReply;
 use load_state::LoadState;
 use load_state::Worked;
 use load_state::read_load;
+use values::EntityRequest;
 
 // The one length of a batch's rows.
 const BATCH_WORDS: usize = 4_096;
@@ -23,7 +24,12 @@ fn write_batch(rows: &[u64], first: u64, out: &mut [u64])
 {
     let mut i = 0;
     while i < rows.len() {
-        out[i] = rows[i] + first * 0x1_0000;
+        let row = EntityRequest::of(rows[i]);
+        let asked = EntityRequest {
+            id: row.id,
+            node: first + row.node,
+        };
+        out[i] = asked.word();
         i += 1;
     }
 }
