@@ -1,7 +1,8 @@
 // The program's commands: which words a command line has, and the job that they ask for.
 ghost use Prim.Native.Nat.{_≤_};
 use files::CANNOT;
-use jobs::To;
+use files::To;
+use help::Command;
 use messages::say_misused;
 use text::Decimal;
 
@@ -24,24 +25,32 @@ fn id_word(line: &[u8], i: usize) -> u64
 }
 
 // A command line that cannot be used, for a reason and with a word that it is about.
-fn misused(to: To, reason: &[u8], about: &[u8]) -> u64 {
+fn misused_word(to: To, reason: &[u8], about: &[u8]) -> u64 {
     say_misused(to.err, reason, about);
     CANNOT
 }
 
+// The same for a reason that is about no word.
+fn misused(to: To, reason: &[u8]) -> u64 {
+    misused_word(to, reason, b"")
+}
+
 // `steps P A R SCHEMA FILE`: the request type of P, A and R, and what the steps come to under it.
-fn steps(to: To, line: &[u8]) -> u64 {
+fn steps(to: To, line: &[u8], count: usize) -> u64 {
+    if count != 7 {
+        return misused(to, b"steps takes P A R, a schema and a file");
+    }
     let principal = id_word(line, 2);
     if principal == NO_ID {
-        return misused(to, b"P is an id from 0 to 65535", b"");
+        return misused(to, b"P is an id from 0 to 65535");
     }
     let action = id_word(line, 3);
     if action == NO_ID {
-        return misused(to, b"A is an id from 0 to 65535", b"");
+        return misused(to, b"A is an id from 0 to 65535");
     }
     let resource = id_word(line, 4);
     if resource == NO_ID {
-        return misused(to, b"R is an id from 0 to 65535", b"");
+        return misused(to, b"R is an id from 0 to 65535");
     }
     policy_jobs::analyse(
         to,
@@ -54,9 +63,9 @@ fn steps(to: To, line: &[u8]) -> u64 {
 fn help_of(to: To, line: &[u8], i: usize) -> u64 {
     let mut word = io::buffer();
     let n = files::word(line, i, &mut word);
-    let status = help::say_command(to, &word[..n]);
+    let status = help::say_command(to, Command::of(&word[..n]));
     if status == help::NONE {
-        return misused(to, b"there is no command ", &word[..n]);
+        return misused_word(to, b"there is no command ", &word[..n]);
     }
     status
 }
@@ -69,7 +78,7 @@ fn help(to: To, line: &[u8], count: usize) -> u64 {
     if count == 3 {
         return help_of(to, line, 2);
     }
-    misused(to, b"help takes one command", b"")
+    misused(to, b"help takes one command")
 }
 
 // Whether a word asks for help.
@@ -97,13 +106,13 @@ fn asks_typing(line: &[u8]) -> bool {
 // `build SCHEMA FILE...` and `build --typed SCHEMA FILE...`
 fn build(to: To, line: &[u8], count: usize) -> u64 {
     if count < 4 {
-        return misused(to, b"build takes a schema and a file or more", b"");
+        return misused(to, b"build takes a schema and a file or more");
     }
     if !asks_typing(line) {
         return policy_jobs::build(to, line, count);
     }
     if count < 5 {
-        return misused(to, b"build --typed takes a schema and a file or more", b"");
+        return misused(to, b"build --typed takes a schema and a file or more");
     }
     policy_jobs::build_typed(to, line, count)
 }
@@ -111,77 +120,77 @@ fn build(to: To, line: &[u8], count: usize) -> u64 {
 // `load MANIFEST REQUEST STORE...`
 fn load(to: To, line: &[u8], count: usize) -> u64 {
     if count < 5 {
-        return misused(
-            to,
-            b"load takes a manifest, a request and a store or more",
-            b"",
-        );
+        return misused(to, b"load takes a manifest, a request and a store or more");
     }
     if 4 + load_jobs::STORES < count {
-        return misused(to, b"load takes at most eight stores", b"");
+        return misused(to, b"load takes at most eight stores");
     }
     load_jobs::load(to, line, count)
 }
 
+// `list FILE`
+fn list(to: To, line: &[u8], count: usize) -> u64 {
+    if count != 3 {
+        return misused(to, b"list takes one file");
+    }
+    listing_jobs::list(to, line)
+}
+
+// `type SCHEMA FILE`
+fn type_listing(to: To, line: &[u8], count: usize) -> u64 {
+    if count != 4 {
+        return misused(to, b"type takes a schema and a file");
+    }
+    listing_jobs::type_listing(to, line)
+}
+
+// `merge FILE...`
+fn merge(to: To, line: &[u8], count: usize) -> u64 {
+    if count < 3 {
+        return misused(to, b"merge takes a file or more");
+    }
+    listing_jobs::merge(to, line, count)
+}
+
 // The command that the first word names, with so many words.
-fn run_command(to: To, line: &[u8], count: usize, command: &[u8]) -> u64 {
-    if check::same(command, b"list") {
-        if count != 3 {
-            return misused(to, b"list takes one file", b"");
-        }
-        return listing_jobs::list(to, line);
+fn run_command(to: To, line: &[u8], count: usize, word: &[u8]) -> u64 {
+    let command = Command::of(word);
+    match command {
+        Command::Build => build(to, line, count),
+        Command::Steps => steps(to, line, count),
+        Command::List => list(to, line, count),
+        Command::Merge => merge(to, line, count),
+        Command::Type => type_listing(to, line, count),
+        Command::Load => load(to, line, count),
+        Command::Help => help(to, line, count),
+        Command::Unknown => misused_word(to, b"there is no command ", word),
     }
-    if check::same(command, b"build") {
-        return build(to, line, count);
-    }
-    if check::same(command, b"type") {
-        if count != 4 {
-            return misused(to, b"type takes a schema and a file", b"");
-        }
-        return listing_jobs::type_listing(to, line);
-    }
-    if check::same(command, b"steps") {
-        if count != 7 {
-            return misused(to, b"steps takes P A R, a schema and a file", b"");
-        }
-        return steps(to, line);
-    }
-    if check::same(command, b"merge") {
-        if count < 3 {
-            return misused(to, b"merge takes a file or more", b"");
-        }
-        return listing_jobs::merge(to, line, count);
-    }
-    if check::same(command, b"load") {
-        return load(to, line, count);
-    }
-    misused(to, b"there is no command ", command)
 }
 
 // What a command line asks for by its first word: help, the version, or a command.
-fn run_word(to: To, line: &[u8], count: usize, command: &[u8]) -> u64 {
-    if check::same(command, b"help") || is_help(command) {
+fn run_word(to: To, line: &[u8], count: usize, word: &[u8]) -> u64 {
+    if check::same(word, b"help") || is_help(word) {
         return help(to, line, count);
     }
-    if check::same(command, b"--version") {
+    if check::same(word, b"--version") {
         return help::say_version(to);
     }
     if asks_help(line, count) {
         return help_of(to, line, 1);
     }
     if files::has_input_twice(line, count) {
-        return misused(to, b"/dev/stdin is named twice, and can be read once", b"");
+        return misused(to, b"/dev/stdin is named twice, and can be read once");
     }
-    run_command(to, line, count, command)
+    run_command(to, line, count, word)
 }
 
 // Runs a command line, whose words are parted by a space; an empty one stands for the program's own arguments. Answers the status.
 pub fn run(to: To, line: &[u8]) -> u64 {
     let count = files::count_words(line);
     if count < 2 {
-        return misused(to, b"there is no command", b"");
+        return misused(to, b"there is no command");
     }
-    let mut command = io::buffer();
-    let n = files::word(line, 1, &mut command);
-    run_word(to, line, count, &command[..n])
+    let mut word = io::buffer();
+    let n = files::word(line, 1, &mut word);
+    run_word(to, line, count, &word[..n])
 }

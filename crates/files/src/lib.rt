@@ -15,6 +15,12 @@ const TEXT: usize = 65_536;
 
 const SPACE: u8 = 32;
 
+// Where results go, and where messages go.
+pub struct To {
+    pub out: i32,
+    pub err: i32,
+}
+
 // What came of reading a file: DONE and how many bytes it has, or the status of what was said.
 pub struct Loaded {
     pub status: u64,

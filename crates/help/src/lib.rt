@@ -1,6 +1,45 @@
-// What the program says of itself.
+// What the program says of itself, and its commands by their names.
+use files::To;
 use files::write;
-use jobs::To;
+
+// What a word names.
+pub enum Command {
+    Build,
+    Steps,
+    List,
+    Merge,
+    Type,
+    Load,
+    Help,
+    Unknown,
+}
+
+impl Command {
+    pub fn of(word: &[u8]) -> Command {
+        if check::same(word, b"build") {
+            return Command::Build;
+        }
+        if check::same(word, b"steps") {
+            return Command::Steps;
+        }
+        if check::same(word, b"list") {
+            return Command::List;
+        }
+        if check::same(word, b"merge") {
+            return Command::Merge;
+        }
+        if check::same(word, b"type") {
+            return Command::Type;
+        }
+        if check::same(word, b"load") {
+            return Command::Load;
+        }
+        if check::same(word, b"help") {
+            return Command::Help;
+        }
+        Command::Unknown
+    }
+}
 
 fn say_build(to: To) -> u64 {
     write(
@@ -88,29 +127,17 @@ pub fn say_all(to: To) -> u64 {
 }
 
 // A command; answers NONE where there is no such.
-pub fn say_command(to: To, command: &[u8]) -> u64 {
-    if check::same(command, b"build") {
-        return say_build(to);
+pub fn say_command(to: To, command: Command) -> u64 {
+    match command {
+        Command::Build => say_build(to),
+        Command::Steps => say_steps(to),
+        Command::List => say_list(to),
+        Command::Merge => say_merge(to),
+        Command::Type => say_type(to),
+        Command::Load => say_load(to),
+        Command::Help => say_all(to),
+        Command::Unknown => NONE,
     }
-    if check::same(command, b"steps") {
-        return say_steps(to);
-    }
-    if check::same(command, b"list") {
-        return say_list(to);
-    }
-    if check::same(command, b"merge") {
-        return say_merge(to);
-    }
-    if check::same(command, b"type") {
-        return say_type(to);
-    }
-    if check::same(command, b"load") {
-        return say_load(to);
-    }
-    if check::same(command, b"help") {
-        return say_all(to);
-    }
-    NONE
 }
 
 // What stands for a command that is not there: no status.

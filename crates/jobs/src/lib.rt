@@ -1,9 +1,10 @@
-// What all jobs share: a refusal told, a schema read, a listing written, also of a manifest that is typed first. Each answers a status.
+// What all jobs share: a refusal told, a schema and a listing read, a listing written, also of a manifest that is typed first. Each answers a status.
 use entity_manifest::Kind;
 use entity_manifest::Reply;
 use entity_manifest::Written;
 use files::DONE;
 use files::REFUSED;
+use files::To;
 use forms::Form;
 
 // The words of a manifest and of a schema, and the bytes of a listing.
@@ -12,12 +13,6 @@ pub const WORDS: usize = 4_161;
 pub const SCHEMA: usize = 142_337;
 
 pub const LISTING: usize = 62_720;
-
-// Where results go, and where messages go.
-pub struct To {
-    pub out: i32,
-    pub err: i32,
-}
 
 // Reads the files behind word i for their lengths alone: one that is too long or cannot be read comes before a refusal of what word i names.
 pub fn pass_behind(to: To, line: &[u8], i: usize, count: usize) -> u64 {
@@ -59,6 +54,21 @@ pub fn load_schema(to: To, line: &[u8], i: usize, count: usize, schema: &mut [u6
     let reply = entity_manifest::read_schema(&text[..n], schema);
     if let Reply::Refused(number, place) = reply {
         return refuse(to, line, i, count, Form::Schema, number, place, &text[..n]);
+    }
+    DONE
+}
+
+// Reads the listing that word i names.
+pub fn load_listing(to: To, line: &[u8], i: usize, count: usize, manifest: &mut [u64]) -> u64 {
+    let mut text = [0u8; 65_537];
+    let loaded = files::load(to.err, line, i, &mut text);
+    if loaded.status != DONE {
+        return loaded.status;
+    }
+    let n = loaded.bytes;
+    let reply = entity_manifest::read_listing(Kind::Manifest, &text[..n], manifest);
+    if let Reply::Refused(number, place) = reply {
+        return refuse(to, line, i, count, Form::Listing, number, place, &text[..n]);
     }
     DONE
 }

@@ -6,10 +6,11 @@ use entity_manifest::Kind;
 use entity_manifest::Reply;
 use files::DONE;
 use files::REFUSED;
+use files::To;
 use forms::Form;
 use jobs::SCHEMA;
-use jobs::To;
 use jobs::WORDS;
+use jobs::load_listing;
 use jobs::load_schema;
 use jobs::pass_behind;
 use jobs::refuse;
@@ -30,16 +31,10 @@ fn refuse_adding(to: To, line: &[u8], i: usize, count: usize, number: u64) -> u6
 
 // `list FILE`: reads a listing and writes it again.
 pub fn list(to: To, line: &[u8]) -> u64 {
-    let mut text = [0u8; 65_537];
-    let loaded = files::load(to.err, line, 2, &mut text);
-    if loaded.status != DONE {
-        return loaded.status;
-    }
-    let n = loaded.bytes;
     let mut manifest = [0u64; WORDS];
-    let reply = entity_manifest::read_listing(Kind::Manifest, &text[..n], &mut manifest);
-    if let Reply::Refused(number, place) = reply {
-        return refuse(to, line, 2, 3, Form::Listing, number, place, &text[..n]);
+    let read = load_listing(to, line, 2, 3, &mut manifest);
+    if read != DONE {
+        return read;
     }
     write_listing(to, Kind::Manifest, &manifest)
 }
@@ -61,19 +56,13 @@ fn unite(listing: &[u64], manifest: &mut [u64]) -> Reply
 fn add_file(to: To, line: &[u8], i: usize, count: usize, manifest: &mut [u64]) -> u64
     requires { ⌜ 4161 ≤ length (now manifest) ⌝ }
 {
-    let mut text = [0u8; 65_537];
-    let loaded = files::load(to.err, line, i, &mut text);
-    if loaded.status != DONE {
-        return loaded.status;
-    }
-    let n = loaded.bytes;
-    if n == 0 {
-        return refuse(to, line, i, count, Form::Listing, 1, 0, b"");
-    }
     let mut listing = [0u64; WORDS];
-    let read = entity_manifest::read_listing(Kind::Manifest, &text[..n], &mut listing);
-    if let Reply::Refused(number, place) = read {
-        return refuse(to, line, i, count, Form::Listing, number, place, &text[..n]);
+    let read = load_listing(to, line, i, count, &mut listing);
+    if read != DONE {
+        return read;
+    }
+    if listing[0] == 0 {
+        return refuse(to, line, i, count, Form::Listing, 1, 0, b"");
     }
     let added = unite(&listing, manifest);
     if let Reply::Refused(number, _) = added {
@@ -98,16 +87,10 @@ pub fn merge(to: To, line: &[u8], count: usize) -> u64 {
 
 // Types the listing that word 3 names.
 fn type_file(to: To, line: &[u8], schema: &[u64]) -> u64 {
-    let mut text = [0u8; 65_537];
-    let loaded = files::load(to.err, line, 3, &mut text);
-    if loaded.status != DONE {
-        return loaded.status;
-    }
-    let n = loaded.bytes;
     let mut manifest = [0u64; WORDS];
-    let reply = entity_manifest::read_listing(Kind::Manifest, &text[..n], &mut manifest);
-    if let Reply::Refused(number, place) = reply {
-        return refuse(to, line, 3, 4, Form::Listing, number, place, &text[..n]);
+    let read = load_listing(to, line, 3, 4, &mut manifest);
+    if read != DONE {
+        return read;
     }
     let mut name = io::buffer();
     let letters = files::word(line, 3, &mut name);

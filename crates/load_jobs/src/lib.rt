@@ -1,30 +1,27 @@
 // The job that tries a load: a manifest, a request, and one store or several copies of it, which answer in turn.
-mod answering;
-mod log;
-mod requests;
 mod running;
+mod telling;
 mod texts;
 
 ghost use Prim.Native.Nat.{_≤_};
 use crate::running::run;
+use crate::telling::Ran;
+use crate::telling::tell;
 use crate::texts::CONTEXT;
-use crate::texts::STORES_WORDS;
-use crate::texts::read_manifest;
 use crate::texts::read_request;
 use crate::texts::read_stores;
 use files::DONE;
-use jobs::To;
+use files::To;
 use jobs::WORDS;
-
-// How many stores may answer.
-pub const STORES: usize = 8;
+use jobs::load_listing;
+pub use load_answers::STORES;
 
 // `load MANIFEST REQUEST STORE...`: runs a load against the stores, and writes its log.
 pub fn load(to: To, line: &[u8], count: usize) -> u64
     requires { ⌜ (5 ≤ count) × (count ≤ 12) ⌝ }
 {
     let mut manifest = [0u64; WORDS];
-    let listed = read_manifest(to, line, count, &mut manifest);
+    let listed = load_listing(to, line, 2, count, &mut manifest);
     if listed != DONE {
         return listed;
     }
@@ -33,18 +30,11 @@ pub fn load(to: To, line: &[u8], count: usize) -> u64
     if asked.status != DONE {
         return asked.status;
     }
-    let mut stores = [0u64; STORES_WORDS];
+    let mut stores = [0u64; load_answers::WORDS];
+    stores[0] = (count - 4) as u64;
     let stored = read_stores(to, line, count, &mut stores);
     if stored != DONE {
         return stored;
     }
-    run(
-        to,
-        line,
-        (count - 4) as u64,
-        asked,
-        &manifest,
-        &context,
-        &stores,
-    )
+    tell(to, line, run(to, asked, &manifest, &context, &stores))
 }

@@ -2,20 +2,17 @@
 ghost use mathlib.Core.Path.{_≡_};
 ghost use Prim.Native.Nat.{_≤_};
 ghost use lib.ListN.{length};
-use entity_manifest::Kind;
 use entity_manifest::Reply;
 use files::DONE;
+use files::To;
 use forms::Form;
-use jobs::To;
 use jobs::refuse;
+use load_answers::STORE;
+use load_answers::start_of;
 use value_text::RequestReply;
 
-// The words of a context, of a store, and of all stores.
+// The words of a context.
 pub const CONTEXT: usize = 8_193;
-
-pub const STORE: usize = 16_385;
-
-pub const STORES_WORDS: usize = 131_080;
 
 // What came of reading a request: DONE and what it says, or the status of what was said.
 pub struct Asked {
@@ -23,21 +20,6 @@ pub struct Asked {
     pub request: u64,
     pub principal: u64,
     pub resource: u64,
-}
-
-// Reads the listing that word 2 names.
-pub fn read_manifest(to: To, line: &[u8], count: usize, manifest: &mut [u64]) -> u64 {
-    let mut text = [0u8; 65_537];
-    let loaded = files::load(to.err, line, 2, &mut text);
-    if loaded.status != DONE {
-        return loaded.status;
-    }
-    let n = loaded.bytes;
-    let reply = entity_manifest::read_listing(Kind::Manifest, &text[..n], manifest);
-    if let Reply::Refused(number, place) = reply {
-        return refuse(to, line, 2, count, Form::Listing, number, place, &text[..n]);
-    }
-    DONE
 }
 
 fn not_asked(status: u64) -> Asked {
@@ -86,13 +68,13 @@ fn read_store(to: To, line: &[u8], i: usize, count: usize, store: &mut [u64]) ->
     DONE
 }
 
-// Reads the stores that the words from 4 on name, one behind the other.
+// Reads the stores that the words from 4 on name, one behind the other, behind their number.
 pub fn read_stores(to: To, line: &[u8], count: usize, stores: &mut [u64]) -> u64
-    requires { ⌜ (count ≤ 12) × (length (now stores) ≡ 131080) ⌝ }
+    requires { ⌜ (count ≤ 12) × (length (now stores) ≡ 131081) ⌝ }
 {
     let mut i = 4;
     while i < count {
-        let from = (i - 4) * STORE;
+        let from = start_of(i - 4);
         let end = from + STORE;
         let status = read_store(to, line, i, count, &mut stores[from..end]);
         if status != DONE {

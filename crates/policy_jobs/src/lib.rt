@@ -2,9 +2,9 @@
 use entity_manifest::Kind;
 use entity_manifest::Reply;
 use files::DONE;
+use files::To;
 use forms::Form;
 use jobs::SCHEMA;
-use jobs::To;
 use jobs::WORDS;
 use jobs::load_schema;
 use jobs::refuse;

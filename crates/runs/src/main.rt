@@ -1,5 +1,5 @@
 // Replays command lines of the program: each line of `runs`, what it writes and says, and its status.
-use jobs::To;
+use files::To;
 use libc::STDOUT_FILENO;
 use text::Line;
 

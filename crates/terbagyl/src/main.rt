@@ -1,5 +1,5 @@
 // The program: runs its arguments as a command line, and ends with a line on standard error that has the status, for the script alone.
-use jobs::To;
+use files::To;
 use libc::STDERR_FILENO;
 use libc::STDOUT_FILENO;
 

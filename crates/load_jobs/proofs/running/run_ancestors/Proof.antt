@@ -1,8 +1,8 @@
 -- `load_jobs::running::run_ancestors` is safe: the requests have room.
 use Prim.Native.Nat.{ℕ, _≤_}
 use native.Mathlib.Omega.{arith}
-use borrow.Author.Needs.{needs}
 use lib.ListN.{length, replicate, length-replicate}
+use borrow.Author.Needs.{needs}
 use Rattle.load_jobs.proofs.running.run_ancestors.Statement.{statement}
 use Rattle.load_jobs.proofs.running.run_ancestors.Tie as tie
 

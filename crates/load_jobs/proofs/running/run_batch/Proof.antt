@@ -1,7 +1,7 @@
 -- `load_jobs::running::run_batch` is safe: no more rows are read than there is room for.
 use mathlib.Core.Path.{sym}
-use borrow.Author.Needs.{needs}
 use lib.Seq.{length-take-le}
+use borrow.Author.Needs.{needs}
 use Rattle.load_jobs.proofs.running.run_batch.Statement.{statement}
 use Rattle.load_jobs.proofs.running.run_batch.Tie as tie
 
@@ -13,9 +13,6 @@ load-batch-requires c κs = search needs
 
 enum-known-reply : tie.Need-enum-known-reply
 enum-known-reply c = search needs
-
-status-of-requires : tie.Need-status-of-requires
-status-of-requires c κs = search needs
 
 same-length : tie.Need-same-length
 same-length c = search needs
@@ -37,6 +34,12 @@ slice-aggregate-write-batch c = sym (length-take-le _ _ (search needs))
 
 write-batch-requires : tie.Need-write-batch-requires
 write-batch-requires c κs = search needs
+
+wrote-requires : tie.Need-wrote-requires
+wrote-requires c κs = search needs
+
+enum-told : tie.Need-enum-told
+enum-told c = search needs
 
 same-length-3 : tie.Need-same-length-3
 same-length-3 c = search needs
@@ -69,7 +72,6 @@ run-batch-spec =
     slice-aggregate-load-batch
     load-batch-requires
     enum-known-reply
-    status-of-requires
     same-length
     returns
     same-length-2
@@ -77,6 +79,8 @@ run-batch-spec =
     array-share-prefix-rows
     slice-aggregate-write-batch
     write-batch-requires
+    wrote-requires
+    enum-told
     same-length-3
     returns-3
     wrapping-sub-u64-requires

@@ -1,16 +1,16 @@
 -- `load_jobs::running::run_batches` ends: the batches left fall.
 use Prim.Native.Nat.{_-_}
 use mathlib.Core.Path.{_≡_}
-use borrow.Author.Needs.{needs}
 use lib.ListN.{length}
+use borrow.Author.Needs.{needs}
 use Rattle.load_jobs.proofs.running.run_batches.Statement.{statement}
 use Rattle.load_jobs.proofs.running.run_batches.Tie as tie
 
 abbrev Inv-loop : tie.InvT-loop
-Inv-loop to line n stores state₀ number₀ state number = length state ≡ length state₀
+Inv-loop to stores state₀ number₀ state number = length state ≡ length state₀
 
 abbrev μ-loop : tie.MeasureT-loop
-μ-loop to line n stores state₀ number₀ state number = 25 - number
+μ-loop to stores state₀ number₀ state number = 25 - number
 
 loop-holds : tie.Need-loop-holds Inv-loop μ-loop
 loop-holds c = search needs
@@ -26,6 +26,9 @@ returns c = search needs
 
 run-batch-requires : tie.Need-run-batch-requires Inv-loop μ-loop
 run-batch-requires c κs = search needs
+
+enum-told : tie.Need-enum-told Inv-loop μ-loop
+enum-told c = search needs
 
 same-length-2 : tie.Need-same-length-2 Inv-loop μ-loop
 same-length-2 c = search needs
@@ -59,6 +62,7 @@ run-batches-spec =
     same-length
     returns
     run-batch-requires
+    enum-told
     same-length-2
     returns-2
     add-number

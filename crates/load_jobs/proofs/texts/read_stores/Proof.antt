@@ -1,13 +1,13 @@
 -- `load_jobs::texts::read_stores` is safe: each store has its place, and the words left fall.
 use Prim.Native.Nat.{_-_, _≤_}
 use mathlib.Core.Path.{_≡_}
-use borrow.Author.Needs.{needs}
 use lib.ListN.{length}
+use borrow.Author.Needs.{needs}
 use Rattle.load_jobs.proofs.texts.read_stores.Statement.{statement}
 use Rattle.load_jobs.proofs.texts.read_stores.Tie as tie
 
 abbrev Inv-loop : tie.InvT-loop
-Inv-loop to line count stores₀ i₀ stores i = (4 ≤ i) × (length stores ≡ 131080)
+Inv-loop to line count stores₀ i₀ stores i = (4 ≤ i) × (length stores ≡ 131081)
 
 abbrev μ-loop : tie.MeasureT-loop
 μ-loop to line count stores₀ i₀ stores i = count - i
@@ -15,11 +15,11 @@ abbrev μ-loop : tie.MeasureT-loop
 loop-holds : tie.Need-loop-holds Inv-loop μ-loop
 loop-holds c = search needs
 
-sub-from : tie.Need-sub-from Inv-loop μ-loop
-sub-from c = search needs
+sub-start-of : tie.Need-sub-start-of Inv-loop μ-loop
+sub-start-of c = search needs
 
-mul-from : tie.Need-mul-from Inv-loop μ-loop
-mul-from c = search needs
+start-of-requires : tie.Need-start-of-requires Inv-loop μ-loop
+start-of-requires c κs = search needs
 
 add-end : tie.Need-add-end Inv-loop μ-loop
 add-end c = search needs
@@ -67,8 +67,8 @@ read-stores-spec =
     Inv-loop
     μ-loop
     loop-holds
-    sub-from
-    mul-from
+    sub-start-of
+    start-of-requires
     add-end
     mul-read-store
     sub-read-store
