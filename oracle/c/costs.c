@@ -178,14 +178,14 @@ static Text largest_schema(void) {
     return t;
 }
 
-/* A type of 942 nodes and 14 steps: 30 records of 30 fields below a chain of 12. */
+/* A type of 951 nodes and 23 steps: 30 records of 30 fields below a chain of 21. */
 static Text wide_schema(void) {
     Text t = text();
     SAY(&t, "T\t0\t3\nT\t1\t7\n");
     for (int f = 0; f < 30; f++) SAY(&t, "F\t%d\t0\n", f);
     SAY(&t, "T\t2\t7\n");
     for (int f = 0; f < 30; f++) SAY(&t, "F\t%d\t1\n", f);
-    for (int n = 3; n < 15; n++) SAY(&t, "T\t%d\t7\nF\t1\t%d\n", n, n - 1);
+    for (int n = 3; n < 24; n++) SAY(&t, "T\t%d\t7\nF\t1\t%d\n", n, n - 1);
     return t;
 }
 
@@ -254,6 +254,21 @@ static Text wide_results(const char *before) {
     return t;
 }
 
+/* After a result that fills the small stack: `in` of 20 paths with 21 steps and 14 with two, or `full` of 30 paths and a type of 30 fields. Two
+   results are left: 6. */
+static Text on_large_stack(const char *before, int in) {
+    Text t = many_paths(before);
+    for (int n = 0; n < (in ? 20 : 30); n++) SAY(&t, "lit\t%d\n%s", n, n ? "union\n" : "");
+    if (!in) {
+        SAY(&t, "full\t1\n");
+        return t;
+    }
+    for (int n = 0; n < 20; n++) SAY(&t, "attr\t%d\n", n);
+    for (int n = 0; n < 14; n++) SAY(&t, "lit\t%d\n%s", 100 + n, n ? "union\n" : "");
+    SAY(&t, "attr\t1\nin\n");
+    return t;
+}
+
 static void step_texts(State schema) {
     static const struct {
         const char *what, *again;
@@ -263,8 +278,8 @@ static void step_texts(State schema) {
         {"127 paths, a trie of 1,016 nodes, `attr` of a field that the literal lacks, again and again", "attr\t9\n"},
         {"the same, `attr` of the literal's field and `rec`, again and again", "attr\t1\nrec\t1\n"},
         {"the same, `none` and `union`, again and again", "drop\nnone\nunion\n"},
-        {"a type of 942 nodes and `in`, again and again", "drop\nvar\tp\nfull\t14\nin\n"},
-        {"a type of 942 nodes united, again and again", "drop\nvar\tp\nfull\t14\nunion\n"},
+        {"a type of 951 nodes and `in`, again and again", "drop\nvar\tp\nfull\t23\nin\n"},
+        {"a type of 951 nodes united, again and again", "drop\nvar\tp\nfull\t23\nunion\n"},
     };
     State out = state(TERBAGYL_CONTRIBUTION_LEN);
     uint64_t request = request_type(10, 500, 20);
@@ -278,7 +293,7 @@ static void step_texts(State schema) {
                 t = filled(many_paths(policy ? "A\t10\t500\t20\n" : ""), rounds[n].again);
             } else {
                 t = text();
-                SAY(&t, "%svar\tp\nfull\t14\n", policy ? "A\t10\t500\t20\n" : "");
+                SAY(&t, "%svar\tp\nfull\t23\n", policy ? "A\t10\t500\t20\n" : "");
                 t = filled(t, rounds[n].again);
             }
             snprintf(input, sizeof input, "%s (%zu bytes)", rounds[n].what, t.len);
@@ -292,9 +307,11 @@ static void step_texts(State schema) {
         }
     }
     for (int policy = 0; policy < 2; policy++) {
-        Text texts[] = {large_stack(policy ? "A\t10\t500\t20\n" : ""), wide_results(policy ? "A\t10\t500\t20\n" : "")};
-        const char *what[] = {"31 results of 121 path nodes and 23 steps, then `in`", "30 results of 40 paths of 23 steps"};
-        for (int n = 0; n < 2; n++) {
+        const char *before = policy ? "A\t10\t500\t20\n" : "";
+        Text texts[] = {large_stack(before), wide_results(before), on_large_stack(before, 1), on_large_stack(before, 0)};
+        const char *what[] = {"31 results of 121 path nodes and 23 steps, then `in`", "30 results of 40 paths of 23 steps",
+                              "`in` of 20 paths with 21 steps and 14 with two, on the large stack", "`full` of 30 paths, on the large stack"};
+        for (int n = 0; n < 4; n++) {
             snprintf(input, sizeof input, "%s (%zu bytes)", what[n], texts[n].len);
             State m = state(TERBAGYL_MANIFEST_LEN);
             if (policy)
@@ -314,9 +331,9 @@ static void step_texts(State schema) {
     while (t.len + 40 < text_bytes) SAY(&t, "A\t0\t500\t20\nlit\t0\nattr\t65535\n");
     COST("contributions of two steps to 4,096 nodes, again and again", CALL(add_policy), .x = schema, .text = t, .out = m);
     t.len = 0;
-    while (t.len + 40 < text_bytes) SAY(&t, "A\t0\t500\t20\nvar\tp\nfull\t14\n");
+    while (t.len + 40 < text_bytes) SAY(&t, "A\t0\t500\t20\nvar\tp\nfull\t23\n");
     State n = one_entry(TERBAGYL_MANIFEST_LEN, 3000, 0, 1);
-    COST("contributions of 943 nodes to 3,000, again and again", CALL(add_policy), .x = schema, .text = t, .out = n);
+    COST("contributions of 952 nodes to 3,000, again and again", CALL(add_policy), .x = schema, .text = t, .out = n);
 }
 
 static void schemas(void) {
@@ -457,7 +474,7 @@ static void pairs_of_sets(State c, uint64_t levels, uint64_t last, uint64_t dept
     pairs_of_sets(c, levels - 1, last + 1, depth + 1, 1);
 }
 
-/* A chain of sets, each of two elements: one as long as what follows it, as far as there is room. */
+/* A set of two long records that differ in their last field alone. */
 static State two_long_records(void) {
     State c = state(TERBAGYL_CONTEXT_LEN);
     put_word(c, value_row(1, 0, SET, 0));
@@ -468,7 +485,7 @@ static State two_long_records(void) {
     return c;
 }
 
-/* n fields of the principal, below each `below` fields; every field is an entity. */
+/* The principal with n fields. */
 static State fan(uint64_t n) {
     State m = entry_with_p();
     for (uint64_t f = 0; f < n; f++) put_node(m, 2, F, f, 0);

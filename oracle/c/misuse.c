@@ -44,7 +44,7 @@ static State case_l(size_t words) {
     return m;
 }
 
-/* One entry with n roots e from `first` on, and field 1 below each. */
+/* One entry with n roots e from `first` on. */
 static State roots(size_t words, uint64_t request, uint64_t first, uint64_t n) {
     State m = state(words);
     put_entry(m, request);

@@ -68,11 +68,6 @@ static inline void begin_answer(Answers *a, uint64_t parents, uint64_t rows) {
     put_answer(a, 1 + (parents << 16) + (rows << 32));
 }
 
-static inline void absent(Answers *a) {
-    a->words[0]++;
-    put_answer(a, 0);
-}
-
 static inline void begin_set(Answers *a, uint64_t ids) {
     a->words[0]++;
     put_answer(a, ids);
