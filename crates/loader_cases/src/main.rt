@@ -1,4 +1,5 @@
-// Replays the vectors of data/cases: scripts of calls on the state of one load, and what each call answers and hands out.
+// Replays the vectors of data/: scripts of calls on the state of one load, and what each call answers and hands out. Of those of data/oracle the
+// file stdout has the published Rust's answers.
 ghost use Prim.Native.Nat.{_≤_};
 use cases::print;
 use load_items::Handed;
@@ -316,4 +317,5 @@ fn main() {
     let mut requests = [BLANK; REQUESTS];
     replay_file(b"cases", &mut requests);
     replay_file(b"cases2", &mut requests);
+    replay_file(b"oracle", &mut requests);
 }

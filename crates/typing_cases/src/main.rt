@@ -1,4 +1,5 @@
-// Replays the vectors of data/cases: manifests typed by a schema, with what is left of them and the type of each node, or the refusal.
+// Replays the vectors of data/: manifests typed by a schema, with what is left of them and the type of each node, or the refusal. Of those of
+// data/oracle the file stdout has the published Rust's answers.
 ghost use Prim.Native.Nat.{_≤_};
 ghost use lib.ListN.{length};
 use cases::print;
@@ -284,8 +285,13 @@ fn replay_all(text: &[u8]) {
     }
 }
 
-fn main() {
+fn replay_file(path: &[u8]) {
     let mut buffer = io::large_buffer();
-    let n = cases::read_file(b"cases", &mut buffer);
+    let n = cases::read_file(path, &mut buffer);
     replay_all(&buffer[..n]);
+}
+
+fn main() {
+    replay_file(b"cases");
+    replay_file(b"oracle");
 }

@@ -15,10 +15,11 @@ use std::path::Path;
 /// The programs read a file into so many bytes.
 const ROOM: usize = 65_536;
 
-/// A data file: its lines after the header, and how many cases they are.
+/// A data file: its lines after the header, how many cases they are, and where the answers do not stand in it the lines that the program is to write.
 #[derive(Default)]
 pub struct Sample {
     pub lines: Vec<String>,
+    pub shown: Vec<String>,
     cases: usize,
 }
 
@@ -355,6 +356,11 @@ fn put_file(folder: &Path, seed: u64, about: &About, sample: &Sample) -> Result<
     let path = folder.join(name);
     fs::write(&path, &text).map_err(|e| format!("{}: {e}", path.display()))?;
     println!("{}: {} cases, {} bytes", path.display(), sample.cases, text.len());
+    if !sample.shown.is_empty() {
+        let path = folder.join(format!("{name}.stdout"));
+        fs::write(&path, sample.shown.join("\n") + "\n").map_err(|e| format!("{}: {e}", path.display()))?;
+        println!("{}: what the program is to write of these cases", path.display());
+    }
     Ok(())
 }
 

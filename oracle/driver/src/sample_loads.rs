@@ -16,7 +16,7 @@ pub const OF_TYPINGS: About = About {
     files: "src/entity_manifest/type_annotations.rs",
     functions: "EntityManifest::to_typed; its two errors are 9 and 10, its assert is 11, each at the shortest front of the listing that it refuses.",
     questions: "manifests of up to 12 nodes an entry that follow the types of a small schema, some with what does not fit (load_gen.rs).",
-    columns: "rust, name, schema text, listing, the answer as it is shown for the kind type. Texts in escapes. A type has its number in the schema, in which no two types are alike; roots p and r have 1025 and 1026.",
+    columns: "As in data/cases, all of the kind type; the Rust's answers are the last lines of the file stdout, from typing.stdout. A type has its number in the schema, in which no two types are alike; roots p and r have 1025 and 1026.",
 };
 
 pub const OF_LOADS: About = About {
@@ -24,7 +24,7 @@ pub const OF_LOADS: About = About {
     files: "src/entity_manifest/loader.rs",
     functions: "load_entities over the manifest typed by to_typed; panics are 13 and 14, at the row by which the Rust first refuses the batch; a wrong count is 12.",
     questions: "loads of small manifests by drawn schemas, answered by the entity and the trie that is asked for (load_gen.rs).",
-    columns: "name, manifest (what typing leaves of it), request, context, calls as in data/cases; last rust and what is shown of them. The Rust's batches and requests are sets: they stand in document 01's order.",
+    columns: "As in data/cases, the manifest as typing leaves it; the Rust's answers are the last lines of the file stdout, from loader.stdout. Its batches and requests are sets: they stand there in document 01's order.",
 };
 
 // ---------------------------------------------------------------- typings
@@ -87,7 +87,8 @@ pub fn typings(seed: u64) -> Sample {
             let dropped = answer.split(' ').next() != Some(&rows(&manifest).len().to_string());
             if number == wanted && count_all(&manifest) > 0 && (number != 0 || dropped == (n % 2 == 0) || draw > 300) {
                 let name = out.next();
-                out.lines.push(format!("rust\ttyping {name}\t{}\t{}\t{}", escaped(&schema.text), listing(&manifest), escaped(&answer)));
+                out.lines.push(format!("type\ttyping {name}\t{}\t{}", escaped(&schema.text), listing(&manifest)));
+                out.shown.push(format!("typing {name}: {answer}"));
                 break;
             }
         }
@@ -151,8 +152,9 @@ fn shown_calls(told: &Story, nodes: usize, first: usize, slice: Option<&Slice>) 
     Some(out.join("; ") + ";")
 }
 
-/// A case as a line without its name, if the Rust loads it as document 01 does and its answer has a place; with the number that it comes to.
-fn load_by_rust(schema: &LoadSchema, case: &Case) -> Option<(u64, Story, String)> {
+/// A case as a line without its name, and what the program shows of it, if the Rust loads it as document 01 does and its answer has a place; with the
+/// number that it comes to.
+fn load_by_rust(schema: &LoadSchema, case: &Case) -> Option<(u64, Story, String, String)> {
     let typed = rust_loads::to_typed(&schema.rust, &rust::manifest(&case.manifest)).ok().filter(|_| case.plan.sets_by >= 0)?;
     let rows = lent_rows(schema, case);
     let (first, nodes) = entry_of(&rows, case.request.kind)?;
@@ -174,8 +176,8 @@ fn load_by_rust(schema: &LoadSchema, case: &Case) -> Option<(u64, Story, String)
         _ => return None,
     };
     let shown = shown_calls(&document, nodes.len(), first, slice)?;
-    let line = format!("{}\trust {shown}", scripts::line(&rows, &case.request, &document));
-    Some((number, document, line))
+    let line = scripts::line(&rows, &case.request, &document);
+    Some((number, document, line, shown))
 }
 
 pub fn loads(seed: u64) -> Sample {
@@ -190,13 +192,14 @@ pub fn loads(seed: u64) -> Sample {
             if nodes > growing(3, 16, n, LOADS) || case.untyped {
                 continue;
             }
-            let Some((number, told, line)) = load_by_rust(&schema, &case) else { continue };
+            let Some((number, told, line, shown)) = load_by_rust(&schema, &case) else { continue };
             // rather one with several batches, a row of an entity asked before, or ids asked for
             let entities: std::collections::BTreeSet<u32> = told.load.asked.iter().map(|row| row.entity).collect();
             let worthy = [told.batches.len() > 1, entities.len() < told.load.asked.len(), told.requests.iter().any(|ids| !ids.is_empty())];
-            if number == wanted && line.len() < 640 && (number != 0 || worthy[n / 2 % 3] || n < 12 || draw > 600) {
+            if number == wanted && line.len() + shown.len() < 640 && (number != 0 || worthy[n / 2 % 3] || n < 12 || draw > 600) {
                 let name = out.next();
                 out.lines.push(format!("load {name}\t{line}"));
+                out.shown.push(format!("load {name}: {shown}"));
                 break;
             }
         }
