@@ -3,10 +3,10 @@
 ghost use mathlib.Core.Path.{_≡_};
 ghost use Prim.Native.Nat.{_+_, _≤_, _<_};
 ghost use lib.ListN.{length};
-use load_log::AncestorsRequest;
-use load_log::EntityRequest;
+use load_log::RequestPlace;
 use load_log::count_of;
 use store_text::Put;
+use values::EntityRequest;
 
 // How many stores may answer, the words of one, and those of all with their number.
 pub const STORES: usize = 8;
@@ -143,7 +143,7 @@ pub fn answer_requests(stores: &[u64], requests: &[u64], sets: &mut [u64])
     let mut ids = 1 + count;
     let mut i = 0;
     while i < count {
-        let request = AncestorsRequest::at(requests, i, ids);
+        let request = RequestPlace::at(requests, i, ids);
         let stop = request.end;
         let from = start_of(turn_of(stores, 0, i as u64));
         let end = from + STORE;

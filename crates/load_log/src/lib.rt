@@ -5,8 +5,7 @@ mod rows;
 mod slice;
 
 pub use crate::line::write_line;
-pub use crate::requests::AncestorsRequest;
-pub use crate::requests::EntityRequest;
+pub use crate::requests::RequestPlace;
 pub use crate::requests::count_of;
 pub use crate::requests::write_requests;
 pub use crate::rows::write_batch;

@@ -5,32 +5,15 @@ use crate::line::write_headed;
 use files::DONE;
 use files::To;
 
-// A row asked: its entity and its node.
-pub struct EntityRequest {
-    pub id: u64,
-    pub node: u64,
-}
-
-impl EntityRequest {
-    pub fn of(word: u64) -> EntityRequest
-        ensures { λ r. ⌜ r .id ≤ 65535 ⌝ }
-    {
-        EntityRequest {
-            id: word % 0x1_0000,
-            node: word / 0x1_0000,
-        }
-    }
-}
-
-// An ancestors request: its entity, and where the ids that it asks for end.
-pub struct AncestorsRequest {
+// Where an ancestors request stands: its entity, and where the ids that it asks for end.
+pub struct RequestPlace {
     pub id: u64,
     pub end: usize,
 }
 
-impl AncestorsRequest {
+impl RequestPlace {
     // The request with a number, whose ids begin at a place.
-    pub fn at(requests: &[u64], i: usize, from: usize) -> AncestorsRequest
+    pub fn at(requests: &[u64], i: usize, from: usize) -> RequestPlace
         requires { ⌜ (i < 4096) × (4097 ≤ length (now requests)) × (from ≤ length (now requests)) ⌝ }
         ensures { λ r. ⌜ (r .id ≤ 65535) × (from ≤ r .end) × (r .end ≤ length (now (requests .entry))) ⌝ }
     {
@@ -38,12 +21,12 @@ impl AncestorsRequest {
         let id = head % 0x1_0000;
         let ids = (head / 0x1_0000) as usize;
         if requests.len() - from < ids {
-            return AncestorsRequest {
+            return RequestPlace {
                 id,
                 end: requests.len(),
             };
         }
-        AncestorsRequest {
+        RequestPlace {
             id,
             end: from + ids,
         }
@@ -70,7 +53,7 @@ pub fn write_requests(to: To, requests: &[u64]) -> u64
     let mut from = 1 + count;
     let mut i = 0;
     while i < count {
-        let request = AncestorsRequest::at(requests, i, from);
+        let request = RequestPlace::at(requests, i, from);
         let end = request.end;
         let status = write_headed(to, b'K', request.id, &requests[from..end]);
         if status != DONE {

@@ -1,9 +1,9 @@
 // Words of which each is a line: the rows of a batch, the parents of an entity, the rows of a value.
 use crate::line::write_line;
 use crate::line::write_value_row;
-use crate::requests::EntityRequest;
 use files::DONE;
 use files::To;
+use values::EntityRequest;
 use values::ValueRow;
 
 // What each word is.

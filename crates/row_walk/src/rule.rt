@@ -60,7 +60,13 @@ fn row_rule(nodes: &[u64], node: usize, values: &[u64], at: usize, depth: u64) -
 }
 
 // The rule at a node: a field is looked up at its depth in what its parent kept, and an absent one is skipped.
-pub fn value_rule(nodes: &[u64], node: usize, values: &[u64], kept: u64, depth: u64) -> Rule
+pub fn find_remaining_entities_value(
+    nodes: &[u64],
+    node: usize,
+    values: &[u64],
+    kept: u64,
+    depth: u64,
+) -> Rule
     requires { ⌜ (node < length (now nodes)) × (depth < 32) ⌝ }
     ensures { λ r. ⌜ MeansRule (now (values .entry)) node r (atNodeRows depth (keptIn (now (values .entry)) kept)
         (rowIn (getD (now (nodes .entry)) node 0)) (rowsOf (drop (node + 1) (now (nodes .entry)))) node) ⌝ }

@@ -6,7 +6,7 @@ ghost use Rattle.rows.specs.Words.{depthIn};
 ghost use Rattle.row_walk.specs.RowWalks.{keptBy};
 ghost use Rattle.row_walk.specs.Meetings.{Visited, Meets};
 use crate::rule::Rule;
-use crate::rule::value_rule;
+use crate::rule::find_remaining_entities_value;
 use rows::Row;
 use words::at_most;
 
@@ -73,7 +73,7 @@ fn visit(
     let below = row.depth() - depth;
     let place = below as usize - 1;
     let above = kept_at(&kept[..], len, place);
-    let rule = value_rule(nodes, node, values, above, below);
+    let rule = find_remaining_entities_value(nodes, node, values, above, below);
     let to = at_most(below, len as u64) as usize;
     kept[to] = kept_by(rule);
     Visits { len: to + 1, rule }

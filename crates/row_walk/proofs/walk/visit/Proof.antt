@@ -29,8 +29,8 @@ sub-place c = search needs
 kept-at-requires : tie.Need-kept-at-requires
 kept-at-requires c κs = search needs
 
-value-rule-requires : tie.Need-value-rule-requires
-value-rule-requires c κs = search needs
+find-remaining-entities-value-requires : tie.Need-find-remaining-entities-value-requires
+find-remaining-entities-value-requires c κs = search needs
 
 at-most-requires : tie.Need-at-most-requires
 at-most-requires c κs = search needs
@@ -61,8 +61,8 @@ returns c =
     let below : c .before .before .before .before .before .depth .result - s .args .depth ≡ depthIn (getD (s .args .nodes .now) (s .args .node) 0) - s .args .depth = rw (c .before .before .before .before .before .depth .ensures) in
     rw (c .before .at-most .ensures, c .kept-by .ensures)
     (visited (s .args .nodes .now) (s .args .values .now) (s .args .depth) (s .args .kept .now) (s .args .len) (s .args .node) (s .pre .0 .0)
-    (c .before .before .before .before .before .depth .result - s .args .depth) (c .before .before .before .kept-at .result) (c .before .before .value-rule .result)
-    (s .pre .0 .1) (s .pre .1 .0) (s .pre .1 .1) below (c .before .before .before .kept-at .ensures) (c .before .before .value-rule .ensures))
+    (c .before .before .before .before .before .depth .result - s .args .depth) (c .before .before .before .kept-at .result) (c .before .before .find-remaining-entities-value .result)
+    (s .pre .0 .1) (s .pre .1 .0) (s .pre .1 .1) below (c .before .before .before .kept-at .ensures) (c .before .before .find-remaining-entities-value .ensures))
 
 pub visit-spec : {M : Type 1} → statement M
 visit-spec =
@@ -74,7 +74,7 @@ visit-spec =
     sub-below
     sub-place
     kept-at-requires
-    value-rule-requires
+    find-remaining-entities-value-requires
     at-most-requires
     kept-by-requires
     mul-kept

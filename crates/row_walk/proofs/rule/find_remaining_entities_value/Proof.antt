@@ -1,4 +1,4 @@
--- `row_walk::rule::value_rule` meets its contract: nothing is kept, the node is no field, or its field is looked up.
+-- `row_walk::rule::find_remaining_entities_value` meets its contract: nothing is kept, the node is no field, or its field is looked up.
 -- Assumes nothing.
 use borrow.Author.Needs.{needs}
 use native.Mathlib.Omega.{arith}
@@ -14,8 +14,8 @@ use Rattle.values.specs.ValueWords.{valueRowIn, valueRowsOf}
 use Rattle.row_walk.specs.RowWalks.{keptIn}
 use Rattle.row_walk.specs.ScanLaws.{rows-left}
 use Rattle.row_walk.specs.RuleLaws.{kept-some, node-root, node-field}
-use Rattle.row_walk.proofs.rule.value_rule.Statement.{statement}
-use Rattle.row_walk.proofs.rule.value_rule.Tie as tie
+use Rattle.row_walk.proofs.rule.find_remaining_entities_value.Statement.{statement}
+use Rattle.row_walk.proofs.rule.find_remaining_entities_value.Tie as tie
 
 -- the node's row, and the rows behind it
 abbrev row-of : tie.Start → Row
@@ -87,8 +87,8 @@ returns-4 c =
       small = tt;
     }
 
-pub value-rule-spec : {M : Type 1} → statement M
-value-rule-spec =
+pub find-remaining-entities-value-spec : {M : Type 1} → statement M
+find-remaining-entities-value-spec =
     tie.close
     (tie.spec
     returns
