@@ -25,9 +25,11 @@ fn a_manifest(rng: &mut Rng, schema: &LoadSchema) -> Manifest {
         let (p, r) = (*rng.pick(&names) as u64, *rng.pick(&names) as u64);
         let kind = request(p, if rng.percent(95) { *rng.pick(&actions) as u64 } else { n as u64 }, if entries > 9 { n as u64 } else { r });
         let nodes = (4_096 - count_all(&m)).min(if most > 1_000 { most } else { rng.from(0, most) });
-        let trie = if rng.percent(80) || most > 1_000 {
-            let deep = if most > 1_000 { 12 } else { follow.deep };
-            if most > 1_000 { wide_trie(rng, &schema.lines, kind, nodes, deep) } else { load_gen::trie(rng, &schema.lines, kind, nodes, &follow) }
+        let along = rng.percent(80);
+        let trie = if most > 1_000 {
+            wide_trie(rng, &schema.lines, kind, nodes, 12)
+        } else if along {
+            load_gen::trie(rng, &schema.lines, kind, nodes, &follow)
         } else {
             let shape = gen::shape(rng);
             gen::trie(rng, nodes, &shape)
