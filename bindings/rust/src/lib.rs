@@ -26,7 +26,7 @@
 //! # Stack
 //!
 //! A thread of Rust has 2 MiB of stack by default, and so has each test. [`Manifest::add_policy`] and [`Contribution::analyse`] take up to about
-//! 2.2 MB where a text has very many paths, and less than 200 KB otherwise; [`Schema::read`] takes 1.1 MB, and every other call less.
+//! 2.2 MB where a text has very many paths, and less than 200 KB otherwise; every other call takes less than 512 KiB.
 //! Call these two on a thread that has 4 MiB, where texts come from elsewhere:
 //!
 //! ```

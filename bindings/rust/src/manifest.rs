@@ -20,7 +20,7 @@ use crate::rows::{Entries, Entry, Node};
 pub struct Schema(Buffer<u64, { raw::SCHEMA }>);
 
 impl Schema {
-    /// Reads a schema's text. Takes about 1.1 MB of stack.
+    /// Reads a schema's text.
     pub fn read(text: impl AsRef<[u8]>) -> Result<Schema, Refusal> {
         let mut schema = Buffer::new();
         raw::read_schema(text.as_ref(), &mut schema)?;

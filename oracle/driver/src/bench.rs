@@ -18,30 +18,17 @@ fn median(mut times: Vec<Duration>) -> f64 {
     times[times.len() / 2].as_nanos() as f64
 }
 
-/// The processor time of this thread so far: on a shared machine the clock on the wall tells of others too.
-fn processor_time() -> Duration {
-    extern "C" {
-        fn clock_gettime(clock: i32, at: *mut [i64; 2]) -> i32;
-    }
-    const OF_THREAD: i32 = 3;
-    let mut at = [0; 2];
-    // SAFETY: on 64-bit Linux a timespec is two words, seconds and nanoseconds, and this one is written by the call alone.
-    let told = unsafe { clock_gettime(OF_THREAD, &mut at) };
-    assert_eq!(told, 0, "the thread's processor time cannot be read");
-    Duration::new(at[0] as u64, at[1] as u32)
-}
-
 /// Nanoseconds of one call, the median of rounds that each take a few milliseconds.
 pub fn time(mut ready: Ready) -> f64 {
-    let one = processor_time();
+    let one = Instant::now();
     assert_eq!(ready(), 0, "a benchmark's input is refused");
-    let calls = (5_000_000 / (processor_time() - one).as_nanos().max(1)).clamp(1, 2_000) as u32;
+    let calls = (5_000_000 / one.elapsed().as_nanos().max(1)).clamp(1, 2_000) as u32;
     let rounds = (0..ROUNDS).map(|_| {
-        let began = processor_time();
+        let began = Instant::now();
         for _ in 0..calls {
             black_box(ready());
         }
-        (processor_time() - began) / calls
+        began.elapsed() / calls
     });
     median(rounds.collect())
 }
@@ -51,11 +38,11 @@ pub fn time_rust<T, R>(mut make: impl FnMut() -> T, mut f: impl FnMut(T) -> R) -
     let rounds = (0..ROUNDS).map(|_| {
         let inputs: Vec<T> = (0..4).map(|_| make()).collect();
         let mut results = Vec::with_capacity(4);
-        let began = processor_time();
+        let began = Instant::now();
         for x in inputs {
             results.push(black_box(f(x)));
         }
-        let took = (processor_time() - began) / 4;
+        let took = began.elapsed() / 4;
         drop(results);
         took
     });

@@ -273,6 +273,9 @@ fn name_of(call: Call) -> &'static str {
 
 impl Run<'_> {
     pub fn load_damage(&mut self, count: u64) {
+        if self.nothing_shown("load_damage") {
+            return;
+        }
         let (began, mut t, mut lends) = (Instant::now(), Tally::default(), Lends::new());
         let mut calls: BTreeMap<&str, u64> = BTreeMap::new();
         let limits = load_gen::limit_schema();

@@ -295,7 +295,7 @@ impl Run<'_> {
     }
 
     /// Says of a run that it would hold the plain side against itself.
-    fn nothing_shown(&self, name: &str) -> bool {
+    pub fn nothing_shown(&self, name: &str) -> bool {
         if self.plain_alone() {
             println!("{name:<12} nothing shown: the plain side against itself");
         }
