@@ -764,19 +764,19 @@ static void part_on_threads(const char *what, void (*part)(void)) {
 
 /* Half of what a call takes: the page below a thread's stack ends the process. */
 static void too_little(void) {
-    State s = state(TERBAGYL_SCHEMA_LEN);
-    Text t = largest_schema();
-    Job j = {CALL(read_schema), .text = t, .out = s};
+    State m = one_entry(TERBAGYL_MANIFEST_LEN, 3072, 0, 2);
+    State more = one_entry(TERBAGYL_CONTRIBUTION_LEN, 1024, 1, 2);
+    Job j = {CALL(add), .x = more, .out = m};
     fflush(stdout);
     pid_t child = fork();
     if (child == 0) {
-        on_a_thread(&j, stated_bytes("read_schema") / 2 / 4096 * 4096);
+        on_a_thread(&j, stated_bytes("add") / 2 / 4096 * 4096);
         _exit(0);
     }
     int status;
     waitpid(child, &status, 0);
     int good = WIFSIGNALED(status) && WTERMSIG(status) == SIGSEGV;
-    printf("%-7s read_schema on a thread with half of that: the process is ended by SIGSEGV\n", good ? "ok" : "FAILED");
+    printf("%-7s add on a thread with half of that: the process is ended by SIGSEGV\n", good ? "ok" : "FAILED");
     *(good ? &passed : &failed) += 1;
 }
 

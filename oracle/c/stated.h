@@ -14,6 +14,7 @@ static const struct {
     {"has_in_contribution", 4096},
     {"write_manifest", 4096},
     {"write_contribution", 4096},
+    {"read_schema", 4096},
     {"union_manifests", 8192},
     {"union_contributions", 8192},
     {"read_manifest", 36864},
@@ -27,7 +28,6 @@ static const struct {
     {"load_result", 331776},
     {"load_answer", 397312},
     {"load_ancestors", 499712},
-    {"read_schema", 1142784},
     {"analyse", 2191360},
     {"add_policy", 2191360},
 };
