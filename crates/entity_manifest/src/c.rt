@@ -11,6 +11,7 @@ ghost use Rattle.type_annotations.specs.Outcomes.{typedIn};
 ghost use Rattle.rows.specs.declared.Kind.the-variants.{Contribution, Manifest};
 ghost use Rattle.entity_manifest.specs.Numbers.{replyNumber, replyPlace, ToldAs, writtenNumber, writtenValue, heldNumber, heldValue};
 use listing::Written;
+use manifest::EntityManifest;
 use rows::Held;
 use rows::Kind;
 use words::Reply;
@@ -72,7 +73,7 @@ fn tell_held(held: Held, value: &mut u64) -> u64
 pub extern "C" fn terbagyl_empty_manifest(out: &mut [u64], value: &mut u64) -> u64
     ensures { λ r. ⌜ ToldAs (emptyIn (now (out .entry))) r (now (value .exit)) (now (out .exit)) ⌝ }
 {
-    tell(crate::empty_manifest(out), value)
+    tell(EntityManifest::new(out), value)
 }
 
 // Adds a contribution to a manifest.
@@ -80,7 +81,7 @@ pub extern "C" fn terbagyl_empty_manifest(out: &mut [u64], value: &mut u64) -> u
 pub extern "C" fn terbagyl_add(manifest: &mut [u64], contribution: &[u64], value: &mut u64) -> u64
     ensures { λ r. ⌜ ToldAs (addIn (now (manifest .entry)) (now (contribution .entry))) r (now (value .exit)) (now (manifest .exit)) ⌝ }
 {
-    tell(crate::add(manifest, contribution), value)
+    tell(EntityManifest::add(manifest, contribution), value)
 }
 
 // Makes a manifest its union with another one.
@@ -92,7 +93,7 @@ pub extern "C" fn terbagyl_unite_manifests(
 ) -> u64
     ensures { λ r. ⌜ ToldAs (uniteIn (now (manifest .entry)) (now (other .entry))) r (now (value .exit)) (now (manifest .exit)) ⌝ }
 {
-    tell(crate::unite_manifests(manifest, other), value)
+    tell(EntityManifest::unite_manifests(manifest, other), value)
 }
 
 // The union of two manifests in a third.
@@ -105,7 +106,7 @@ pub extern "C" fn terbagyl_union_manifests(
 ) -> u64
     ensures { λ r. ⌜ ToldAs (unionOf Manifest (now (a .entry)) (now (b .entry)) (now (out .entry))) r (now (value .exit)) (now (out .exit)) ⌝ }
 {
-    tell(crate::union(Kind::Manifest, a, b, out), value)
+    tell(union::union(Kind::Manifest, a, b, out), value)
 }
 
 // The union of two contributions in a third.
@@ -118,7 +119,7 @@ pub extern "C" fn terbagyl_union_contributions(
 ) -> u64
     ensures { λ r. ⌜ ToldAs (unionOf Contribution (now (a .entry)) (now (b .entry)) (now (out .entry))) r (now (value .exit)) (now (out .exit)) ⌝ }
 {
-    tell(crate::union(Kind::Contribution, a, b, out), value)
+    tell(union::union(Kind::Contribution, a, b, out), value)
 }
 
 // Whether a manifest has a place, and whether it marks it.
@@ -126,7 +127,7 @@ pub extern "C" fn terbagyl_union_contributions(
 pub extern "C" fn terbagyl_has_in_manifest(state: &[u64], place: &[u64], value: &mut u64) -> u64
     ensures { λ r. ⌜ (r ≡ heldNumber (hasOf Manifest (now (state .entry)) (now (place .entry)))) × (now (value .exit) ≡ heldValue (hasOf Manifest (now (state .entry)) (now (place .entry)))) ⌝ }
 {
-    tell_held(crate::has(Kind::Manifest, state, place), value)
+    tell_held(rows::has(Kind::Manifest, state, place), value)
 }
 
 // Whether a contribution has a place, and whether it marks it.
@@ -134,7 +135,7 @@ pub extern "C" fn terbagyl_has_in_manifest(state: &[u64], place: &[u64], value: 
 pub extern "C" fn terbagyl_has_in_contribution(state: &[u64], place: &[u64], value: &mut u64) -> u64
     ensures { λ r. ⌜ (r ≡ heldNumber (hasOf Contribution (now (state .entry)) (now (place .entry)))) × (now (value .exit) ≡ heldValue (hasOf Contribution (now (state .entry)) (now (place .entry)))) ⌝ }
 {
-    tell_held(crate::has(Kind::Contribution, state, place), value)
+    tell_held(rows::has(Kind::Contribution, state, place), value)
 }
 
 // Reads the listing of a manifest into a state.
@@ -142,7 +143,7 @@ pub extern "C" fn terbagyl_has_in_contribution(state: &[u64], place: &[u64], val
 pub extern "C" fn terbagyl_read_manifest(text: &[u8], out: &mut [u64], value: &mut u64) -> u64
     ensures { λ r. ⌜ ToldAs (readListingIn Manifest (now (text .entry)) (now (out .entry))) r (now (value .exit)) (now (out .exit)) ⌝ }
 {
-    tell(crate::read_listing(Kind::Manifest, text, out), value)
+    tell(listing::read_listing(Kind::Manifest, text, out), value)
 }
 
 // Reads the listing of a contribution into a state.
@@ -150,7 +151,7 @@ pub extern "C" fn terbagyl_read_manifest(text: &[u8], out: &mut [u64], value: &m
 pub extern "C" fn terbagyl_read_contribution(text: &[u8], out: &mut [u64], value: &mut u64) -> u64
     ensures { λ r. ⌜ ToldAs (readListingIn Contribution (now (text .entry)) (now (out .entry))) r (now (value .exit)) (now (out .exit)) ⌝ }
 {
-    tell(crate::read_listing(Kind::Contribution, text, out), value)
+    tell(listing::read_listing(Kind::Contribution, text, out), value)
 }
 
 // Writes the listing of a manifest.
@@ -158,7 +159,7 @@ pub extern "C" fn terbagyl_read_contribution(text: &[u8], out: &mut [u64], value
 pub extern "C" fn terbagyl_write_manifest(state: &[u64], out: &mut [u8], value: &mut u64) -> u64
     ensures { λ r. ⌜ (r ≡ writtenNumber (writeIn Manifest (now (state .entry)) (now (out .entry)) .reply)) × ((now (value .exit) ≡ writtenValue (writeIn Manifest (now (state .entry)) (now (out .entry)) .reply)) × (now (out .exit) ≡ writeIn Manifest (now (state .entry)) (now (out .entry)) .buffer)) ⌝ }
 {
-    tell_written(crate::write_listing(Kind::Manifest, state, out), value)
+    tell_written(listing::write_listing(Kind::Manifest, state, out), value)
 }
 
 // Writes the listing of a contribution.
@@ -166,7 +167,10 @@ pub extern "C" fn terbagyl_write_manifest(state: &[u64], out: &mut [u8], value: 
 pub extern "C" fn terbagyl_write_contribution(state: &[u64], out: &mut [u8], value: &mut u64) -> u64
     ensures { λ r. ⌜ (r ≡ writtenNumber (writeIn Contribution (now (state .entry)) (now (out .entry)) .reply)) × ((now (value .exit) ≡ writtenValue (writeIn Contribution (now (state .entry)) (now (out .entry)) .reply)) × (now (out .exit) ≡ writeIn Contribution (now (state .entry)) (now (out .entry)) .buffer)) ⌝ }
 {
-    tell_written(crate::write_listing(Kind::Contribution, state, out), value)
+    tell_written(
+        listing::write_listing(Kind::Contribution, state, out),
+        value,
+    )
 }
 
 // Reads a schema's text into a state.
@@ -174,7 +178,7 @@ pub extern "C" fn terbagyl_write_contribution(state: &[u64], out: &mut [u8], val
 pub extern "C" fn terbagyl_read_schema(text: &[u8], out: &mut [u64], value: &mut u64) -> u64
     ensures { λ r. ⌜ ToldAs (readSchemaIn (now (text .entry)) (now (out .entry))) r (now (value .exit)) (now (out .exit)) ⌝ }
 {
-    tell(crate::read_schema(text, out), value)
+    tell(schema_text::read_schema(text, out), value)
 }
 
 // Analyses a step text under a request type, with a schema, and stores the contribution.
@@ -188,7 +192,7 @@ pub extern "C" fn terbagyl_analyse(
 ) -> u64
     ensures { λ r. ⌜ ToldAs (analyseIn (now (schema .entry)) request (now (text .entry)) (now (out .entry))) r (now (value .exit)) (now (out .exit)) ⌝ }
 {
-    tell(crate::analyse(schema, request, text, out), value)
+    tell(analysis::analyse(schema, request, text, out), value)
 }
 
 // Adds all contributions of a policy text to a manifest.
@@ -201,7 +205,7 @@ pub extern "C" fn terbagyl_add_policy(
 ) -> u64
     ensures { λ r. ⌜ ToldAs (addPolicyIn (now (schema .entry)) (now (text .entry)) (now (manifest .entry))) r (now (value .exit)) (now (manifest .exit)) ⌝ }
 {
-    tell(crate::add_policy(schema, text, manifest), value)
+    tell(analysis::add_policy(schema, text, manifest), value)
 }
 
 // Types a manifest by a schema, and stores what stays.
@@ -214,5 +218,5 @@ pub extern "C" fn terbagyl_type(
 ) -> u64
     ensures { λ r. ⌜ ToldAs (typedIn (now (schema .entry)) (now (manifest .entry)) (now (out .entry))) r (now (value .exit)) (now (out .exit)) ⌝ }
 {
-    tell(crate::to_typed(schema, manifest, out), value)
+    tell(type_annotations::to_typed(schema, manifest, out), value)
 }

@@ -39,20 +39,20 @@ impl EntityManifest {
     {
         unite_in_place(Kind::Manifest, manifest, other)
     }
+}
 
-    // Makes a lawful manifest its union with a lawful state of either kind; `united` is scratch.
-    pub fn unite_lawful(manifest: &mut [u64], other: &[u64], united: &mut [u64]) -> Reply
-        requires { ⌜ (lawfulState manifestForm (now manifest) ≡ true) × LawfulOfSomeKind (now other) ⌝ }
-        requires { ⌜ (4161 ≤ length (now manifest)) × (4161 ≤ length (now united)) ⌝ }
-        ensures { λ r. ⌜ (r ≡ storing (now (manifest .entry)) (unitedRows (now (manifest .entry)) (now (other .entry))) .reply) × (now (manifest .exit) ≡ storing (now (manifest .entry)) (unitedRows (now (manifest .entry)) (now (other .entry))) .buffer) ⌝ }
-    {
-        let reply = unite(manifest, other, united);
-        let Reply::Done = reply else {
-            return reply;
-        };
-        words::copy_rows(united, manifest);
-        Reply::Done
-    }
+// Makes a lawful manifest its union with a lawful state of either kind; `united` is scratch.
+pub fn unite_lawful(manifest: &mut [u64], other: &[u64], united: &mut [u64]) -> Reply
+    requires { ⌜ (lawfulState manifestForm (now manifest) ≡ true) × LawfulOfSomeKind (now other) ⌝ }
+    requires { ⌜ (4161 ≤ length (now manifest)) × (4161 ≤ length (now united)) ⌝ }
+    ensures { λ r. ⌜ (r ≡ storing (now (manifest .entry)) (unitedRows (now (manifest .entry)) (now (other .entry))) .reply) × (now (manifest .exit) ≡ storing (now (manifest .entry)) (unitedRows (now (manifest .entry)) (now (other .entry))) .buffer) ⌝ }
+{
+    let reply = unite(manifest, other, united);
+    let Reply::Done = reply else {
+        return reply;
+    };
+    words::copy_rows(united, manifest);
+    Reply::Done
 }
 
 // Makes a manifest its union with a state of a kind; a refusal leaves it as it was.
@@ -72,7 +72,7 @@ fn unite_in_place(kind: Kind, manifest: &mut [u64], other: &[u64]) -> Reply
         return Reply::Refused(1, 0);
     }
     let mut united = [0u64; EntityManifest::WORDS];
-    EntityManifest::unite_lawful(manifest, other, &mut united)
+    unite_lawful(manifest, other, &mut united)
 }
 
 // The union of the rows of a manifest and of another state, in a state of its own.

@@ -6,6 +6,7 @@ ghost use Rattle.io.specs.Counts.{Counts};
 use cases::kind_of;
 use cases::print;
 use cases::print_refused;
+use entity_manifest::EntityManifest;
 use entity_manifest::Kind;
 use entity_manifest::Reply;
 use entity_manifest::Written;
@@ -143,7 +144,7 @@ fn add_kept(state: &mut [u64], kept: &[u64], number: u64) {
     if kept.len() < end {
         return;
     }
-    let reply = entity_manifest::add(state, &kept[from..end]);
+    let reply = EntityManifest::add(state, &kept[from..end]);
     if let Reply::Refused(number, place) = reply {
         print_refused(number, place);
         print(b", ");
@@ -256,7 +257,7 @@ fn lent(whole: usize, line: &[u8], n: usize) -> usize
 fn unite_lent(line: &[u8], manifest: &mut [u64], other: &[u64]) -> Reply {
     let m = lent(manifest.len(), line, 2);
     let o = lent(other.len(), line, 3);
-    entity_manifest::unite_manifests(&mut manifest[..m], &other[..o])
+    EntityManifest::unite_manifests(&mut manifest[..m], &other[..o])
 }
 
 // Unites a copy of a manifest, and holds it against the expected one, or after a refusal against the manifest itself.

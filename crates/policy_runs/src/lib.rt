@@ -11,6 +11,7 @@ ghost use Rattle.step_runs.specs.StepRuns.{Ready};
 ghost use Rattle.policy_runs.specs.PolicyRuns.{requestRead, requestOfRow, LentManifest, Open, ClosedBy, RoomToAdd, PolicyTakenBy, PolicyRanBy};
 use listing_lines::ParsedRow;
 use manifest::EntityManifest;
+use manifest::unite_lawful;
 use path_tries::TRIE;
 use result_stack::Stack;
 use rows::Kind;
@@ -87,7 +88,7 @@ fn close(
         return Closed::Refused(6);
     }
     write_contribution(reading.request, tries, reading.stack.tries, contribution);
-    match EntityManifest::unite_lawful(rows, contribution, united) {
+    match unite_lawful(rows, contribution, united) {
         Reply::Done => Closed::Done,
         Reply::Refused(number, _) => Closed::Refused(number),
     }

@@ -5,8 +5,8 @@ use Rattle.entity_manifest.specs.Numbers.{told}
 use Rattle.entity_manifest.proofs.c.terbagyl_empty_manifest.Statement.{statement}
 use Rattle.entity_manifest.proofs.c.terbagyl_empty_manifest.Tie as tie
 
-empty-manifest-requires : tie.Need-empty-manifest-requires
-empty-manifest-requires c κs = search needs
+new-requires : tie.Need-new-requires
+new-requires c κs = search needs
 
 tell-requires : tie.Need-tell-requires
 tell-requires c κs = search needs
@@ -15,8 +15,8 @@ same-length : tie.Need-same-length
 same-length c = search needs
 
 returns : tie.Need-returns
-returns c = told (c .before .before .before .before .empty-manifest .ensures) (c .tell .ensures)
+returns c = told (c .before .before .before .before .new .ensures) (c .tell .ensures)
 
 pub terbagyl-empty-manifest-spec : {M : Type 1} → statement M
 terbagyl-empty-manifest-spec =
-    tie.close (tie.spec empty-manifest-requires tell-requires same-length returns)
+    tie.close (tie.spec new-requires tell-requires same-length returns)

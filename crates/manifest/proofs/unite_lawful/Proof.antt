@@ -1,4 +1,4 @@
--- `manifest::EntityManifest::unite_lawful` meets its contract: what was united is copied, or nothing is.
+-- `manifest::unite_lawful` meets its contract: what was united is copied, or nothing is.
 -- Assumes nothing.
 use Prim.Native.Nat.{_≤_}
 use mathlib.Core.Path.{_≡_, sym, ap, _∙_}
@@ -15,8 +15,8 @@ use Rattle.rows.specs.States.{rowsIn, holding, storing}
 use Rattle.words.specs.RunLaws.{held-count, held-copied}
 use Rattle.manifest.specs.Outcomes.{unitedRows}
 use Rattle.manifest.specs.UniteLaws.{same-reply, refused-kept, done-rows, added-most}
-use Rattle.manifest.proofs.EntityManifest.unite_lawful.Statement.{statement}
-use Rattle.manifest.proofs.EntityManifest.unite_lawful.Tie as tie
+use Rattle.manifest.proofs.unite_lawful.Statement.{statement}
+use Rattle.manifest.proofs.unite_lawful.Tie as tie
 
 unite-requires : tie.Need-unite-requires
 unite-requires c κs = search needs
