@@ -3,8 +3,10 @@
 ghost use mathlib.Core.Path.{_≡_};
 ghost use mathlib.Core.List.{[], _∷_};
 ghost use Rattle.load_begin.specs.Begins.{beginIn};
-ghost use Rattle.loader.specs.Calls.{batchIn, answerIn};
-ghost use Rattle.load_ends.specs.Ends.{ancestorsIn, ancestorsAnswerIn, resultIn};
+ghost use Rattle.load_batch.specs.Handing.{batchIn};
+ghost use Rattle.loader.specs.Calls.{answerIn};
+ghost use Rattle.load_ancestors.specs.Asking.{ancestorsIn};
+ghost use Rattle.load_ends.specs.Ends.{ancestorsAnswerIn, resultIn};
 ghost use Rattle.entity_manifest.specs.LoadNumbers.{loadNumber, loadValues, CallTold, HandTold};
 use load_state::LoadReply;
 
@@ -68,7 +70,7 @@ pub extern "C" fn terbagyl_load_batch(
 ) -> u64
     ensures { λ r. ⌜ HandTold (batchIn (now (state .entry)) (now (out .entry))) r (now (value .exit) ∷ now (first .exit) ∷ now (second .exit) ∷ []) (now (state .exit)) (now (out .exit)) ⌝ }
 {
-    tell_load(loader::load_batch(state, out), value, first, second)
+    tell_load(load_batch::load_batch(state, out), value, first, second)
 }
 
 // Takes a batch's answers.
@@ -96,7 +98,7 @@ pub extern "C" fn terbagyl_load_ancestors(
 ) -> u64
     ensures { λ r. ⌜ HandTold (ancestorsIn (now (state .entry)) (now (out .entry))) r (now (value .exit) ∷ now (first .exit) ∷ now (second .exit) ∷ []) (now (state .exit)) (now (out .exit)) ⌝ }
 {
-    tell_load(load_ends::load_ancestors(state, out), value, first, second)
+    tell_load(load_ancestors::load_ancestors(state, out), value, first, second)
 }
 
 // Takes the answered ancestors.

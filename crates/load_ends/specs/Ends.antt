@@ -1,33 +1,20 @@
--- What ancestors, ancestors' answers and result answer and leave, in words.
+-- What ancestors' answers and result answer and leave, in words.
 use Prim.Native.Nat.{ℕ}
 use mathlib.Core.Path.{_≡_}
 use mathlib.Core.Bool.{cond, _&&_}
-use mathlib.Core.List.{List, [], _∷_, _++_, flatten}
+use mathlib.Core.List.{List, [], _∷_}
 use lib.Dec.{leb, eqb}
 use lib.ListN.{length, take, getD}
 use lib.Seq.{sets}
-use Rattle.rules.specs.Loading.{LoadAnswer, done, refusedAt, counted, _then_, EntityRequest, Load, Loaded}
-use Rattle.rules.specs.LoadCalls.{Turn, Called, outOfTurn, askAncestors, takeAncestors, resultOf}
+use Rattle.rules.specs.Loading.{LoadAnswer, done, refusedAt, counted, _then_, Load, Loaded}
+use Rattle.rules.specs.LoadCalls.{Turn, Called, outOfTurn, takeAncestors, resultOf}
 use Rattle.rows.specs.States.{rowsOf}
 use Rattle.answers.specs.Answers.{lentFrom}
 use Rattle.answers.specs.declared.Lending.the-variants.{Sets}
 use Rattle.slices.specs.Slices.{sliceWords}
-use Rattle.ancestors.specs.Requests.{heads}
 use Rattle.load_state.specs.LoadStates.{loadWords, turnNumber, answerWords}
 use Rattle.load_state.specs.Transcripts.{nodeWords, transcriptIn, lentLoad, CameTo}
-use Rattle.load_state.specs.Outcomes.{
-  LoadOutcome,
-  refusingCall,
-  countingCall,
-  HandedOut,
-  refusingOut,
-  countingOut,
-  lentWords,
-  behindCount,
-  given,
-  givenIn,
-  wordsOf,
-}
+use Rattle.load_state.specs.Outcomes.{LoadOutcome, refusingCall, countingCall, lentWords, behindCount, given, givenIn, wordsOf}
 use Rattle.load_state.specs.declared.LoadReply.the-variants.{Done}
 
 -- A load that was read: it is the state's, so many rows were asked in so many batches, and their answers come to a sum.
@@ -36,37 +23,6 @@ pub record ReadTo (state rows places : List ℕ) (asked batches sum : ℕ) : Typ
   pub end : ℕ
   pub told : lentLoad state ≡ done load
   pub came : CameTo (answerWords state) rows places (getD state 7 0) (rowsOf (nodeWords state)) load asked end batches sum
-
--- ---- ancestors
-
--- the one length of 'Ancestors requests out'
-abbrev pub requestsWords : ℕ
-requestsWords = 528385
-
--- the count, a head for each row ever asked, and then the ids of each
-abbrev pub requestsOut : List EntityRequest → List (List ℕ) → List ℕ
-requestsOut rows lists = length rows ∷ (heads rows lists ++ flatten lists)
-
-module _ (state out : List ℕ) where
-  abbrev pub handingRequests : List EntityRequest → LoadAnswer (Called (List (List ℕ))) → HandedOut
-  handingRequests rows (done called) =
-      record {
-        reply = Done (length (called .out)) (called .counts .batches) (called .counts .rows);
-        state = sets state 0 (turnNumber (called .left .turn) ∷ []);
-        out = sets out 0 (requestsOut rows (called .out));
-      }
-  handingRequests rows (refusedAt number place) = refusingOut number place state out
-  handingRequests rows (counted expected got) = countingOut expected got state out
-
-  abbrev pub askingOf : LoadAnswer Load → HandedOut
-  askingOf (done load) = handingRequests (load .asked) (askAncestors (transcriptIn state) load)
-  askingOf (refusedAt number place) = refusingOut number place state out
-  askingOf (counted expected got) = countingOut expected got state out
-
-  -- 31, 1, 16, then by request the first of 14 and 15 met
-  unfoldable pub ancestorsIn : HandedOut
-  ancestorsIn =
-      cond (leb loadWords (length state) && leb requestsWords (length out)) (askingOf (lentLoad state)) (refusingOut 31 0 state out)
 
 -- ---- ancestors' answers
 

@@ -4,5 +4,3 @@ pub mod AnswerCallLaws
 pub mod LoadedLaws
 pub mod SliceFitLaws
 pub mod ResultLaws
-pub mod ReadableLaws
-pub mod RequestCallLaws

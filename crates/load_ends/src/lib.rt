@@ -1,8 +1,6 @@
-// The calls with which a load ends: ancestors, ancestors' answers and result.
-mod requests;
+// The calls with which a load ends: ancestors' answers and result.
 mod result;
 mod sets;
 
-pub use requests::load_ancestors;
 pub use result::load_result;
 pub use sets::load_ancestors_answer;

@@ -1,4 +1,3 @@
 pub mod Calls
-pub mod BatchLaws
 pub mod AnswerLaws
 pub mod LentAnswerLaws

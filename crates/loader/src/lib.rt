@@ -1,6 +1,4 @@
-// The calls of a load that go back and forth: batch and answer (docs/FORMS.md, 'Load state').
+// The call of a load that takes a batch's answers (docs/FORMS.md, 'Load state').
 mod answer;
-mod batch;
 
 pub use answer::load_answer;
-pub use batch::load_batch;

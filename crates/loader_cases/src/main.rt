@@ -143,8 +143,8 @@ fn call_sets(items: &[u8], short: u64, state: &mut [u64]) -> bool {
 // Makes the call that hands out what is asked for.
 fn handing(handed: Handed, state: &mut [u64], out: &mut [u64]) -> LoadReply {
     match handed {
-        Handed::Rows => loader::load_batch(state, out),
-        Handed::Requests => load_ends::load_ancestors(state, out),
+        Handed::Rows => load_batch::load_batch(state, out),
+        Handed::Requests => load_ancestors::load_ancestors(state, out),
         Handed::Slice => load_ends::load_result(state, out),
     }
 }

@@ -1,4 +1,4 @@
--- `loader::batch::write_batch` meets its contract: the rows up to a place are written.
+-- `load_batch::batch::write_batch` meets its contract: the rows up to a place are written.
 -- Assumes nothing.
 use Prim.Native.Nat.{_+_, _-_, _^_, _≤_, _<_}
 use native.Mathlib.Omega.{arith}
@@ -8,10 +8,10 @@ use borrow.Author.Needs.{needs}
 use lib.ListN.{length, take, getD, length-set}
 use lib.Seq.{sets, take-all}
 use Rattle.values.specs.ValueWords.{rowAsked, requestWord}
-use Rattle.loader.specs.Calls.{numbered}
-use Rattle.loader.specs.BatchLaws.{changed-next}
-use Rattle.loader.proofs.batch.write_batch.Statement.{statement}
-use Rattle.loader.proofs.batch.write_batch.Tie as tie
+use Rattle.load_batch.specs.Handing.{numbered}
+use Rattle.load_batch.specs.BatchLaws.{changed-next}
+use Rattle.load_batch.proofs.batch.write_batch.Statement.{statement}
+use Rattle.load_batch.proofs.batch.write_batch.Tie as tie
 
 abbrev Inv-loop : tie.InvT-loop
 Inv-loop rows first out₀ i₀ out i =

@@ -24,7 +24,7 @@ use Rattle.load_state.specs.TurnLaws.{turn-waits}
 use Rattle.load_state.specs.CameLaws.{came-waiting, came-rows, came-ahead}
 use Rattle.load_state.specs.Outcomes.{HandedAs}
 use Rattle.load_state.specs.declared.LoadReply.the-variants.{Done, Refused}
-use Rattle.loader.specs.Calls.{batchWords, numbered, handingBatch, batchIn}
+use Rattle.load_batch.specs.Handing.{batchWords, numbered, handingBatch, batchIn}
 
 -- one more word of a copy that is changed on the way
 pub changed-next :

@@ -1,9 +1,9 @@
--- `load_ends::requests::ask_ancestors` meets its contract: requests that are written are awaited, and a refusal changes nothing.
+-- `load_ancestors::requests::ask_ancestors` meets its contract: requests that are written are awaited, and a refusal changes nothing.
 -- Assumes nothing.
-use Rattle.load_ends.specs.RequestCallLaws.{ask-done, ask-refused}
+use Rattle.load_ancestors.specs.RequestCallLaws.{ask-done, ask-refused}
 use borrow.Author.Needs.{needs}
-use Rattle.load_ends.proofs.requests.ask_ancestors.Statement.{statement}
-use Rattle.load_ends.proofs.requests.ask_ancestors.Tie as tie
+use Rattle.load_ancestors.proofs.requests.ask_ancestors.Statement.{statement}
+use Rattle.load_ancestors.proofs.requests.ask_ancestors.Tie as tie
 
 write-requests-requires : tie.Need-write-requests-requires
 write-requests-requires c κs = search needs

@@ -1,4 +1,4 @@
--- `load_ends::requests::write_requests` meets its contract: the requests go by the state's parts and the slice that was written.
+-- `load_ancestors::requests::write_requests` meets its contract: the requests go by the state's parts and the slice that was written.
 -- Assumes nothing.
 use Prim.Native.Nat.{_+_, _-_, _≤_}
 use native.Mathlib.Nat.{add-sub-cancel-left}
@@ -9,11 +9,11 @@ use lib.Seq.{length-take-le}
 use Rattle.rules.specs.Loading.{Load}
 use Rattle.load_state.specs.Transcripts.{nodeWords}
 use Rattle.load_state.specs.WorkedLaws.{nodes-part, from-within, nodes-few}
 use Rattle.load_ends.specs.LoadedLaws.{read-same, read-parts, read-inside, rows-are}
-use Rattle.load_ends.specs.RequestCallLaws.{asking-room}
+use Rattle.load_ancestors.specs.RequestCallLaws.{asking-room}
 use borrow.Author.Needs.{needs}
-use Rattle.load_ends.proofs.requests.write_requests.Statement.{statement}
-use Rattle.load_ends.proofs.requests.write_requests.Tie as tie
+use Rattle.load_ancestors.proofs.requests.write_requests.Statement.{statement}
+use Rattle.load_ancestors.proofs.requests.write_requests.Tie as tie
 
 -- where the nodes begin, and that they are the entry's
 within : (c : tie.After-nodes-from) → let count = getD (c .before .before .before .before .before .before .before .before .before .before .before .before .before .before .before .before .args .state .now) 5 0 in (c .nodes-from .result ≤ 10) × (c .nodes-from .result ≤ 9 + count)

@@ -23,8 +23,9 @@ use Rattle.load_state.specs.Outcomes.{refusingOut, HandedAs}
 use Rattle.load_state.specs.WorkedLaws.{nodes-few}
 use Rattle.load_state.specs.TurnLaws.{asks-fits, done-same, lent-told}
 use Rattle.load_state.specs.declared.LoadReply.the-variants.{Done, Refused}
-use Rattle.load_ends.specs.Ends.{ReadTo, askingOf, ancestorsIn}
+use Rattle.load_ends.specs.Ends.{ReadTo}
+use Rattle.load_ancestors.specs.Asking.{askingOf, ancestorsIn}
 use Rattle.load_ends.specs.LoadedLaws.{read-parts, read-asked, read-rows, read-inside, rows-are}
 
 -- ---- the requests of a load
 

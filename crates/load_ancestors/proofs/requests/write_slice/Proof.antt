@@ -1,15 +1,15 @@
--- `load_ends::requests::write_slice` meets its contract: the slice is built without sets, and its words are read back.
+-- `load_ancestors::requests::write_slice` meets its contract: the slice is built without sets, and its words are read back.
 -- Assumes nothing.
 use native.Mathlib.Omega.{arith}
 use mathlib.Core.Path.{sym, ap, _∙_}
 use lib.Seq.{length-take-le}
 use Rattle.rules.specs.Loading.{Load}
 use Rattle.load_ends.specs.LoadedLaws.{read-same, read-few, read-inside}
 use Rattle.load_ends.specs.SliceFitLaws.{read-slice, asking-fit}
-use Rattle.load_ends.specs.ReadableLaws.{read-again}
+use Rattle.load_ancestors.specs.ReadableLaws.{read-again}
 use borrow.Author.Needs.{needs}
-use Rattle.load_ends.proofs.requests.write_slice.Statement.{statement}
-use Rattle.load_ends.proofs.requests.write_slice.Tie as tie
+use Rattle.load_ancestors.proofs.requests.write_slice.Statement.{statement}
+use Rattle.load_ancestors.proofs.requests.write_slice.Tie as tie
 
 sub-build-slice : tie.Need-sub-build-slice
 sub-build-slice c = search needs

@@ -6,7 +6,7 @@ ghost use lib.ListN.{length, getD};
 ghost use lib.Seq.{sets};
 ghost use Rattle.values.specs.ValueWords.{rowAsked, requestWord};
 ghost use Rattle.load_state.specs.Outcomes.{HandedAs};
-ghost use Rattle.loader.specs.Calls.{numbered, batchIn};
+ghost use Rattle.load_batch.specs.Handing.{numbered, batchIn};
 use load_state::LoadReply;
 use load_state::LoadState;
 use load_state::Worked;

@@ -1,4 +1,4 @@
--- `loader::batch::load_batch` meets its contract: each test that fails gives its refusal, and otherwise the rows that wait are written.
+-- `load_batch::batch::load_batch` meets its contract: each test that fails gives its refusal, and otherwise the rows that wait are written.
 -- Assumes nothing.
 use Prim.Native.Nat.{_-_, _≤_}
 use native.Mathlib.Omega.{arith}
@@ -16,9 +16,9 @@ use Rattle.load_state.specs.Transcripts.{nodeWords, lentLoad, CameTo}
 use Rattle.load_state.specs.WorkedLaws.{GoodParts, nodes-few}
 use Rattle.load_state.specs.TurnLaws.{lent-came, lent-unlawful, lent-told, told-parts}
 use Rattle.load_state.specs.CameLaws.{came-rows, came-ahead, came-few}
-use Rattle.loader.specs.BatchLaws.{waiting-small, batch-short, batch-unlawful, batch-late, batch-handed}
-use Rattle.loader.proofs.batch.load_batch.Statement.{statement}
-use Rattle.loader.proofs.batch.load_batch.Tie as tie
+use Rattle.load_batch.specs.BatchLaws.{waiting-small, batch-short, batch-unlawful, batch-late, batch-handed}
+use Rattle.load_batch.proofs.batch.load_batch.Statement.{statement}
+use Rattle.load_batch.proofs.batch.load_batch.Tie as tie
 
 -- both buffers are long enough
 long-state : (c : tie.Else1) → leb 36874 (length (c .before .before .before .args .state .now)) ≡ true

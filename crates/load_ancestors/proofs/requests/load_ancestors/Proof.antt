@@ -1,4 +1,4 @@
--- `load_ends::requests::load_ancestors` meets its contract: each test that fails gives its refusal, and the requests are handed out.
+-- `load_ancestors::requests::load_ancestors` meets its contract: each test that fails gives its refusal, and the requests are handed out.
 -- Assumes nothing.
 use native.Mathlib.Omega.{arith}
 use mathlib.Core.Path.{_≡_, refl}
@@ -9,12 +9,12 @@ use lib.ListN.{length, getD}
 use Rattle.load_state.specs.LoadStates.{answerWords}
 use Rattle.load_state.specs.Transcripts.{lentLoad}
 use Rattle.load_state.specs.TurnLaws.{lent-unlawful}
 use Rattle.load_ends.specs.Ends.{ReadTo}
 use Rattle.load_ends.specs.LoadedLaws.{lent-read}
-use Rattle.load_ends.specs.RequestCallLaws.{ask-short, ask-long, ask-early}
+use Rattle.load_ancestors.specs.RequestCallLaws.{ask-short, ask-long, ask-early}
 use borrow.Author.Needs.{needs}
-use Rattle.load_ends.proofs.requests.load_ancestors.Statement.{statement}
-use Rattle.load_ends.proofs.requests.load_ancestors.Tie as tie
+use Rattle.load_ancestors.proofs.requests.load_ancestors.Statement.{statement}
+use Rattle.load_ancestors.proofs.requests.load_ancestors.Tie as tie
 
 -- both buffers are long enough
 long : (c : tie.Else2) → let a = c .before .before .before .before .args in (leb 36874 (length (a .state .now)) && leb 528385 (length (a .out .now))) ≡ true
