@@ -98,7 +98,12 @@ pub extern "C" fn terbagyl_load_ancestors(
 ) -> u64
     ensures { λ r. ⌜ HandTold (ancestorsIn (now (state .entry)) (now (out .entry))) r (now (value .exit) ∷ now (first .exit) ∷ now (second .exit) ∷ []) (now (state .exit)) (now (out .exit)) ⌝ }
 {
-    tell_load(load_ancestors::load_ancestors(state, out), value, first, second)
+    tell_load(
+        load_ancestors::load_ancestors(state, out),
+        value,
+        first,
+        second,
+    )
 }
 
 // Takes the answered ancestors.
