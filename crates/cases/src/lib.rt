@@ -319,3 +319,26 @@ pub fn compare_rust(line: &[u8], n: usize, answer: &[u8]) {
     let length = decode_field(line, n, &mut want);
     say_rust(check::same(answer, &want[..length]));
 }
+
+// Whether a state has the rows of an expected one, and behind them the words that it had before.
+pub fn has_rows(state: &[u64], want: &[u64], before: &[u64]) -> bool {
+    if want.len() == 0 {
+        return false;
+    }
+    let count = want[0];
+    let mut i = 0;
+    while i < state.len() {
+        if want.len() <= i {
+            return false;
+        }
+        if before.len() <= i {
+            return false;
+        }
+        let word = if count < i as u64 { before[i] } else { want[i] };
+        if state[i] != word {
+            return false;
+        }
+        i += 1;
+    }
+    true
+}

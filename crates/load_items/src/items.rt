@@ -1,6 +1,7 @@
 // Items, which spaces part, and the words that they stand for.
 ghost use Prim.Native.Nat.{_≤_, _<_};
 ghost use lib.ListN.{length};
+use answers::Head;
 use rows::Row;
 use values::ValueRow;
 
@@ -17,21 +18,6 @@ fn digit(b: u8) -> u64
         b'E' => 5,
         _ => 0,
     }
-}
-
-// The place of the next byte of a kind, or the end.
-pub fn end_of(text: &[u8], from: usize, mark: u8) -> usize
-    requires { ⌜ from ≤ length (now text) ⌝ }
-    ensures { λ r. ⌜ (from ≤ r) × (r ≤ length (now (text .entry))) ⌝ }
-{
-    let mut i = from;
-    while i < text.len() {
-        if text[i] == mark {
-            return i;
-        }
-        i += 1;
-    }
-    i
 }
 
 // The number that a part from a place on writes, up to a dot or the end.
@@ -54,7 +40,7 @@ fn part(item: &[u8], n: usize) -> u64 {
     let mut at = 0;
     let mut k = 0;
     while k < n {
-        let end = end_of(item, at, b'.');
+        let end = pieces::scan(item, at, b'.');
         if end == item.len() {
             return 0;
         }
@@ -86,7 +72,12 @@ fn node_word(item: &[u8], is_marked: bool) -> u64 {
 fn head_word(item: &[u8]) -> u64 {
     let parents = part(item, 1) % 0x1_0000;
     let rows = part(item, 2) % 0x1_0000_0000;
-    1 + parents * 0x1_0000 + rows * 0x1_0000_0000
+    let head = Head {
+        flag: 1,
+        parents: parents as usize,
+        rows: rows as usize,
+    };
+    head.word()
 }
 
 // The row of a value.
@@ -147,7 +138,7 @@ pub fn read_words(text: &[u8], out: &mut [u64]) -> usize
     let mut at = 0;
     let mut to = 0;
     while at < text.len() {
-        let end = end_of(text, at, b' ');
+        let end = pieces::scan(text, at, b' ');
         to = put(out, to, &text[at..end]);
         at = end + 1;
     }

@@ -2,7 +2,6 @@
 mod items;
 mod shown;
 
-pub use crate::items::end_of;
 pub use crate::items::number_at;
 pub use crate::items::read_field;
 pub use crate::items::read_words;

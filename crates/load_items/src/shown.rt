@@ -19,21 +19,9 @@ pub fn print_pair(left: u64, sign: &[u8], right: u64) {
     io::print_decimal(STDOUT_FILENO, right);
 }
 
-// The letter of a value's kind.
-fn letter(kind: u64) -> u8 {
-    match kind {
-        0 => b'n',
-        1 => b'x',
-        2 => b'e',
-        3 => b's',
-        4 => b'r',
-        _ => b'?',
-    }
-}
-
 fn print_value_row(row: ValueRow) {
     print_pair(row.depth(), b".", row.key());
-    let kind = [b'.', letter(row.kind()), b'.'];
+    let kind = [b'.', row.letter(), b'.'];
     print(&kind);
     io::print_decimal(STDOUT_FILENO, row.number());
 }

@@ -75,24 +75,12 @@ pub fn write_headed(to: To, letter: u8, first: u64, numbers: &[u64]) -> u64 {
     write_bytes(to, &mut bytes, end)
 }
 
-// A tab and the letter of a value's kind.
-fn kind_bytes(kind: u64) -> [u8; 2] {
-    match kind {
-        0 => [b'\t', b'n'],
-        1 => [b'\t', b'x'],
-        2 => [b'\t', b'e'],
-        3 => [b'\t', b's'],
-        _ => [b'\t', b'r'],
-    }
-}
-
 // Writes a row of a value.
 pub fn write_value_row(to: To, row: ValueRow) -> u64 {
     let mut bytes = [0u8; LINE];
     let start = put_bytes(&mut bytes, 0, b"V");
     let key_end = put_numbers(&mut bytes, start, &[row.depth(), row.key()]);
-    let kind = kind_bytes(row.kind());
-    let kind_end = put_bytes(&mut bytes, key_end, &kind);
+    let kind_end = put_bytes(&mut bytes, key_end, &[b'\t', row.letter()]);
     let end = put_number(&mut bytes, kind_end, row.number());
     write_bytes(to, &mut bytes, end)
 }

@@ -3,7 +3,6 @@
 ghost use Prim.Native.Nat.{_≤_};
 use cases::print;
 use load_items::Handed;
-use load_items::end_of;
 use load_items::number_at;
 use load_items::print_number;
 use load_items::print_pair;
@@ -234,7 +233,7 @@ fn call_word(
     state: &mut [u64],
     requests: &mut [u64],
 ) -> bool {
-    let dash = end_of(word, 0, b'-');
+    let dash = pieces::scan(word, 0, b'-');
     let short = number_at(word, dash + 1);
     call(line, &word[..dash], short, items, state, requests)
 }
@@ -263,7 +262,7 @@ fn replay_field(
     state: &mut [u64; STATE],
     requests: &mut [u64; REQUESTS],
 ) {
-    let end = end_of(field, 0, b' ');
+    let end = pieces::scan(field, 0, b' ');
     print(b" ");
     print(&field[..end]);
     replay_call(line, &field[..end], &field[end..], state, requests);
@@ -289,7 +288,7 @@ fn replay(line: &[u8], requests: &mut [u64; REQUESTS]) {
     let calls = cases::nth(line, 4);
     let mut at = calls.start;
     while at < line.len() {
-        let end = end_of(line, at, b'\t');
+        let end = pieces::scan(line, at, b'\t');
         replay_field(line, &line[at..end], &mut state, requests);
         at = end + 1;
     }

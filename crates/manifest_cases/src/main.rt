@@ -214,29 +214,6 @@ fn fill(line: &[u8], state: &mut [u64]) {
     tell_unread(line, read_text(Kind::Manifest, line, state));
 }
 
-// Whether a state has the rows of an expected one, and behind them the words that it had before.
-fn has_rows(state: &[u64], want: &[u64], before: &[u64]) -> bool {
-    if want.len() == 0 {
-        return false;
-    }
-    let count = want[0];
-    let mut i = 0;
-    while i < state.len() {
-        if want.len() <= i {
-            return false;
-        }
-        if before.len() <= i {
-            return false;
-        }
-        let word = if count < i as u64 { before[i] } else { want[i] };
-        if state[i] != word {
-            return false;
-        }
-        i += 1;
-    }
-    true
-}
-
 fn say_held(is_held: bool, words: &[u8]) {
     if is_held {
         print(words);
@@ -269,11 +246,11 @@ fn ask_unite(line: &[u8], manifest: &[u64], other: &[u64], want: &[u64]) {
     words::copy_words(manifest, &mut state, 0);
     let reply = unite_lent(line, &mut state, other);
     match reply {
-        Reply::Done => say_held(has_rows(&state, want, manifest), b"as expected"),
+        Reply::Done => say_held(cases::has_rows(&state, want, manifest), b"as expected"),
         Reply::Refused(number, place) => {
             print_refused(number, place);
             print(b", ");
-            say_held(has_rows(&state, manifest, manifest), b"as it was");
+            say_held(cases::has_rows(&state, manifest, manifest), b"as it was");
         }
     }
 }

@@ -12,7 +12,7 @@ pub struct Piece {
 }
 
 // The place of the first byte `b` from `at` on, or the end.
-fn scan(s: &[u8], at: usize, b: u8) -> usize
+pub fn scan(s: &[u8], at: usize, b: u8) -> usize
     requires { ⌜ at ≤ length (now s) ⌝ }
     ensures { λ r. ⌜ (at ≤ r) × (r ≤ length (now (s .entry))) ⌝ }
 {

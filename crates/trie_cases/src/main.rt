@@ -109,35 +109,14 @@ fn push_row(line: &[u8], state: &mut [u64]) {
     push_fan(state, depth, cases::number(line, 3), cases::number(line, 4));
 }
 
-// Whether two states hold the same rows.
-fn same_rows(a: &[u64], b: &[u64]) -> bool {
-    if a.len() == 0 {
-        return false;
-    }
-    let count = a[0];
-    let mut i = 0;
-    while i < a.len() {
-        if count < i as u64 {
-            return true;
-        }
-        if b.len() <= i {
-            return false;
-        }
-        if a[i] != b[i] {
-            return false;
-        }
-        i += 1;
-    }
-    true
-}
-
 // The union of the two states, held against the expected one.
 fn ask_union(line: &[u8], a: &[u64], b: &[u64], want: &[u64]) {
+    let before = [0u64; WORDS];
     let mut out = [0u64; WORDS];
     let reply = union::union(kind_of(line), a, b, &mut out);
     match reply {
         Reply::Done => {
-            if same_rows(&out, want) {
+            if cases::has_rows(&out, want, &before) {
                 print(b"as expected");
             } else {
                 print(b"OTHER ROWS");
@@ -149,10 +128,11 @@ fn ask_union(line: &[u8], a: &[u64], b: &[u64], want: &[u64]) {
 
 // The union of the two states, held against the published Rust's.
 fn ask_rust(line: &[u8], a: &[u64], b: &[u64], want: &[u64]) {
+    let before = [0u64; WORDS];
     let mut out = [0u64; WORDS];
     let reply = union::union(kind_of(line), a, b, &mut out);
     match reply {
-        Reply::Done => cases::say_rust(same_rows(&out, want)),
+        Reply::Done => cases::say_rust(cases::has_rows(&out, want, &before)),
         Reply::Refused(number, place) => {
             print_refused(number, place);
             print(b", ");

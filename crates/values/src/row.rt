@@ -46,6 +46,19 @@ impl ValueRow {
         self.word % 0x1_0000
     }
 
+    // The letter of the kind in a text; `?` for a kind that no value has.
+    pub fn letter(self) -> u8 {
+        let kind = self.kind();
+        match kind {
+            0 => b'n',
+            1 => b'x',
+            2 => b'e',
+            3 => b's',
+            4 => b'r',
+            _ => b'?',
+        }
+    }
+
     // The row of its parts.
     pub fn of(depth: u64, key: u64, kind: u64, number: u64) -> ValueRow
         requires { ⌜ (depth < 2 ^ 28) × (key < 2 ^ 16) × (kind < 8) × (number < 2 ^ 16) ⌝ }

@@ -5,8 +5,8 @@ use borrow.Author.Needs.{needs}
 use Rattle.loader_cases.proofs.call_word.Statement.{statement}
 use Rattle.loader_cases.proofs.call_word.Tie as tie
 
-end-of-requires : tie.Need-end-of-requires
-end-of-requires c κs = search needs
+scan-requires : tie.Need-scan-requires
+scan-requires c κs = search needs
 
 add-number-at : tie.Need-add-number-at
 add-number-at c = search needs
@@ -33,7 +33,7 @@ pub call-word-spec : {M : Type 1} → statement M
 call-word-spec =
     tie.close
     (tie.spec
-    end-of-requires
+    scan-requires
     add-number-at
     number-at-requires
     slice-aggregate-call

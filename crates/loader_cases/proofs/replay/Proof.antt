@@ -26,8 +26,8 @@ nth-requires c κs = search needs
 loop-holds : tie.Need-loop-holds Inv-loop μ-loop
 loop-holds c = search needs
 
-end-of-requires : tie.Need-end-of-requires Inv-loop μ-loop
-end-of-requires c κs = search needs
+scan-requires : tie.Need-scan-requires Inv-loop μ-loop
+scan-requires c κs = search needs
 
 sub-replay-field : tie.Need-sub-replay-field Inv-loop μ-loop
 sub-replay-field c = search needs
@@ -70,7 +70,7 @@ replay-spec =
     print-name-requires
     nth-requires
     loop-holds
-    end-of-requires
+    scan-requires
     sub-replay-field
     part-replay-field-start
     part-replay-field-end

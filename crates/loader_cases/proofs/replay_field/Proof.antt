@@ -5,8 +5,8 @@ use borrow.Author.Needs.{needs}
 use Rattle.loader_cases.proofs.replay_field.Statement.{statement}
 use Rattle.loader_cases.proofs.replay_field.Tie as tie
 
-end-of-requires : tie.Need-end-of-requires
-end-of-requires c κs = search needs
+scan-requires : tie.Need-scan-requires
+scan-requires c κs = search needs
 
 slice-aggregate-print : tie.Need-slice-aggregate-print
 slice-aggregate-print c = search needs
@@ -48,7 +48,7 @@ pub replay-field-spec : {M : Type 1} → statement M
 replay-field-spec =
     tie.close
     (tie.spec
-    end-of-requires
+    scan-requires
     slice-aggregate-print
     print-requires
     slice-aggregate-print-2

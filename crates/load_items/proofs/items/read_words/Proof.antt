@@ -15,8 +15,8 @@ abbrev μ-loop : tie.MeasureT-loop
 loop-holds : tie.Need-loop-holds Inv-loop μ-loop
 loop-holds c = search needs
 
-end-of-requires : tie.Need-end-of-requires Inv-loop μ-loop
-end-of-requires c κs = search needs
+scan-requires : tie.Need-scan-requires Inv-loop μ-loop
+scan-requires c κs = search needs
 
 sub-put : tie.Need-sub-put Inv-loop μ-loop
 sub-put c = search needs
@@ -52,7 +52,7 @@ read-words-spec =
     Inv-loop
     μ-loop
     loop-holds
-    end-of-requires
+    scan-requires
     sub-put
     part-put-start
     part-put-end

@@ -1,15 +1,15 @@
--- `trie_cases::same_rows` is safe: the place stays within the first state, and is held against the length of the second.
+-- `cases::has_rows` is safe: the place stays within the state, and is held against the lengths of the other two.
 use Prim.Native.Nat.{_≤_, _-_}
 use borrow.Author.Needs.{needs}
 use lib.ListN.{length}
-use Rattle.trie_cases.proofs.same_rows.Statement.{statement}
-use Rattle.trie_cases.proofs.same_rows.Tie as tie
+use Rattle.cases.proofs.has_rows.Statement.{statement}
+use Rattle.cases.proofs.has_rows.Tie as tie
 
 abbrev Inv-loop : tie.InvT-loop
-Inv-loop a b count i₀ i = i ≤ length a
+Inv-loop state want before count i₀ i = i ≤ length state
 
 abbrev μ-loop : tie.MeasureT-loop
-μ-loop a b count i₀ i = length a - i
+μ-loop state want before count i₀ i = length state - i
 
 returns : tie.Need-returns Inv-loop μ-loop
 returns c = search needs
@@ -26,17 +26,23 @@ returns-2 c = search needs
 returns-3 : tie.Need-returns-3 Inv-loop μ-loop
 returns-3 c = search needs
 
-mul-if4 : tie.Need-mul-if4 Inv-loop μ-loop
-mul-if4 c = search needs
+mul-word : tie.Need-mul-word Inv-loop μ-loop
+mul-word c = search needs
 
-shared-slice-read-if4 : tie.Need-shared-slice-read-if4 Inv-loop μ-loop
-shared-slice-read-if4 c = search needs
+shared-slice-read-word : tie.Need-shared-slice-read-word Inv-loop μ-loop
+shared-slice-read-word c = search needs
 
-mul-if4-2 : tie.Need-mul-if4-2 Inv-loop μ-loop
-mul-if4-2 c = search needs
+mul-word-2 : tie.Need-mul-word-2 Inv-loop μ-loop
+mul-word-2 c = search needs
 
-shared-slice-read-if4-2 : tie.Need-shared-slice-read-if4-2 Inv-loop μ-loop
-shared-slice-read-if4-2 c = search needs
+shared-slice-read-word-2 : tie.Need-shared-slice-read-word-2 Inv-loop μ-loop
+shared-slice-read-word-2 c = search needs
+
+mul-if5 : tie.Need-mul-if5 Inv-loop μ-loop
+mul-if5 c = search needs
+
+shared-slice-read-if5 : tie.Need-shared-slice-read-if5 Inv-loop μ-loop
+shared-slice-read-if5 c = search needs
 
 returns-4 : tie.Need-returns-4 Inv-loop μ-loop
 returns-4 c = search needs
@@ -53,8 +59,8 @@ loop-again c = search needs
 returns-5 : tie.Need-returns-5 Inv-loop μ-loop
 returns-5 c = search needs
 
-pub same-rows-spec : {M : Type 1} → statement M
-same-rows-spec =
+pub has-rows-spec : {M : Type 1} → statement M
+has-rows-spec =
     tie.close
     (tie.spec
     Inv-loop
@@ -64,10 +70,12 @@ same-rows-spec =
     loop-holds
     returns-2
     returns-3
-    mul-if4
-    shared-slice-read-if4
-    mul-if4-2
-    shared-slice-read-if4-2
+    mul-word
+    shared-slice-read-word
+    mul-word-2
+    shared-slice-read-word-2
+    mul-if5
+    shared-slice-read-if5
     returns-4
     add-i
     loop-less
