@@ -36,14 +36,14 @@ fine-all (refused number place) e = absurd (let z : _≡_ {A = ℕ} 0 1 = cc in 
 
 module _ {A : Type 0} (one : List ℕ → Option (ReadItem A)) where
   -- the first and the others, where all are of their form
-  pub record Split (place count : ℕ) (words : List ℕ) (all : ReadItem (List A)) : Type 0 where
+  pub record ReadSplit (place count : ℕ) (words : List ℕ) (all : ReadItem (List A)) : Type 0 where
     pub next : ReadItem A
     pub stands : one words ≡ some next
     pub rest : ReadItem (List A)
     pub fine : readFrom one (place + 1) count (drop (next .size) words) ≡ accepted rest
     pub whole : withFirst next rest ≡ all
 
-  pub split : (place count : ℕ) (words : List ℕ) {all : ReadItem (List A)} → readFrom one place (suc count) words ≡ accepted all → Split place count words all
+  pub split : (place count : ℕ) (words : List ℕ) {all : ReadItem (List A)} → readFrom one place (suc count) words ≡ accepted all → ReadSplit place count words all
   split place count words e =
       by-option (one words)
       (λ wrong. absurd (let w = reads-wrong one place count words wrong in let z : _≡_ {A = ℕ} 0 1 = cc in omega arith))
@@ -226,7 +226,7 @@ module _ (lent : Lending) (m : ℕ) (more : List ℕ) where
       onward parts (all-joined (place + 1) count (drop (parts .next .size) words) (parts .fine))
     where
       onward :
-          {all : ReadItem (List (ItemOf lent))} (parts : Split (itemAt lent) place count words all)
+          {all : ReadItem (List (ItemOf lent))} (parts : ReadSplit (itemAt lent) place count words all)
           → lentFrom lent (place + 1) (count + m) (take (parts .rest .size) (drop (parts .next .size) words) ++ more)
           ≡ andThen (lentFrom lent (place + 1 + count) m more) (λ rest. accepted (joined (parts .rest) rest))
           → lentFrom lent place (suc count + m) (take (all .size) words ++ more)

@@ -25,10 +25,10 @@ use Rattle.answers.specs.declared.Lending.the-variants.{Answers}
 use Rattle.merging.specs.Merges.{MergedInto, mergedEntityRows}
 use Rattle.merging.specs.MergeEntityLaws.{entityOf, merged-written, merged-apart}
 use Rattle.merging.specs.declared.Merged.the-variants.{To, Different}
-use Rattle.batches.specs.Hearings.{heardAt, Standing, AllStand, agree, agreesIfAsked, mergesWith}
+use Rattle.batches.specs.Hearings.{heardAt, AnswerStands, AllStand, agree, agreesIfAsked, mergesWith}
 
 -- an answer begins with a head
-pub standing-within : (words : List ℕ) (at : ℕ) → Standing words at → at < length words
+pub standing-within : (words : List ℕ) (at : ℕ) → AnswerStands words at → at < length words
 standing-within words at (read, e) =
     compared at (length words) (λ less. less)
     (λ not-less.
@@ -37,7 +37,7 @@ standing-within words at (read, e) =
     absurd (omega arith))
 
 -- where the head is 0 the entity is absent
-pub standing-absent : (words : List ℕ) (at : ℕ) → Standing words at → getD words at 0 ≡ 0 → heardAt words at ≡ none
+pub standing-absent : (words : List ℕ) (at : ℕ) → AnswerStands words at → getD words at 0 ≡ 0 → heardAt words at ≡ none
 standing-absent words at s e = rw (drop-cons words at 0 (standing-within words at s), eq-eqb (getD words at 0) 0 e)
 
 -- otherwise its parents and its attributes' rows stand behind the head
@@ -49,7 +49,7 @@ pub record Present (words : List ℕ) (at : ℕ) (head : Head) : Type 0 where
       heardAt words at
       ≡ some (entityOf (take (head .parents) (drop (at + 1) words)) (take (head .rows) (drop (at + 1 + head .parents) words)))
 
-pub standing-present : (words : List ℕ) (at : ℕ) → Standing words at → (getD words at 0 ≡ 0 → ⊥) → Present words at (headIn (getD words at 0))
+pub standing-present : (words : List ℕ) (at : ℕ) → AnswerStands words at → (getD words at 0 ≡ 0 → ⊥) → Present words at (headIn (getD words at 0))
 standing-present words at (read, e) other =
     let less = standing-within words at (read, e) in
     let head = headIn (getD words at 0) in
@@ -139,24 +139,24 @@ merges-more e row rows (some w) answers (some v) =
     (λ t. test-other e v row rows answers w t ∙ rw t)
 
 -- each of some places has an answer
-pub all-stand : (words places : List ℕ) (i : ℕ) → AllStand words places → i < length places → Standing words (getD places i 0)
+pub all-stand : (words places : List ℕ) (i : ℕ) → AllStand words places → i < length places → AnswerStands words (getD places i 0)
 unfolding AllStand
 all-stand words [] i h less = absurd (omega arith)
 all-stand words (at ∷ places) zero h less = h .0
 all-stand words (at ∷ places) (suc i) h less = all-stand words places i (h .1) (omega arith)
 
 -- What a loop over the rows keeps: those that were passed merge.
-pub record Merged (words rows places : List ℕ) (e : ℕ) (v : Option Entity) (i : ℕ) : Type 0 where
+pub record MergedSofar (words rows places : List ℕ) (e : ℕ) (v : Option Entity) (i : ℕ) : Type 0 where
   pub within : i ≤ length rows
   pub left :
       mergesWith (answersTo e (map rowAsked rows) (map (heardAt words) places)) v
       ≡ mergesWith (answersTo e (map rowAsked (drop i rows)) (map (heardAt words) (drop i places))) v
 
 module _ (words rows places : List ℕ) (e : ℕ) (v : Option Entity) where
-  pub merged-none : Merged words rows places e v 0
+  pub merged-none : MergedSofar words rows places e v 0
   merged-none = record { within = omega arith; left = refl }
 
-  module _ (i : ℕ) (h : Merged words rows places e v i) (same : length rows ≡ length places) where
+  module _ (i : ℕ) (h : MergedSofar words rows places e v i) (same : length rows ≡ length places) where
     next-row :
         i < length rows
         → mergesWith (answersTo e (map rowAsked rows) (map (heardAt words) places)) v
@@ -173,7 +173,7 @@ module _ (words rows places : List ℕ) (e : ℕ) (v : Option Entity) where
     pub merged-more :
         i < length rows
         → agreesIfAsked e (rowAsked (getD rows i 0)) (heardAt words (getD places i 0)) v ≡ true
-        → Merged words rows places e v (i + 1)
+        → MergedSofar words rows places e v (i + 1)
     merged-more less t = record { within = omega arith; left = next-row less ∙ rw t }
 
     pub merged-not :

@@ -34,12 +34,12 @@ abbrev pub heardIn : List ℕ → List ℕ → ℕ → ℕ → List (Option Enti
 heardIn words places from to = map (heardAt words) (take (to - from) (drop from places))
 
 -- an answer stands there
-abbrev pub Standing : List ℕ → ℕ → Type 0
-Standing words at = (read : ReadItem (Option Entity)) × (answerAt (drop at words) ≡ some read)
+abbrev pub AnswerStands : List ℕ → ℕ → Type 0
+AnswerStands words at = (read : ReadItem (Option Entity)) × (answerAt (drop at words) ≡ some read)
 
 unfoldable pub AllStand : List ℕ → List ℕ → Type 0
 AllStand words [] = Unit
-AllStand words (at ∷ places) = Standing words at × AllStand words places
+AllStand words (at ∷ places) = AnswerStands words at × AllStand words places
 
 -- whether two answers merge; an absent one does with any
 abbrev pub agree : Option Entity → Option Entity → Bool

@@ -46,7 +46,7 @@ use Rattle.words.specs.RunLaws.{wrote-length}
 use Rattle.row_walk.specs.BatchLaws.{take-sets}
 use Rattle.row_walk.specs.SmallLaws.{SmallRows, remaining-small, batch-small, rows-again}
 use Rattle.merging.specs.MergeEntityLaws.{entityOf}
-use Rattle.batches.specs.Hearings.{heardAt, askedBefore, heardBefore, askedIn, heardIn, Standing, AllStand, mergesWith}
+use Rattle.batches.specs.Hearings.{heardAt, askedBefore, heardBefore, askedIn, heardIn, AnswerStands, AllStand, mergesWith}
 use Rattle.batches.specs.HearingLaws.{standing-absent, standing-present}
 use Rattle.batches.specs.Takes.{TakenInto, LoadAt}
 use Rattle.batches.specs.TakeWordLaws.{taken-present}
@@ -221,7 +221,7 @@ module _ (nodes : List Row) where
 taken-small :
     (nodes : List Row) (asked : List EntityRequest) (before : List (Option Entity)) (place : ℕ) (row : EntityRequest)
     (words : List ℕ) (at : ℕ) (found : List EntityRequest)
-    → Standing words at
+    → AnswerStands words at
     → takenBy nodes asked before place row (heardAt words at) ≡ done found
     → SmallRows found
 unfolding SmallRows

@@ -26,14 +26,14 @@ use Rattle.answers.specs.AnswerLaws.{set-ids}
 use Rattle.words.specs.Runs.{Wrote}
 use Rattle.words.specs.RunLaws.{wrote-length, wrote-more}
 use Rattle.row_walk.specs.BatchLaws.{take-sets}
-use Rattle.batches.specs.Hearings.{heardAt, askedBefore, heardBefore, askedIn, heardIn, Standing, AllStand}
+use Rattle.batches.specs.Hearings.{heardAt, askedBefore, heardBefore, askedIn, heardIn, AnswerStands, AllStand}
 use Rattle.batches.specs.HearingLaws.{standing-absent, standing-present, all-stand}
 use Rattle.batches.specs.Takes.{StaysBefore, TakenInto, LoadAt}
 use Rattle.batches.specs.declared.taking.Taken.the-variants.{To, Refused}
 
 -- Answers that stand are good.
 
-pub standing-good : (words : List ℕ) (at : ℕ) → Standing words at → Every GoodEntity (heardAt words at)
+pub standing-good : (words : List ℕ) (at : ℕ) → AnswerStands words at → Every GoodEntity (heardAt words at)
 standing-good words at s =
     by-test (eqb (getD words at 0) 0)
     (λ t. rw (standing-absent words at s (eqb-true (getD words at 0) 0 t)) tt)
@@ -71,7 +71,7 @@ pub stand-at :
     → i < to
     → to ≤ length places
     → AllStand words (take to places)
-    → AllStand words (take i places) × Standing words (getD places i 0)
+    → AllStand words (take i places) × AnswerStands words (getD places i 0)
 stand-at words places i to less inside h = (
   stand-split words (take i places) (take (to - i) (drop i places)) (rw (front-split places i to (omega arith)) at h) .0,
   rw (getD-take to places i 0 less) at (all-stand words (take to places) i h (omega (arith, length-take-le to places inside))),

@@ -5,7 +5,7 @@ ghost use Prim.Native.Nat.{_+_, _≤_};
 ghost use lib.ListN.{length};
 ghost use Rattle.rules.specs.SliceLaws.{answersTo};
 ghost use Rattle.values.specs.ValueWords.{rowAsked};
-ghost use Rattle.batches.specs.Hearings.{heardAt, Standing, AllStand, agree as agreeOf, agreesIfAsked, mergesWith};
+ghost use Rattle.batches.specs.Hearings.{heardAt, AnswerStands, AllStand, agree as agreeOf, agreesIfAsked, mergesWith};
 use answers::Head;
 use merging::Merged;
 use merging::merge_entities;
@@ -13,7 +13,7 @@ use values::EntityRequest;
 
 // Whether the answers at two places merge; an absent one does with any. What is merged goes into scratch.
 fn agree(words: &[u64], left: usize, right: usize, scratch: &mut [u64]) -> bool
-    requires { ⌜ Standing (now words) left × Standing (now words) right
+    requires { ⌜ AnswerStands (now words) left × AnswerStands (now words) right
         × (length (now words) + length (now words) ≤ length (now scratch)) ⌝ }
     ensures { λ r. ⌜ r ≡ agreeOf (heardAt (now (words .entry)) left) (heardAt (now (words .entry)) right) ⌝ }
 {
@@ -55,7 +55,7 @@ fn agrees_if_asked(
     at: usize,
     scratch: &mut [u64],
 ) -> bool
-    requires { ⌜ Standing (now words) place × Standing (now words) at × (length (now words) + length (now words) ≤ length (now scratch)) ⌝ }
+    requires { ⌜ AnswerStands (now words) place × AnswerStands (now words) at × (length (now words) + length (now words) ≤ length (now scratch)) ⌝ }
     ensures { λ r. ⌜ r ≡ agreesIfAsked id (rowAsked row) (heardAt (now (words .entry)) place) (heardAt (now (words .entry)) at) ⌝ }
 {
     if EntityRequest::of(row).id == id {
@@ -73,7 +73,7 @@ pub fn merges_with_earlier(
     at: usize,
     scratch: &mut [u64],
 ) -> bool
-    requires { ⌜ (length (now rows) ≡ length (now places)) × (AllStand (now words) (now places) × Standing (now words) at) ⌝ }
+    requires { ⌜ (length (now rows) ≡ length (now places)) × (AllStand (now words) (now places) × AnswerStands (now words) at) ⌝ }
     requires { ⌜ length (now words) + length (now words) ≤ length (now scratch) ⌝ }
     ensures { λ r. ⌜ r
         ≡ mergesWith (answersTo id (map rowAsked (now (rows .entry))) (map (heardAt (now (words .entry))) (now (places .entry))))

@@ -6,7 +6,7 @@ ghost use Rattle.rules.specs.Loading.{Load};
 ghost use Rattle.rules.specs.TakeLaws.{takenBy, allTakenBy};
 ghost use Rattle.rows.specs.States.{rowsOf};
 ghost use Rattle.values.specs.ValueWords.{rowAsked};
-ghost use Rattle.batches.specs.Hearings.{heardAt, askedBefore, heardBefore, askedIn, heardIn, Standing, AllStand};
+ghost use Rattle.batches.specs.Hearings.{heardAt, askedBefore, heardBefore, askedIn, heardIn, AnswerStands, AllStand};
 ghost use Rattle.batches.specs.Takes.{TakenInto, LoadAt};
 use crate::merges::merges_with_earlier;
 use answers::Head;
@@ -34,7 +34,7 @@ fn take_answer(
 ) -> Taken
     requires { ⌜ (i < end) × ((i < length (now places)) × (end + length (now nodes) ≤ length (now rows))) ⌝ }
     requires { ⌜ (length (now nodes) ≤ 4096) × (length (now words) + length (now words) ≤ length (now scratch)) ⌝ }
-    requires { ⌜ AllStand (now words) (take i (now places)) × Standing (now words) (getD (now places) i 0) ⌝ }
+    requires { ⌜ AllStand (now words) (take i (now places)) × AnswerStands (now words) (getD (now places) i 0) ⌝ }
     ensures { λ r. ⌜ TakenInto
         (takenBy (rowsOf (now (nodes .entry))) (askedBefore (now (rows .entry)) i)
         (heardBefore (now (words .entry)) (now (places .entry)) i) place

@@ -75,8 +75,8 @@ abbrev pub analysesIn : List ℕ → List StepJob → List Reply
 analysesIn schema jobs = map (λ job. analysedBy schema job .reply) jobs
 
 -- one of some jobs is for this request type and step text
-abbrev pub Asked : ℕ → List ℕ → List StepJob → Type 0
-Asked request steps jobs = (out : List ℕ) × Member (record { request = request; steps = steps; out = out }) jobs
+abbrev pub StepsAsked : ℕ → List ℕ → List StepJob → Type 0
+StepsAsked request steps jobs = (out : List ℕ) × Member (record { request = request; steps = steps; out = out }) jobs
 
 -- the buffer of each has room for a contribution
 unfoldable pub AllRoomy : List StepJob → Type 0

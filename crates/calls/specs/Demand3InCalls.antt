@@ -34,7 +34,7 @@ use Rattle.schema.specs.Items.{lawfulSchema, itemsIn}
 use Rattle.schema_text.specs.Outcomes.{readSchemaIn}
 use Rattle.manifest.specs.Outcomes.{emptyIn}
 use Rattle.analysis.specs.Outcomes.{analyseIn}
-use Rattle.calls.specs.Calls.{AllDone, builtIn, buildReplies, policiesIn, policyReplies, writtenBy, replyOf, AllLent, StepJob, Asked, AllRoomy, contributionsIn, analysesIn}
+use Rattle.calls.specs.Calls.{AllDone, builtIn, buildReplies, policiesIn, policyReplies, writtenBy, replyOf, AllLent, StepJob, StepsAsked, AllRoomy, contributionsIn, analysesIn}
 use Rattle.calls.specs.BuildsInLaws.{reply-done, emptied, lent-contributions, built-lent, kth-answers, done-exactly, lent-written, bytes-back}
 use Rattle.calls.specs.SchemaReadLaws.{schema-read, items-good}
 use Rattle.calls.specs.HandedLaws.{listing-read, steps-analysed, listing-done}
@@ -109,7 +109,7 @@ pub order-free-analysed :
     (schema m m′ : List ℕ) (jobs others : List StepJob)
     → 4161 ≤ length m
     → 4161 ≤ length m′
-    → ((request : ℕ) (steps : List ℕ) → Asked request steps jobs ↔ Asked request steps others)
+    → ((request : ℕ) (steps : List ℕ) → StepsAsked request steps jobs ↔ StepsAsked request steps others)
     → AllRoomy others
     → AllDone (analysesIn schema jobs)
     → AllDone (buildReplies m (contributionsIn schema jobs))

@@ -14,7 +14,7 @@ use Rattle.rows.specs.States.{rowsIn}
 use Rattle.schema.specs.Items.{itemsIn}
 use Rattle.manifest.specs.UniteLaws.{same-reply}
 use Rattle.analysis.specs.Outcomes.{analyseIn}
-use Rattle.calls.specs.Calls.{AllDone, StepJob, Asked, AllRoomy, analysedBy, contributionsIn, analysesIn, AllLent}
+use Rattle.calls.specs.Calls.{AllDone, StepJob, StepsAsked, AllRoomy, analysedBy, contributionsIn, analysesIn, AllLent}
 use Rattle.calls.specs.HandedLaws.{done-tested, tested-stores, steps-analysed}
 
 -- an analysis that is Done is Done in any buffer that is long enough
@@ -84,7 +84,7 @@ module _ (schema : List ℕ) where
 
   module _
       (jobs others : List StepJob)
-      (same : (request : ℕ) (steps : List ℕ) → Asked request steps jobs ↔ Asked request steps others)
+      (same : (request : ℕ) (steps : List ℕ) → StepsAsked request steps jobs ↔ StepsAsked request steps others)
       (roomy : AllRoomy others)
       (done : AllDone (analysesIn schema jobs)) where
     -- the same jobs in other buffers that are long enough are all Done

@@ -28,7 +28,7 @@ use Rattle.wrapped_paths.specs.Code.{pathAt, namePlace, namesIn}
 use Rattle.path_tries.specs.NodeLaws.{path-steps}
 use Rattle.type_table.specs.TypeTableLaws.{items-at}
 use Rattle.path_tries.specs.Nodes.{belowWord, allBelow, IsState, Became, leafOf}
-use Rattle.type_table.specs.Tables.{typeRows, typeDepth as sizeDepth, typeNodes as sizeNodes, Sized, Tabled}
+use Rattle.type_table.specs.Tables.{typeRows, typeDepth as sizeDepth, typeNodes as sizeNodes, TypeMeasured, Tabled}
 use Rattle.full_types.specs.Pairs.{takenAt, AllPairs, anyTakenDeep, AllTakenPaths}
 
 -- Pairs of a path and a type.
@@ -265,10 +265,10 @@ pairs-too-many words trie path t state many = record {
     over = omega (arith, whole, union-right-length (rowsIn trie) (toRootAccessTrieWithLeaf path (typeToAccessTrie (itemsOf words) t)))
 
 -- by its size
-pub too-many-sized : {words : List ℕ} {t w : ℕ} → Sized words t w → 1024 < sizeNodes w → 1024 < length (typeRows words t)
+pub too-many-sized : {words : List ℕ} {t w : ℕ} → TypeMeasured words t w → 1024 < sizeNodes w → 1024 < length (typeRows words t)
 too-many-sized {words} {t} sized h = omega (arith, sized .nodes, capped-min 1025 (length (typeRows words t)))
 
-pub few-sized : {words : List ℕ} {t w most : ℕ} → Sized words t w → most ≤ 1024 → sizeNodes w ≤ most → length (typeRows words t) ≤ most
+pub few-sized : {words : List ℕ} {t w most : ℕ} → TypeMeasured words t w → most ≤ 1024 → sizeNodes w ≤ most → length (typeRows words t) ≤ most
 few-sized {words} {t} sized few h = omega (arith, sized .nodes, capped-min 1025 (length (typeRows words t)))
 
 module _

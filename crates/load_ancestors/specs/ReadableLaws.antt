@@ -20,7 +20,7 @@ use Rattle.rules.specs.SliceLaws.{answersTo, SliceOf}
 use Rattle.words.specs.RunLaws.{taken-back}
 use Rattle.values.specs.ValueWords.{valueRowsOf}
 use Rattle.merging.specs.MergeEntityLaws.{lawful-words}
-use Rattle.batches.specs.Hearings.{heardAt, Standing, AllStand}
+use Rattle.batches.specs.Hearings.{heardAt, AnswerStands, AllStand}
 use Rattle.batches.specs.HearingLaws.{standing-absent, standing-present}
 use Rattle.slices.specs.Slices.{rowsAsked, rowWords, sliceWords, SliceFit, FitsHead, WroteSlice}
 use Rattle.slices.specs.CallLaws.{no-ancestors, each-loaded, built-stands}
@@ -37,7 +37,7 @@ abbrev Proper : Entity → Type 0
 Proper e = ProperFields 0 (e .attributes)
 
 -- those of answers that stand are
-standing-proper : (words : List ℕ) (at : ℕ) → Standing words at → Every Proper (heardAt words at)
+standing-proper : (words : List ℕ) (at : ℕ) → AnswerStands words at → Every Proper (heardAt words at)
 standing-proper words at s =
     by-test (eqb (getD words at 0) 0)
     (λ t. rw (standing-absent words at s (eqb-true (getD words at 0) 0 t)) tt)

@@ -19,10 +19,10 @@ use Rattle.load_begin.specs.declared.entry.FoundEntry.{FoundEntry}
 use Rattle.load_begin.specs.declared.entry.FoundEntry.the-variants.{Found, Missing}
 
 -- the first words are nodes, so many
-abbrev pub Ahead : List ℕ → ℕ → Type 0
-Ahead words i = (j : ℕ) → j < i → depthIn (getD words j 0) ≡ 0 → ⊥
+abbrev pub EntryAhead : List ℕ → ℕ → Type 0
+EntryAhead words i = (j : ℕ) → j < i → depthIn (getD words j 0) ≡ 0 → ⊥
 
-tail-ahead : (w : ℕ) (words : List ℕ) (i : ℕ) → Ahead (w ∷ words) (suc i) → Ahead words i
+tail-ahead : (w : ℕ) (words : List ℕ) (i : ℕ) → EntryAhead (w ∷ words) (suc i) → EntryAhead words i
 tail-ahead w words i h j less = h (suc j) (omega arith)
 
 -- a node in front of others
@@ -33,7 +33,7 @@ front rows row n e = rw (ne-eqb (row .depth) 0 n) (ap (λ rest. row ∷ rest) e)
 -- they are those in front of an entry, or all
 pub ahead-of :
     (words : List ℕ) (i : ℕ)
-    → Ahead words i
+    → EntryAhead words i
     → i < length words
     → depthIn (getD words i 0) ≡ 0
     → nodesAhead (rowsOf words) ≡ rowsOf (take i words)
@@ -43,7 +43,7 @@ ahead-of (w ∷ words) zero h less e = rw (eq-eqb (depthIn w) 0 e)
 ahead-of (w ∷ words) (suc i) h less e =
     front (rowsOf words) (rowIn w) (h 0 (omega arith)) (ahead-of words i (tail-ahead w words i h) (omega arith) e)
 
-pub ahead-all : (words : List ℕ) → Ahead words (length words) → nodesAhead (rowsOf words) ≡ rowsOf words
+pub ahead-all : (words : List ℕ) → EntryAhead words (length words) → nodesAhead (rowsOf words) ≡ rowsOf words
 unfolding nodesAhead
 ahead-all [] h = refl
 ahead-all (w ∷ words) h = front (rowsOf words) (rowIn w) (h 0 (omega arith)) (ahead-all words (tail-ahead w words (length words) h))

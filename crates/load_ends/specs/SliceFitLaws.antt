@@ -17,7 +17,7 @@ use Rattle.rules.specs.LoadCalls.{isSummed}
 use Rattle.rules.specs.SliceLaws.{SliceOf}
 use Rattle.answers.specs.Answers.{lentItems, StandsAt, PlacedAt}
 use Rattle.answers.specs.declared.Lending.the-variants.{Answers, Sets}
-use Rattle.batches.specs.Hearings.{heardAt, heardBefore, Standing}
+use Rattle.batches.specs.Hearings.{heardAt, heardBefore, AnswerStands}
 use Rattle.batches.specs.HearingLaws.{all-stand}
 use Rattle.slices.specs.Slices.{rowsAsked, answersIn, Heard, setsIn, answerSize, total, SliceFit}
 use Rattle.slices.specs.CallLaws.{answers-heard, answers-are, sets-heard, sets-are, answers-total, summed-total}
@@ -35,7 +35,7 @@ map-at f [] k d less = absurd (omega arith)
 map-at f (x ∷ l) zero d less = refl
 map-at f (x ∷ l) (suc k) d less = map-at f l k d (omega arith)
 
-standing-is : (words : List ℕ) (at : ℕ) → Standing words at → StandsAt Answers words at (heardAt words at)
+standing-is : (words : List ℕ) (at : ℕ) → AnswerStands words at → StandsAt Answers words at (heardAt words at)
 standing-is words at (item, e) = (item .size, rw e)
 
 module _ {state rows places : List ℕ} {asked batches sum : ℕ} (read : ReadTo state rows places asked batches sum) (room : 4096 ≤ length places) where

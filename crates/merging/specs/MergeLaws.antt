@@ -21,7 +21,7 @@ use Rattle.words.specs.Runs.{Wrote}
 use Rattle.words.specs.RunLaws.{wrote-ended, wrote-length}
 use Rattle.values.specs.ValueWords.{depthFrom, keyFrom, kindFrom, numberFrom, valueRowIn, valueRowsOf, valueWord}
 use Rattle.values.specs.ValueWordLaws.{word-again}
-use Rattle.merging.specs.Merges.{insideIn, sideFor, Chosen, aloneTurn, restOf, Takes, Turned, MergedInto, mergedEntityRows}
+use Rattle.merging.specs.Merges.{insideIn, sideFor, Chosen, aloneTurn, restOf, RowsTaken, MergeTurned, MergedInto, mergedEntityRows}
 use Rattle.merging.specs.declared.Turn.the-variants.{Taken, Apart}
 use Rattle.merging.specs.declared.Side.the-variants.{Left, Right, Both}
 use Rattle.merging.specs.declared.Merged.the-variants.{To, Different}
@@ -124,7 +124,7 @@ module _ (left right : List ℕ) (i j inside : ℕ) (in-left : i ≤ length left
       → j′ ≤ length right
       → i + j < i′ + j′
       → restOf left right i j inside ≡ aloneRow (insideIn inside) (valueRowIn word) (restOf left right i′ j′ 0)
-      → Turned left right i j inside (aloneTurn word i′ j′ (insideAt (insideIn inside) (valueRowIn word)))
+      → MergeTurned left right i j inside (aloneTurn word i′ j′ (insideAt (insideIn inside) (valueRowIn word)))
   turned-alone word i′ j′ in-left′ in-right′ more turn =
       by-option (insideAt (insideIn inside) (valueRowIn word))
       (λ e.
@@ -138,12 +138,12 @@ module _ (left right : List ℕ) (i j inside : ℕ) (in-left : i ≤ length left
       (λ s e. rw e (turn ∙ alone-none (insideIn inside) (valueRowIn word) (restOf left right i′ j′ 0) s e))
 
   -- the left run, and the right run
-  pub turned-left : Chosen left right i j Left → Turned left right i j inside (aloneTurn (getD left i 0) (i + 1) j (insideAt (insideIn inside) (valueRowIn (getD left i 0))))
+  pub turned-left : Chosen left right i j Left → MergeTurned left right i j inside (aloneTurn (getD left i 0) (i + 1) j (insideAt (insideIn inside) (valueRowIn (getD left i 0))))
   turned-left (h, comes) =
       turned-alone (getD left i 0) (i + 1) j (omega arith) in-right (omega arith)
       (rw (rest-rows left i h) (turn-left (insideIn inside) (valueRowIn (getD left i 0)) (valueRowsOf (drop (i + 1) left)) (valueRowsOf (drop j right)) comes))
 
-  pub turned-right : Chosen left right i j Right → Turned left right i j inside (aloneTurn (getD right j 0) i (j + 1) (insideAt (insideIn inside) (valueRowIn (getD right j 0))))
+  pub turned-right : Chosen left right i j Right → MergeTurned left right i j inside (aloneTurn (getD right j 0) i (j + 1) (insideAt (insideIn inside) (valueRowIn (getD right j 0))))
   turned-right (h, comes) =
       turned-alone (getD right j 0) i (j + 1) in-left (omega arith) (omega arith)
       (rw (rest-rows right j h) (turn-right (insideIn inside) (valueRowIn (getD right j 0)) (valueRowsOf (drop i left)) (valueRowsOf (drop (j + 1) right)) comes))
@@ -164,7 +164,7 @@ module _ (left right : List ℕ) (i j inside : ℕ) (in-left : i ≤ length left
       → Chosen left right i j Both
       → getD left i 0 ≡ getD right j 0
       → insideIn inside′ ≡ insideAfter (insideIn inside) (valueRowIn (getD left i 0))
-      → Takes left right i j inside (getD left i 0) (i + 1) (j + 1) inside′
+      → RowsTaken left right i j inside (getD left i 0) (i + 1) (j + 1) inside′
   turned-both inside′ chosen e after = record {
     rows = both-turn chosen ∙ rw (same-agree (getD left i 0) (getD right j 0) e, after);
     in-left = omega (arith, chosen .0);
@@ -180,7 +180,7 @@ module _ (left right : List ℕ) (i j inside : ℕ) (in-left : i ≤ length left
 -- ---- the pass under way
 
 -- words are written, i and j rows are passed, and what the pass gives for the rows that are left follows them
-pub record Passing (left right out : List ℕ) (to : ℕ) (out′ : List ℕ) (i j inside at : ℕ) : Type 0 where
+pub record MergePassed (left right out : List ℕ) (to : ℕ) (out′ : List ℕ) (i j inside at : ℕ) : Type 0 where
   pub in-left : i ≤ length left
   pub in-right : j ≤ length right
   pub words : List ℕ
@@ -190,7 +190,7 @@ pub record Passing (left right out : List ℕ) (to : ℕ) (out′ : List ℕ) (i
   pub wrote : Wrote out to words out′ at
   pub few : length words ≤ i + j
 
-pub passing-begun : (left right out : List ℕ) (to : ℕ) → Passing left right out to out 0 0 0 to
+pub passing-begun : (left right out : List ℕ) (to : ℕ) → MergePassed left right out to out 0 0 0 to
 passing-begun left right out to = record {
   in-left = omega arith;
   in-right = omega arith;
@@ -210,9 +210,9 @@ front-kept : (n : ℕ) (l : List ℕ) (i : ℕ) (xs : List ℕ) → n ≤ i → 
 front-kept n l i [] h = refl
 front-kept n l i (x ∷ xs) h = front-kept n (set l i x) (suc i) xs (omega arith) ∙ take-set-le n l i x h
 
-module _ {left right out out′ : List ℕ} {to i j inside at : ℕ} (passing : Passing left right out to out′ i j inside at) where
+module _ {left right out out′ : List ℕ} {to i j inside at : ℕ} (passing : MergePassed left right out to out′ i j inside at) where
   -- a turn writes its row
-  pub passing-more : {word i′ j′ inside′ : ℕ} → Takes left right i j inside word i′ j′ inside′ → Passing left right out to (set out′ at word) i′ j′ inside′ (at + 1)
+  pub passing-more : {word i′ j′ inside′ : ℕ} → RowsTaken left right i j inside word i′ j′ inside′ → MergePassed left right out to (set out′ at word) i′ j′ inside′ (at + 1)
   passing-more {word} {i′} {j′} {inside′} takes = record {
     in-left = takes .in-left;
     in-right = takes .in-right;

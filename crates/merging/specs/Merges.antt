@@ -68,12 +68,12 @@ abbrev pub restOf : List ℕ → List ℕ → ℕ → ℕ → ℕ → Option (Li
 restOf left right i j inside = mergeRows (insideIn inside) (valueRowsOf (drop i left)) (valueRowsOf (drop j right))
 
 -- A turn takes a row: it is in front of what the pass gives for the rows that are left then.
-pub record Takes (left right : List ℕ) (i j inside word i′ j′ inside′ : ℕ) : Type 0 where
+pub record RowsTaken (left right : List ℕ) (i j inside word i′ j′ inside′ : ℕ) : Type 0 where
   pub rows : restOf left right i j inside ≡ ontoRows (valueRowIn word) (restOf left right i′ j′ inside′)
   pub in-left : i′ ≤ length left
   pub in-right : j′ ≤ length right
   pub more : i + j < i′ + j′
 
-abbrev pub Turned : List ℕ → List ℕ → ℕ → ℕ → ℕ → Turn → Type 0
-Turned left right i j inside (Taken word i′ j′ inside′) = Takes left right i j inside word i′ j′ inside′
-Turned left right i j inside Apart = restOf left right i j inside ≡ none
+abbrev pub MergeTurned : List ℕ → List ℕ → ℕ → ℕ → ℕ → Turn → Type 0
+MergeTurned left right i j inside (Taken word i′ j′ inside′) = RowsTaken left right i j inside word i′ j′ inside′
+MergeTurned left right i j inside Apart = restOf left right i j inside ≡ none

@@ -6,7 +6,7 @@ ghost use lib.ListN.{length};
 ghost use Rattle.rules.specs.Tries.{next, sameList};
 ghost use Rattle.rules.specs.ValueRows.{placedRow, insideAt, insideAfter, mergeRows};
 ghost use Rattle.values.specs.ValueWords.{valueRowIn, valueRowsOf};
-ghost use Rattle.merging.specs.Merges.{insideIn, sideFor, Chosen, aloneTurn, Turned, MergedInto, mergedEntityRows};
+ghost use Rattle.merging.specs.Merges.{insideIn, sideFor, Chosen, aloneTurn, MergeTurned, MergedInto, mergedEntityRows};
 use values::ValueRow;
 
 // What a merge comes to: the place after the merged rows, or that the two differ (13).
@@ -129,7 +129,7 @@ fn take_alone(word: u64, left: usize, right: usize, inside: u64) -> Turn
 // A turn: the next row of either run, or of both where they have the same.
 fn next_turn(left: &[u64], right: &[u64], i: usize, j: usize, inside: u64) -> Turn
     requires { ⌜ (i ≤ length (now left)) × (j ≤ length (now right)) × (i + j < length (now left) + length (now right)) ⌝ }
-    ensures { λ r. ⌜ Turned (now (left .entry)) (now (right .entry)) i j inside r ⌝ }
+    ensures { λ r. ⌜ MergeTurned (now (left .entry)) (now (right .entry)) i j inside r ⌝ }
 {
     match next_side(left, right, i, j) {
         Side::Left => take_alone(left[i], i + 1, j, inside),

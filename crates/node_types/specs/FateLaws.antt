@@ -19,7 +19,7 @@ use Rattle.rows.specs.States.{rowsOf}
 use Rattle.schema.specs.Items.{itemsOf}
 use Rattle.type_table.specs.Tables.{valueNamed}
 use Rattle.type_table.specs.NamedLaws.{named-attribute}
-use Rattle.node_types.specs.Named.{between, Placed}
+use Rattle.node_types.specs.Named.{between, PlacesFound}
 use Rattle.node_types.specs.Shapes.{AttributesAt, ShapeAt, FateGiven}
 use Rattle.node_types.specs.declared.fate.Fate.the-variants.{Stays}
 use Rattle.node_types.specs.declared.places.Places.{Places}
@@ -61,7 +61,7 @@ module _ (items : List Item) (request step : ℕ) where
   root-resource e = rw e
 
 -- a literal and an action are found among the schema's lines
-module _ {words : List ℕ} {places : Places} (placed : Placed words places) (request step key : ℕ) {number : ℕ} where
+module _ {words : List ℕ} {places : Places} (placed : PlacesFound words places) (request step key : ℕ) {number : ℕ} where
   module _ (given : number ≡ numberFor (valueNamed (between words (places .literals) (places .actions)) key)) where
     literal : number ≡ numberFor (typeNamed literalLine key (itemsOf words))
     literal = given ∙ ap numberFor (placed .literals-named key)

@@ -33,7 +33,7 @@ abbrev pub EntityTable : List ℕ → List ℕ → Type 0
 EntityTable words entities = (name : ℕ) → EntityFound words entities name (searched entities name)
 
 -- the literals stand from one place to another, and from there on the actions
-pub record Placed (words : List ℕ) (places : Places) : Type 0 where
+pub record PlacesFound (words : List ℕ) (places : Places) : Type 0 where
   pub in-order : places .literals ≤ places .actions
   pub inside : places .actions ≤ length words
   pub literals-named :

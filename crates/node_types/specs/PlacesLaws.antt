@@ -15,7 +15,7 @@ use Rattle.words.specs.declared.Search.{Search}
 use Rattle.words.specs.declared.Search.the-variants.{Found, Missing}
 use Rattle.type_table.specs.TypeTableLaws.{good-all, good-lawful}
 use Rattle.node_types.specs.declared.places.Places.{Places}
-use Rattle.node_types.specs.Named.{entityPlace, EntityFound, EntityTable, Placed}
+use Rattle.node_types.specs.Named.{entityPlace, EntityFound, EntityTable, PlacesFound}
 use Rattle.node_types.specs.NamedLaws.{
   Border,
   before-literals,
@@ -59,7 +59,7 @@ pub placed :
     → goodItems words ≡ true
     → places .literals ≡ upTo attributeLine words
     → places .actions ≡ upTo literalLine words
-    → Placed words places
+    → PlacesFound words places
 placed words places good literals actions = record {
   in-order = omega (arith, up-order attributeLine literalLine words (omega arith));
   inside = omega (arith, up-inside literalLine words);

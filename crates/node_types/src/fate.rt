@@ -7,7 +7,7 @@ ghost use Rattle.rows.specs.Words.{typeFrom, numberFor, rowIn};
 ghost use Rattle.rows.specs.States.{rowsOf};
 ghost use Rattle.schema.specs.Items.{itemsOf};
 ghost use Rattle.type_table.specs.Tables.{GoodTypes};
-ghost use Rattle.node_types.specs.Named.{EntityTable, Placed};
+ghost use Rattle.node_types.specs.Named.{EntityTable, PlacesFound};
 ghost use Rattle.node_types.specs.Shapes.{FateGiven};
 use crate::places::Places;
 use crate::shape::OF_PRINCIPAL;
@@ -27,7 +27,7 @@ pub enum Fate {
 
 // The type of a root, as a row has it; 0 where the schema lacks the literal or the action.
 fn root_type(words: &[u64], places: Places, request: u64, step: u64) -> u64
-    requires { ⌜ Placed (now words) places ⌝ }
+    requires { ⌜ PlacesFound (now words) places ⌝ }
     ensures { λ r. ⌜ r ≡ numberFor (rootType (itemsOf (now (words .entry))) request step) ⌝ }
 {
     let action = RequestType::of(request).action;
@@ -121,7 +121,7 @@ pub fn fate_at(
     i: usize,
 ) -> Fate
     requires { ⌜ GoodTypes (now words) (now table) types × EntityTable (now words) (now entities) ⌝ }
-    requires { ⌜ Placed (now words) places × (i < length (now rows)) ⌝ }
+    requires { ⌜ PlacesFound (now words) places × (i < length (now rows)) ⌝ }
     ensures { λ r. ⌜ FateGiven (fate (itemsOf (now (words .entry))) request (typeFrom above) (rowIn (getD (now (rows .entry)) i 0)) (rowsOf (drop (i + 1) (now (rows .entry))))) r ⌝ }
 {
     if above == 0 {

@@ -4,7 +4,7 @@ ghost use mathlib.Core.Bool.{true};
 ghost use Prim.Native.Nat.{_≤_, _<_};
 ghost use lib.ListN.{length, take};
 ghost use Rattle.schema.specs.Items.{goodItems};
-ghost use Rattle.node_types.specs.Named.{EntityTable, Placed};
+ghost use Rattle.node_types.specs.Named.{EntityTable, PlacesFound};
 use schema::Item;
 
 // How many entity types a schema has, and the places of its first literal and its first action.
@@ -21,7 +21,7 @@ impl Places {
     // Finds them in one pass. `entities` gets a keyed word for each entity type: its name, and the place of its line.
     pub fn of(words: &[u64], entities: &mut [u64]) -> Places
         requires { ⌜ (goodItems (now words) ≡ true) × ((length (now words) < 142337) × (length (now entities) ≡ 1024)) ⌝ }
-        ensures { λ r. ⌜ Placed (now (words .entry)) r ⌝ }
+        ensures { λ r. ⌜ PlacesFound (now (words .entry)) r ⌝ }
         ensures { λ r. ⌜ (r .entities ≤ 1024) × EntityTable (now (words .entry)) (take (r .entities) (now (entities .exit))) ⌝ }
     {
         let mut count = 0;

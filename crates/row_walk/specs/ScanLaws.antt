@@ -56,31 +56,31 @@ module _ (test : ℕ → Bool) (depth : ℕ) (row : Row) (rows : List Row) where
 -- ---- the elements of a set
 
 -- whether the ids of rows are held is what the test says
-abbrev pub Held : Bool → ℕ → List ValueRow → Type 0
-Held held depth rows = idsAt depth rows ≡ idsIfHeld held depth rows
+abbrev pub IdsHeld : Bool → ℕ → List ValueRow → Type 0
+IdsHeld held depth rows = idsAt depth rows ≡ idsIfHeld held depth rows
 
-pub held-end : (depth : ℕ) → Held true depth []
+pub held-end : (depth : ℕ) → IdsHeld true depth []
 unfolding idsAt ancestorsAt
 held-end depth = refl
 
 module _ (depth : ℕ) (x : ValueRow) (rows : List ValueRow) where
   -- a row above the elements ends them
-  pub held-above : x .depth < depth → Held true depth (x ∷ rows)
+  pub held-above : x .depth < depth → IdsHeld true depth (x ∷ rows)
   unfolding ancestorsAt
   held-above h = ids-above depth x rows h ∙ rw lt-ltb
 
   -- an element that is no entity id
-  pub held-other : x .depth ≡ depth → (x .kind ≡ 2 → ⊥) → Held false depth (x ∷ rows)
+  pub held-other : x .depth ≡ depth → (x .kind ≡ 2 → ⊥) → IdsHeld false depth (x ∷ rows)
   held-other e k = ids-other depth x rows e k
 
-  module _ (held : Bool) (behind : Held held depth rows) where
+  module _ (held : Bool) (behind : IdsHeld held depth rows) where
     -- a row inside an element
-    pub held-deeper : depth < x .depth → Held held depth (x ∷ rows)
+    pub held-deeper : depth < x .depth → IdsHeld held depth (x ∷ rows)
     unfolding ancestorsAt
     held-deeper h = ids-deeper depth x rows h ∙ rw (behind, le-ltb (x .depth) depth (omega arith), ne-eqb (x .depth) depth (λ z. omega arith))
 
     -- an element that is one
-    pub held-entity : x .depth ≡ depth → x .kind ≡ 2 → Held held depth (x ∷ rows)
+    pub held-entity : x .depth ≡ depth → x .kind ≡ 2 → IdsHeld held depth (x ∷ rows)
     unfolding ancestorsAt
     held-entity e k = ids-entity depth x rows e k ∙ rw (behind, le-ltb (x .depth) depth (omega arith), eq-eqb (x .depth) depth e) (go held)
       where

@@ -24,7 +24,7 @@ use Rattle.store_text.specs.Entities.{All, IsId, RowKept, EntityKept}
 use Rattle.store_text.specs.Runs.{runOf}
 use Rattle.store_text.specs.RunLaws.{all-map, EntityAt, entity-at}
 use Rattle.store_text.specs.OrderLaws.{Parts}
-use Rattle.store_text.specs.Answering.{entityOf, answerHead, answerOf, isOneOf, amongOf, setWords, idIn, EntityHere, EntityStands, FoundEntity}
+use Rattle.store_text.specs.Answering.{entityOf, answerHead, answerOf, isOneOf, amongOf, setWords, idIn, EntityHere, EntityFoundAt, FoundEntity}
 use Rattle.store_text.specs.declared.answering.Found.the-variants.{At, Absent}
 
 -- ---- where an entity stands
@@ -79,7 +79,7 @@ module _ (id : ℕ) (small : IsId id) where
       rw other (place-skip (suc k) (linesBehind e) (storeWords es) (above-ids e kept) ∙ rw next)
 
   place-stands : (k at : ℕ) (es : List EntityRead) → All EntityKept es → placeFrom k id (storeWords es) ≡ some at →
-      (k ≤ at) × EntityStands (storeWords es) id (at - k) es
+      (k ≤ at) × EntityFoundAt (storeWords es) id (at - k) es
   unfolding placeFrom storeWords All entityOf
   place-stands k at [] all e = absurd (Option·none-ne-some at e)
   place-stands k at (e ∷ es) (kept, all) found =
@@ -173,7 +173,7 @@ among-skip u us (id ∷ asked) (here, ids) =
     rw (ne-eqb u id (λ same. omega arith), among-skip u us asked (ids-from (suc id) (suc u) asked (omega arith) ids))
 
 -- i of the ids are judged, by the ancestors from j on
-pub record Merging (us asked out₀ : List ℕ) (to : ℕ) (out : List ℕ) (next i j : ℕ) : Type 0 where
+pub record AmongMerged (us asked out₀ : List ℕ) (to : ℕ) (out : List ℕ) (next i j : ℕ) : Type 0 where
   pub done : List ℕ
   pub wrote : Wrote out₀ to done out next
   pub few : length done ≤ i
@@ -183,7 +183,7 @@ pub record Merging (us asked out₀ : List ℕ) (to : ℕ) (out : List ℕ) (nex
   pub ups : IdsFrom 0 (drop j us)
   pub total : amongOf us asked ≡ done ++ amongOf (drop j us) (drop i asked)
 
-pub merging-none : (us asked out : List ℕ) (to : ℕ) → IdsFrom 0 us → IdsFrom 0 asked → Merging us asked out to out to 0 0
+pub merging-none : (us asked out : List ℕ) (to : ℕ) → IdsFrom 0 us → IdsFrom 0 asked → AmongMerged us asked out to out to 0 0
 merging-none us asked out to ups asks = record {
   done = [];
   wrote = record { after = omega arith; text = refl };
@@ -195,7 +195,7 @@ merging-none us asked out to ups asks = record {
   total = refl;
 }
 
-module _ {us asked out₀ : List ℕ} {to : ℕ} {out : List ℕ} {next i j : ℕ} (merging : Merging us asked out₀ to out next i j) where
+module _ {us asked out₀ : List ℕ} {to : ℕ} {out : List ℕ} {next i j : ℕ} (merging : AmongMerged us asked out₀ to out next i j) where
   -- no id is left, or no ancestor
   all-done : amongOf (drop j us) (drop i asked) ≡ [] → Wrote out₀ to (amongOf us asked) out next
   all-done e = rw (merging .total, e, append-nil (merging .done)) (merging .wrote)
@@ -229,7 +229,7 @@ module _ {us asked out₀ : List ℕ} {to : ℕ} {out : List ℕ} {next i j : �
     ups-here = rw ups-left at (merging .ups)
 
     -- an ancestor below the next id
-    pub merging-below : getD us j 0 < getD asked i 0 → Merging us asked out₀ to out next i (j + 1)
+    pub merging-below : getD us j 0 < getD asked i 0 → AmongMerged us asked out₀ to out next i (j + 1)
     unfolding ask there IdsFrom
     merging-below h = record {
       done = merging .done;
@@ -245,7 +245,7 @@ module _ {us asked out₀ : List ℕ} {to : ℕ} {out : List ℕ} {next i j : �
     }
 
     -- the next id is that ancestor, or is none
-    pub merging-same : getD us j 0 ≡ getD asked i 0 → Merging us asked out₀ to (set out next (getD asked i 0)) (next + 1) (i + 1) j
+    pub merging-same : getD us j 0 ≡ getD asked i 0 → AmongMerged us asked out₀ to (set out next (getD asked i 0)) (next + 1) (i + 1) j
     unfolding ask there IdsFrom amongOf isOneOf
     merging-same same = record {
       done = merging .done ++ (ask ∷ []);
@@ -260,7 +260,7 @@ module _ {us asked out₀ : List ℕ} {to : ℕ} {out : List ℕ} {next i j : �
           ∙ rw (asks-left, ups-left, eq-eqb there ask same) (sym (append-assoc (merging .done) (ask ∷ []) (amongOf (there ∷ drop (j + 1) us) (drop (i + 1) asked))));
     }
 
-    pub merging-above : getD asked i 0 < getD us j 0 → Merging us asked out₀ to out next (i + 1) j
+    pub merging-above : getD asked i 0 < getD us j 0 → AmongMerged us asked out₀ to out next (i + 1) j
     unfolding ask there IdsFrom amongOf isOneOf
     merging-above h = record {
       done = merging .done;

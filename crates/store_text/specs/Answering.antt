@@ -11,7 +11,7 @@ use Rattle.rules.specs.ValueTexts.{EntityRead}
 use Rattle.words.specs.Runs.{Wrote}
 use Rattle.values.specs.ValueWords.{valueWord}
 use Rattle.store_text.specs.Words.{storeWords}
-use Rattle.store_text.specs.Entities.{All, EntityKept, Holds}
+use Rattle.store_text.specs.Entities.{All, EntityKept, HoldsEntities}
 use Rattle.store_text.specs.declared.answering.Found.{Found}
 use Rattle.store_text.specs.declared.answering.Found.the-variants.{At, Absent}
 use Rattle.store_text.specs.declared.answering.Put.{Put}
@@ -64,31 +64,31 @@ pub record EntityHere (words : List ℕ) (at : ℕ) (e : EntityRead) (more : Lis
   pub later : All EntityKept more
 
 -- so does the entity of an id
-pub record EntityStands (words : List ℕ) (id at : ℕ) (es : List EntityRead) : Type 0 where
+pub record EntityFoundAt (words : List ℕ) (id at : ℕ) (es : List EntityRead) : Type 0 where
   pub e : EntityRead
   pub more : List EntityRead
   pub found : entityOf id es ≡ some e
   pub here : EntityHere words at e more
 
-abbrev pub FoundIn : List ℕ → ℕ → List EntityRead → Found → Type 0
-FoundIn words id es (At at) = EntityStands words id at es
-FoundIn words id es Absent = entityOf id es ≡ none
+abbrev pub EntitySought : List ℕ → ℕ → List EntityRead → Found → Type 0
+EntitySought words id es (At at) = EntityFoundAt words id at es
+EntitySought words id es Absent = entityOf id es ≡ none
 
 -- where the entity of an id stands, whatever entities the words are those of
 pub record FoundEntity (words : List ℕ) (id : ℕ) (r : Found) : Type 0 where
   pub inside : (at : ℕ) → r ≡ At at → at < length words
-  pub there : (es : List EntityRead) → Holds words es → FoundIn words id es r
+  pub there : (es : List EntityRead) → HoldsEntities words es → EntitySought words id es r
 
 -- words are written from a place on, or there is no room for them
 abbrev pub PutIn : List ℕ → List ℕ → ℕ → List ℕ → Put → Type 0
 PutIn xs out to out′ (To next) = Wrote out to xs out′ next
 PutIn xs out to out′ Full = (length out < to + length xs) × (out′ ≡ out)
 
-abbrev pub WroteEntity : List ℕ → ℕ → List ℕ → ℕ → List ℕ → Put → Type 0
-WroteEntity words at out to out′ r = (e : EntityRead) (more : List EntityRead) → EntityHere words at e more → PutIn (answerOf (some e)) out to out′ r
+abbrev pub EntityAnswered : List ℕ → ℕ → List ℕ → ℕ → List ℕ → Put → Type 0
+EntityAnswered words at out to out′ r = (e : EntityRead) (more : List EntityRead) → EntityHere words at e more → PutIn (answerOf (some e)) out to out′ r
 
 abbrev pub AnsweredRow : List ℕ → ℕ → List ℕ → ℕ → List ℕ → Put → Type 0
-AnsweredRow words id out to out′ r = (es : List EntityRead) → Holds words es → PutIn (answerOf (entityOf id es)) out to out′ r
+AnsweredRow words id out to out′ r = (es : List EntityRead) → HoldsEntities words es → PutIn (answerOf (entityOf id es)) out to out′ r
 
 -- of a set it is enough to be refused that not all ids asked for have room
 abbrev pub SetPut : List ℕ → List ℕ → List ℕ → ℕ → List ℕ → Put → Type 0
@@ -97,4 +97,4 @@ SetPut ancestors asked out to out′ Full = (length out ≤ to + length asked) �
 
 abbrev pub AnsweredAncestors : List ℕ → ℕ → List ℕ → List ℕ → ℕ → List ℕ → Put → Type 0
 AnsweredAncestors words id asked out to out′ r =
-    (es : List EntityRead) → Holds words es → IdsFrom 0 asked → SetPut (ancestorsOf (entityOf id es)) asked out to out′ r
+    (es : List EntityRead) → HoldsEntities words es → IdsFrom 0 asked → SetPut (ancestorsOf (entityOf id es)) asked out to out′ r

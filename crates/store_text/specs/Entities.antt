@@ -35,14 +35,14 @@ pub record EntityKept (e : EntityRead) : Type 0 where
   pub came : Came (e .value)
 
 -- words are those of some entities
-pub record Holds (words : List ℕ) (es : List EntityRead) : Type 0 where
+pub record HoldsEntities (words : List ℕ) (es : List EntityRead) : Type 0 where
   pub same : words ≡ storeWords es
   pub kept : All EntityKept es
 
 abbrev pub Entities : List ℕ → Type 0
-Entities words = (es : List EntityRead) × Holds words es
+Entities words = (es : List EntityRead) × HoldsEntities words es
 
 -- the place of the first element that is not above the one before it, or the count of words
 pub record OrderFound (words : List ℕ) (n : ℕ) : Type 0 where
   pub within : n ≤ length words
-  pub least : (es : List EntityRead) → Holds words es → leastOf (unorderedIn 0 es) ≡ cond (ltb n (length words)) (some n) none
+  pub least : (es : List EntityRead) → HoldsEntities words es → leastOf (unorderedIn 0 es) ≡ cond (ltb n (length words)) (some n) none

@@ -18,7 +18,7 @@ use Rattle.value_text.specs.Rows.{Misplaced}
 use Rattle.value_text.specs.LineLaws.{row-again}
 use Rattle.value_text.specs.RowLaws.{lesser-assoc}
 use Rattle.store_text.specs.Words.{parentWord, ancestorWord, storeWords}
-use Rattle.store_text.specs.Entities.{All, RowKept, EntityKept, Holds, OrderFound}
+use Rattle.store_text.specs.Entities.{All, RowKept, EntityKept, HoldsEntities, OrderFound}
 use Rattle.store_text.specs.Runs.{runOf}
 use Rattle.store_text.specs.RunLaws.{EntityAt, entity-at}
 
@@ -91,17 +91,17 @@ first-least n p (some m) h k = rw (lt-ltb n m (omega arith))
 -- ---- entity after entity
 
 -- the entities up to a place have no element out of order
-pub record Passing (words : List ℕ) (es : List EntityRead) (i : ℕ) : Type 0 where
+pub record EntitiesPassed (words : List ℕ) (es : List EntityRead) (i : ℕ) : Type 0 where
   pub rest : List EntityRead
   pub left : drop i words ≡ storeWords rest
   pub kept : All EntityKept rest
   pub least : leastOf (unorderedIn 0 es) ≡ leastOf (unorderedIn i rest)
 
-pub passing-none : (words : List ℕ) (es : List EntityRead) → Holds words es → Passing words es 0
+pub passing-none : (words : List ℕ) (es : List EntityRead) → HoldsEntities words es → EntitiesPassed words es 0
 passing-none words es holds = record { rest = es; left = holds .same; kept = holds .kept; least = refl }
 
 -- no word is left
-pub passing-all : (words : List ℕ) (i : ℕ) → i ≤ length words → length words ≤ i → ((es : List EntityRead) → Holds words es → Passing words es i) →
+pub passing-all : (words : List ℕ) (i : ℕ) → i ≤ length words → length words ≤ i → ((es : List EntityRead) → HoldsEntities words es → EntitiesPassed words es i) →
     OrderFound words i
 unfolding storeWords unorderedIn leastOf
 passing-all words i inside all passing = record {
@@ -130,7 +130,7 @@ record Next (words : List ℕ) (i parentsEnd start end : ℕ) (es : List EntityR
   least : leastOf (unorderedIn 0 es) ≡ leastOf (unorderedIn i (e ∷ others))
 
 module _ {words : List ℕ} {i parentsEnd start end : ℕ} (parts : Parts words i parentsEnd start end) where
-  next-entity : {es : List EntityRead} → Passing words es i → Next words i parentsEnd start end es
+  next-entity : {es : List EntityRead} → EntitiesPassed words es i → Next words i parentsEnd start end es
   unfolding storeWords All
   next-entity {es} passing = go (passing .rest) (passing .left) (passing .kept) (passing .least)
     where
@@ -147,13 +147,13 @@ module _ {words : List ℕ} {i parentsEnd start end : ℕ} (parts : Parts words 
       }
 
   -- its rows may pass
-  pub next-pass : {es : List EntityRead} → Passing words es i → mayPass fieldLevel (valueRowsOf (take (end - start) (drop start words))) ≡ true
+  pub next-pass : {es : List EntityRead} → EntitiesPassed words es i → mayPass fieldLevel (valueRowsOf (take (end - start) (drop start words))) ≡ true
   next-pass passing =
       let next = next-entity passing in
       rw (next .there .rows .run, rows-again (next .e .value .rows) (next .kept .rows)) (next .kept .came .0)
 
   module _ {n : ℕ} (found : Misplaced (take (end - start) (drop start words)) n) where
-    least-next : {es : List EntityRead} (passing : Passing words es i) →
+    least-next : {es : List EntityRead} (passing : EntitiesPassed words es i) →
         let next = next-entity passing in
         (leastOf (unorderedIn 0 es) ≡ lesser (cond (ltb n (end - start)) (some (start + n)) none) (leastOf (unorderedIn end (next .others))))
     unfolding unorderedIn
@@ -169,7 +169,7 @@ module _ {words : List ℕ} {i parentsEnd start end : ℕ} (parts : Parts words 
         next .least ∙ rw (first, least-append (unordered fieldLevel start rows) (unorderedIn (start + length rows) (next .others)), judged, size, last)
 
     -- the first element out of order is one of its own
-    pub passing-found : n < end - start → start + n < length words → ((es : List EntityRead) → Holds words es → Passing words es i) →
+    pub passing-found : n < end - start → start + n < length words → ((es : List EntityRead) → HoldsEntities words es → EntitiesPassed words es i) →
         OrderFound words (start + n)
     passing-found h inside passing = record {
       within = omega arith;
@@ -181,7 +181,7 @@ module _ {words : List ℕ} {i parentsEnd start end : ℕ} (parts : Parts words 
     }
 
     -- or it has none
-    pub passing-next : {es : List EntityRead} → end - start ≤ n → Passing words es i → Passing words es end
+    pub passing-next : {es : List EntityRead} → end - start ≤ n → EntitiesPassed words es i → EntitiesPassed words es end
     passing-next h passing =
         let next = next-entity passing in
         record {

@@ -11,19 +11,19 @@ use Rattle.rules.specs.ValueTexts.{EntityRead, storeInOrder, readStore}
 use Rattle.words.specs.Runs.{Outcome, refusing, stored}
 use Rattle.words.specs.declared.Reply.the-variants.{Done}
 use Rattle.store_text.specs.Words.{storeWords}
-use Rattle.store_text.specs.Entities.{Holds}
+use Rattle.store_text.specs.Entities.{HoldsEntities}
 use Rattle.store_text.specs.declared.reading.GotLines.{GotLines}
 use Rattle.store_text.specs.declared.reading.GotLines.the-variants.{Lines, Refused}
 
 -- every line has passed: the words that are stored are those of entities, whose order is left to judge
-pub record Passed (text words : List ℕ) (count : ℕ) : Type 0 where
+pub record TextJudged (text words : List ℕ) (count : ℕ) : Type 0 where
   pub es : List EntityRead
-  pub holds : Holds (stored count words) es
+  pub holds : HoldsEntities (stored count words) es
   pub given : readStore text ≡ storeInOrder es
   pub most : count ≤ 16384
 
 abbrev pub LinesGot : List ℕ → List ℕ → GotLines → Type 0
-LinesGot text words (Lines count) = Passed text words count
+LinesGot text words (Lines count) = TextJudged text words count
 LinesGot text words (Refused place) = readStore text ≡ refused 1 place
 
 -- what was read into words: those that are stored, or a refusal

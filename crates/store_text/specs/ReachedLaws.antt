@@ -19,7 +19,7 @@ use Rattle.store_text.specs.LineLaws.{Formed}
 use Rattle.store_text.specs.Words.{parentWord, ancestorWord, linesBehind, storeWords}
 use Rattle.store_text.specs.Entities.{All, IsId, RowKept, EntityKept}
 use Rattle.store_text.specs.RunLaws.{all-map}
-use Rattle.store_text.specs.Standings.{Standing, standing, atStart, standingAfter}
+use Rattle.store_text.specs.Standings.{StoreSofar, standing, atStart, standingAfter}
 
 -- ---- the last of some
 
@@ -138,7 +138,7 @@ abbrev pub entities : Reached → List EntityRead
 entities start = []
 entities (behind es e) = es ++ (e ∷ [])
 
-abbrev pub standingOf : Reached → Standing
+abbrev pub standingOf : Reached → StoreSofar
 standingOf start = atStart
 standingOf (behind es e) = standing (lastWord (e .id) (e .parents) (e .ancestors) (e .value .rows)) (e .id + 1) (e .value .levels)
 

@@ -23,9 +23,9 @@ use Rattle.values.specs.Lawful.{levelsIn}
 use Rattle.store_text.specs.LineLaws.{line-formed}
 use Rattle.store_text.specs.Words.{storeWords}
 use Rattle.store_text.specs.Entities.{All, EntityKept, OrderFound}
-use Rattle.store_text.specs.Standings.{Standing, standing, standingBehind}
+use Rattle.store_text.specs.Standings.{StoreSofar, standing, standingBehind}
 use Rattle.store_text.specs.ReachedLaws.{Reached, start, behind, storeOf, entities, standingOf, Step, stopped, went, step}
-use Rattle.store_text.specs.Outcomes.{Passed, storeGiven, storingStore, readStoreIn}
+use Rattle.store_text.specs.Outcomes.{TextJudged, storeGiven, storingStore, readStoreIn}
 
 -- ---- a line
 
@@ -43,7 +43,7 @@ line-stopped place line s kept e = go (storeLineOf (fieldsOf line)) refl e
     go (some said) q e = rw (q, by said e (step s said kept (line-formed line q .1)))
 
 -- a line that is taken
-pub record Taken (place : ℕ) (line : List ℕ) (s : Reached) (after : Standing) : Type 0 where
+pub record LineEntered (place : ℕ) (line : List ℕ) (s : Reached) (after : StoreSofar) : Type 0 where
   pub next : Reached
   pub of : storeLine place line (storeOf s) ≡ accepted (storeOf next)
   pub stands : standingOf next ≡ after
@@ -51,11 +51,11 @@ pub record Taken (place : ℕ) (line : List ℕ) (s : Reached) (after : Standing
   pub kept : All EntityKept (entities next)
   pub long : 3 ≤ length line
 
-line-taken : (place : ℕ) (line : List ℕ) (s : Reached) (after : Standing) → All EntityKept (entities s) →
-    some after ≡ standingBehind (standingOf s) (storeLineOf (fieldsOf line)) → Taken place line s after
+line-taken : (place : ℕ) (line : List ℕ) (s : Reached) (after : StoreSofar) → All EntityKept (entities s) →
+    some after ≡ standingBehind (standingOf s) (storeLineOf (fieldsOf line)) → LineEntered place line s after
 line-taken place line s after kept e = go (storeLineOf (fieldsOf line)) refl e
   where
-    by : (said : StoreLine) → storeLineOf (fieldsOf line) ≡ some said → some after ≡ standingBehind (standingOf s) (some said) → Step s said → Taken place line s after
+    by : (said : StoreLine) → storeLineOf (fieldsOf line) ≡ some said → some after ≡ standingBehind (standingOf s) (some said) → Step s said → LineEntered place line s after
     by said q e (stopped not-taken none-there) = absurd (Option·none-ne-some after (sym none-there ∙ sym e))
     by said q e (went next taken) =
         let same : standingOf next ≡ after = Option·some-injective (standingOf next) after (sym (taken .stands) ∙ sym e) in
@@ -68,7 +68,7 @@ line-taken place line s after kept e = go (storeLineOf (fieldsOf line)) refl e
           long = line-formed line q .0;
         }
 
-    go : (o : Option StoreLine) → storeLineOf (fieldsOf line) ≡ o → some after ≡ standingBehind (standingOf s) o → Taken place line s after
+    go : (o : Option StoreLine) → storeLineOf (fieldsOf line) ≡ o → some after ≡ standingBehind (standingOf s) o → LineEntered place line s after
     go none q e = absurd (Option·none-ne-some after (sym e))
     go (some said) q e = by said q e (step s said kept (line-formed line q .1))
 
@@ -111,7 +111,7 @@ module _ {text words levels : List ℕ} {last next len count at : ℕ} (reading 
   given e = rw e
 
   -- no line is left
-  pub reading-all : length text ≤ at → length text ≤ 65536 → Passed text words count
+  pub reading-all : length text ≤ at → length text ≤ 65536 → TextJudged text words count
   reading-all h short = record {
     es = entities (reading .sofar);
     holds = record { same = reading .words-stored; kept = reading .kept };
@@ -161,7 +161,7 @@ module _ {text words levels : List ℕ} {last next len count at : ℕ} (reading 
 pub order-refused : (text : List ℕ) {place : ℕ} → readStore text ≡ refused 1 place → refused 1 place ≡ storeGiven text
 order-refused text e = rw e
 
-module _ {text words : List ℕ} {count : ℕ} (passed : Passed text words count) (size : length (stored count words) ≡ count) {n : ℕ} (found : OrderFound (stored count words) n) where
+module _ {text words : List ℕ} {count : ℕ} (passed : TextJudged text words count) (size : length (stored count words) ≡ count) {n : ℕ} (found : OrderFound (stored count words) n) where
   -- the first element out of order, or none
   pub order-broken : n < count → refused 1 n ≡ storeGiven text
   order-broken h =

@@ -15,40 +15,40 @@ use Rattle.store_text.specs.declared.taking.Took.{Took}
 use Rattle.store_text.specs.declared.taking.Took.the-variants.{Line, Refused}
 
 -- The word of the line before, the least id that the next entity may have, and the levels at which a row may come.
-pub record Standing : Type 0 where
+pub record StoreSofar : Type 0 where
   pub last : ℕ
   pub next : ℕ
   pub levels : List Level
 
-abbrev pub standing : ℕ → ℕ → List Level → Standing
+abbrev pub standing : ℕ → ℕ → List Level → StoreSofar
 standing last next levels = record { last = last; next = next; levels = levels }
 
 -- before the first line nothing but an entity may come: it is as behind a row, with no level open
 abbrev pub rowsFrom : ℕ
 rowsFrom = 2 ^ 35
 
-abbrev pub atStart : Standing
+abbrev pub atStart : StoreSofar
 atStart = standing rowsFrom 0 []
 
-abbrev pub idAfter : Standing → ℕ → Option Standing
+abbrev pub idAfter : StoreSofar → ℕ → Option StoreSofar
 idAfter s word = cond (ltb (s .last) word) (some (standing word (s .next) (s .levels))) none
 
-abbrev pub rowAfter : ℕ → List Level → ValueRow → Option Standing
+abbrev pub rowAfter : ℕ → List Level → ValueRow → Option StoreSofar
 rowAfter next levels x = cond (mayCome levels x) (some (standing (valueWord x) next (levelsAfter 1 levels x))) none
 
 -- what a line comes to, if it may come
-abbrev pub standingAfter : Standing → StoreLine → Option Standing
+abbrev pub standingAfter : StoreSofar → StoreLine → Option StoreSofar
 standingAfter s (entityLine id) = cond (leb (s .next) id) (some (standing id (id + 1) fieldLevel)) none
 standingAfter s (parentLine id) = idAfter s (parentWord id)
 standingAfter s (ancestorLine id) = idAfter s (ancestorWord id)
 standingAfter s (attributeLine x) = rowAfter (s .next) (s .levels) x
 
-abbrev pub standingBehind : Standing → Option StoreLine → Option Standing
+abbrev pub standingBehind : StoreSofar → Option StoreLine → Option StoreSofar
 standingBehind s none = none
 standingBehind s (some said) = standingAfter s said
 
 -- what was taken: the levels are the open ones of the words that keep them
-abbrev pub tookStanding : Took → List ℕ → Option Standing
+abbrev pub tookStanding : Took → List ℕ → Option StoreSofar
 tookStanding (Line word next len) levels = some (standing word next (levelsIn (take len levels)))
 tookStanding Refused levels = none
 

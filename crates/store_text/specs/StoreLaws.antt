@@ -19,7 +19,7 @@ use Rattle.words.specs.RunLaws.{held-count}
 use Rattle.words.specs.declared.Reply.the-variants.{Done, Refused}
 use Rattle.store_text.specs.LineLaws.{line-formed}
 use Rattle.store_text.specs.Words.{storeWords}
-use Rattle.store_text.specs.Entities.{All, EntityKept, Holds}
+use Rattle.store_text.specs.Entities.{All, EntityKept, HoldsEntities}
 use Rattle.store_text.specs.ReachedLaws.{Reached, start, storeOf, entities, Step, stopped, went, step}
 use Rattle.store_text.specs.ReadLaws.{all-entities, store-short, store-long, by-text}
 use Rattle.store_text.specs.Outcomes.{readStoreIn}
@@ -103,7 +103,7 @@ held out words h =
 pub record StoreHeld (text out : List ℕ) : Type 0 where
   pub es : List EntityRead
   pub read : readStore text ≡ accepted es
-  pub holds : Holds (wordsIn (readStoreIn text out .buffer)) es
+  pub holds : HoldsEntities (wordsIn (readStoreIn text out .buffer)) es
   pub few : getD (readStoreIn text out .buffer) 0 0 ≤ 16384
   pub long : 16385 ≤ length (readStoreIn text out .buffer)
 

@@ -4,7 +4,7 @@ ghost use Prim.Native.Nat.{_+_, _≤_, _<_};
 ghost use lib.ListN.{length};
 ghost use Rattle.rules.specs.MergeLaws.{IdsFrom};
 ghost use Rattle.words.specs.Runs.{Wrote};
-ghost use Rattle.store_text.specs.Answering.{idIn, amongOf, FoundEntity, WroteEntity, AnsweredRow, AnsweredAncestors};
+ghost use Rattle.store_text.specs.Answering.{idIn, amongOf, FoundEntity, EntityAnswered, AnsweredRow, AnsweredAncestors};
 use crate::runs::ANCESTORS;
 use crate::runs::PARENTS;
 use crate::runs::ROWS;
@@ -53,7 +53,7 @@ fn copy_ids(words: &[u64], out: &mut [u64], to: usize) -> usize
 // Writes the answer that is the entity at a place: its head, its parents and its rows.
 fn write_entity(words: &[u64], at: usize, out: &mut [u64], to: usize) -> Put
     requires { ⌜ (at < length (now words)) × (length (now words) ≤ 16384) × (to ≤ length (now out)) ⌝ }
-    ensures { λ r. ⌜ WroteEntity (now (words .entry)) at (now (out .entry)) to (now (out .exit)) r ⌝ }
+    ensures { λ r. ⌜ EntityAnswered (now (words .entry)) at (now (out .entry)) to (now (out .exit)) r ⌝ }
 {
     let parents = at + 1;
     let ancestors = run_end(words, parents, PARENTS);

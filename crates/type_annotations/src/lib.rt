@@ -10,7 +10,7 @@ ghost use Rattle.rules.specs.Tries.{ordered};
 ghost use Rattle.rows.specs.States.{allWords, rowsOf, storing};
 ghost use Rattle.schema.specs.Items.{itemsOf, goodItems};
 ghost use Rattle.type_table.specs.Tables.{GoodTypes};
-ghost use Rattle.node_types.specs.Named.{EntityTable, Placed};
+ghost use Rattle.node_types.specs.Named.{EntityTable, PlacesFound};
 ghost use Rattle.type_annotations.specs.Outcomes.{typedIn, TypedInto};
 use node_types::Fate;
 use node_types::Places;
@@ -40,7 +40,7 @@ fn type_rows(
     out: &mut [u64],
 ) -> Typed
     requires { ⌜ GoodTypes (now words) (now table) types × EntityTable (now words) (now entities) ⌝ }
-    requires { ⌜ Placed (now words) places × (length (now rows) < length (now out)) ⌝ }
+    requires { ⌜ PlacesFound (now words) places × (length (now rows) < length (now out)) ⌝ }
     requires { ⌜ (allWords (now rows) ≡ true) × (ordered [] (rowsOf (now rows)) ≡ true) ⌝ }
     ensures { λ r. ⌜ TypedInto (typedRows (itemsOf (now (words .entry))) (rowsOf (now (rows .entry)))) (now (out .exit)) r ⌝ }
 {

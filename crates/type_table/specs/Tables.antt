@@ -35,14 +35,14 @@ abbrev pub sizeWord : TypeSize → ℕ
 sizeWord size = size .nodes + (size .depth * 4096 + size .place * 1048576)
 
 -- a word of the table says it of a type
-pub record Sized (words : List ℕ) (t w : ℕ) : Type 0 where
+pub record TypeMeasured (words : List ℕ) (t w : ℕ) : Type 0 where
   pub inside : typePlace w < length words
   pub there : fromType t (itemsOf words) ≡ some (itemsOf (drop (typePlace w) words))
   pub depth : typeDepth w ≡ capped 25 (deepest (typeRows words t))
   pub nodes : typeNodes w ≡ capped 1025 (length (typeRows words t))
 
 abbrev pub Tabled : List ℕ → List ℕ → ℕ → Type 0
-Tabled words table types = (length table ≡ 1024) × ((t : ℕ) → t < types → Sized words t (getD table t 0))
+Tabled words table types = (length table ≡ 1024) × ((t : ℕ) → t < types → TypeMeasured words t (getD table t 0))
 
 -- the types of a good schema, all in the table
 pub record GoodTypes (words table : List ℕ) (types : ℕ) : Type 0 where

@@ -21,7 +21,7 @@ use Rattle.rows.specs.Words.{wordOf}
 use Rattle.schema.specs.Items.{itemIn, itemsOf, isItem, allItems, goodItems}
 use Rattle.words.specs.Runs.{Wrote}
 use Rattle.words.specs.RunLaws.{wrote-length, wrote-more}
-use Rattle.type_table.specs.Tables.{typeRows, typePlace, typeDepth, typeNodes, Sized, Tabled, attributeAt}
+use Rattle.type_table.specs.Tables.{typeRows, typePlace, typeDepth, typeNodes, TypeMeasured, Tabled, attributeAt}
 
 -- Items.
 
@@ -77,16 +77,16 @@ module _ (words : List ℕ) (at : ℕ) where
       (λ past. rw (drop-of-length-le words past))
 
 -- The attributes before a place are passed, and others may be left.
-pub record Passing (words : List ℕ) (first at : ℕ) : Type 0 where
+pub record AttributesPassed (words : List ℕ) (first at : ℕ) : Type 0 where
   pub inside : at ≤ length words
   pub passed : List Item
   pub count : at ≡ first + length passed
   pub split : attributesOf (itemsOf (drop first words)) ≡ passed ++ attributesOf (itemsOf (drop at words))
 
-pub passing-none : (words : List ℕ) (first : ℕ) → first ≤ length words → Passing words first first
+pub passing-none : (words : List ℕ) (first : ℕ) → first ≤ length words → AttributesPassed words first first
 passing-none words first h = record { inside = h; passed = []; count = omega arith; split = refl }
 
-module _ {words : List ℕ} {first at : ℕ} (passing : Passing words first at) where
+module _ {words : List ℕ} {first at : ℕ} (passing : AttributesPassed words first at) where
   -- none is left
   pub passing-all : attributeAt words at ≡ false → passing .passed ≡ attributesOf (itemsOf (drop first words))
   passing-all h = sym (passing .split ∙ rw (attributes-none words at h) (append-nil (passing .passed)))
@@ -98,7 +98,7 @@ module _ {words : List ℕ} {first at : ℕ} (passing : Passing words first at) 
         ≡ passing .passed ++ (itemIn (getD words at 0) ∷ attributesOf (itemsOf (drop (at + 1) words)))
     passing-here = rw (← attributes-more words at here) (passing .split)
 
-    pub passing-next : Passing words first (at + 1)
+    pub passing-next : AttributesPassed words first (at + 1)
     passing-next = record {
       inside = omega (arith, attribute-inside words at here);
       passed = passing .passed ++ (itemIn (getD words at 0) ∷ []);
@@ -139,7 +139,7 @@ stands words t place good inside from =
 
 -- by its size
 stands-sized :
-    {words : List ℕ} {t w : ℕ} → goodItems words ≡ true → Sized words t w → TypeStands words t (typePlace w)
+    {words : List ℕ} {t w : ℕ} → goodItems words ≡ true → TypeMeasured words t w → TypeStands words t (typePlace w)
 stands-sized {words} {t} {w} good sized = stands words t (typePlace w) good (sized .inside) (sized .there)
 
 -- by the types before it
@@ -169,7 +169,7 @@ module _ (words : List ℕ) (place : ℕ) (inside : place < length words) where
 
 -- what the attributes that are passed add up to
 pub record Sizing (words : List ℕ) (first at depth nodes : ℕ) : Type 0 where
-  pub passing : Passing words first at
+  pub passing : AttributesPassed words first at
   pub deep : depth ≡ capped 25 (deepest (childrenOf (typeRows words) (passing .passed)))
   pub many : nodes ≡ capped 1025 (length (childrenOf (typeRows words) (passing .passed)))
 
@@ -190,7 +190,7 @@ module _ {words : List ℕ} {first at depth nodes : ℕ} (sizing : Sizing words 
       attributeAt words at ≡ true
       → {v w : ℕ}
       → v ≡ getD words at 0 / 16 % 2 ^ 36
-      → Sized words v w
+      → TypeMeasured words v w
       → Sizing words first (at + 1) (larger depth (capped 25 (1 + typeDepth w))) (capped 1025 (nodes + 1 + typeNodes w))
   unfolding passing-next
   sizing-next here e sized = record {
@@ -210,7 +210,7 @@ pub sizing-all :
     → Sizing words (place + 1) at depth nodes
     → attributeAt words at ≡ false
     → length words < 262144
-    → Sized words t (nodes + (depth * 4096 + place * 1048576))
+    → TypeMeasured words t (nodes + (depth * 4096 + place * 1048576))
 sizing-all words t place at depth nodes stands sizing none-left short =
     let small = sizing-small sizing in
     let place-is : typePlace (nodes + (depth * 4096 + place * 1048576)) ≡ place = omega arith in
@@ -255,14 +255,14 @@ module _ {words table : List ℕ} {types at : ℕ} (filling : Filling words tabl
       pub filling-room : types < 1024
       filling-room = rw (filling .count) (stands-here words at inside good kind .lines .small)
 
-      pub filling-type : {w : ℕ} → Sized words types w → Filling words (set table types w) (types + 1) (at + 1)
+      pub filling-type : {w : ℕ} → TypeMeasured words types w → Filling words (set table types w) (types + 1) (at + 1)
       filling-type {w} sized = record {
         inside = omega arith;
         count = rw add-one (ap suc (filling .count) ∙ sym (types-here words at inside kind));
         tabled = (rw length-set (filling .tabled .0), all);
       }
         where
-          all : (t : ℕ) → t < types + 1 → Sized words t (getD (set table types w) t 0)
+          all : (t : ℕ) → t < types + 1 → TypeMeasured words t (getD (set table types w) t 0)
           all t h =
               compared t types
               (λ less. let other : t ≡ types → ⊥ = λ e. omega arith in rw (getD-set-other table types t w 0 other) (filling .tabled .1 t less))
@@ -270,7 +270,7 @@ module _ {words table : List ℕ} {types at : ℕ} (filling : Filling words tabl
               let same : t ≡ types = omega arith in
               rw (same, getD-set-same table types w 0 (omega (arith, filling .tabled .0, filling-room))) sized)
 
--- Writing the trie of a type.
+-- TrieWriting the trie of a type.
 
 -- a word after a run, and then another run
 wrote-on :
@@ -298,14 +298,14 @@ more-words g depth xs a =
     rw (children-append g xs (a ∷ []), deeper-append depth (childrenOf g xs) (childrenOf g (a ∷ [])), map-append, child-words g depth a)
 
 -- the rows of the attributes that are passed are written
-pub record Writing (words : List ℕ) (first depth : ℕ) (out : List ℕ) (to at : ℕ) (out′ : List ℕ) (next : ℕ) : Type 0 where
-  pub passing : Passing words first at
+pub record TrieWriting (words : List ℕ) (first depth : ℕ) (out : List ℕ) (to at : ℕ) (out′ : List ℕ) (next : ℕ) : Type 0 where
+  pub passing : AttributesPassed words first at
   pub wrote : Wrote out to (map wordOf (deeper depth (childrenOf (typeRows words) (passing .passed)))) out′ next
 
 pub writing-none :
     (words : List ℕ) (first depth : ℕ) (out : List ℕ) (to : ℕ)
     → first ≤ length words
-    → Writing words first depth out to first out to
+    → TrieWriting words first depth out to first out to
 unfolding passing-none childrenOf deeper
 writing-none words first depth out to h =
     record { passing = passing-none words first h; wrote = record { after = omega arith; text = refl } }
@@ -317,7 +317,7 @@ module _
     {to at : ℕ}
     {out′ : List ℕ}
     {next : ℕ}
-    (writing : Writing words first depth out to at out′ next)
+    (writing : TrieWriting words first depth out to at out′ next)
     {rows : List Row}
     (all : rows ≡ childrenOf (typeRows words) (attributesOf (itemsOf (drop first words))))
   where
@@ -365,7 +365,7 @@ module _
           → v ≡ getD words at 0 / 16 % 2 ^ 36
           → w ≡ wordOf (read (depth + 1) (getD words at 0 / 2 ^ 40) false)
           → Wrote (set out′ next w) (next + 1) (map wordOf (deeper (depth + 1) (typeRows words v))) out₂ next₂
-          → Writing words first depth out to (at + 1) out₂ next₂
+          → TrieWriting words first depth out to (at + 1) out₂ next₂
       unfolding passing-next
       writing-next {v} {w} {out₂} {next₂} e word rest = record {
         passing = passing-next (writing .passing) here;

@@ -10,7 +10,7 @@ ghost use Rattle.rules.specs.TypeLaws.{typesIn, deepest};
 ghost use Rattle.rows.specs.Words.{wordOf, numberFor};
 ghost use Rattle.schema.specs.Items.{itemsOf, goodItems};
 ghost use Rattle.words.specs.Runs.{Wrote};
-ghost use Rattle.type_table.specs.Tables.{sizeWord, typePlace, typeDepth, typeNodes, Sized, Tabled, attributeAt, typeRows, valueNamed};
+ghost use Rattle.type_table.specs.Tables.{sizeWord, typePlace, typeDepth, typeNodes, TypeMeasured, Tabled, attributeAt, typeRows, valueNamed};
 use rows::Kind;
 use rows::Row;
 use schema::Item;
@@ -93,7 +93,7 @@ fn type_size(words: &[u64], place: usize, table: &[u64]) -> TypeSize
     requires { ⌜ (goodItems (now words) ≡ true) × (length (now words) < 142337) ⌝ }
     requires { ⌜ (place < length (now words)) × (getD (now words) place 0 % 16 ≤ lastType) ⌝ }
     requires { ⌜ Tabled (now words) (now table) (typesIn (itemsOf (take place (now words)))) ⌝ }
-    ensures { λ r. ⌜ Sized (now (words .entry)) (typesIn (itemsOf (take place (now (words .entry))))) (sizeWord r) ⌝ }
+    ensures { λ r. ⌜ TypeMeasured (now (words .entry)) (typesIn (itemsOf (take place (now (words .entry))))) (sizeWord r) ⌝ }
     ensures { λ r. ⌜ (r .place < 262144) × ((r .depth < 256) × (r .nodes < 4096)) ⌝ }
 {
     let mut depth = 0;

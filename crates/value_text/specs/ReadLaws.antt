@@ -29,7 +29,7 @@ use Rattle.words.specs.declared.Reply.the-variants.{Done}
 use Rattle.values.specs.ValueWords.{valueRowIn, valueRowsOf, valueWord}
 use Rattle.values.specs.ValueWordLaws.{word-again}
 use Rattle.values.specs.Lawful.{levelsIn}
-use Rattle.value_text.specs.Rows.{RowPassed, refusedRow, Misplaced}
+use Rattle.value_text.specs.Rows.{ValueLinePassed, refusedRow, Misplaced}
 use Rattle.value_text.specs.Reads.{rowsGiven}
 use Rattle.value_text.specs.Outcomes.{storingRows, readValueIn}
 
@@ -114,7 +114,7 @@ module _ {text : List ℕ} {from place : ℕ} {words levels : List ℕ} {len cou
 
     -- the next line is taken
     pub rows-next : {words′ levels′ : List ℕ} {len′ : ℕ} → (count ≡ 8192 → ⊥) → length levels′ ≡ length levels →
-        RowPassed (take (end - at) (drop at text)) words (count + 1) words′ (take len levels) levels′ len′ →
+        ValueLinePassed (take (end - at) (drop at text)) words (count + 1) words′ (take len levels) levels′ len′ →
         ReadingRows text from place words′ levels′ len′ (count + 1) (end + 1)
     rows-next {words′} {levels′} {len′} more kept passed =
         let most : count < 8192 = omega (arith, reading .most) in

@@ -19,7 +19,7 @@ use Rattle.rules.specs.ValueTextLaws.{mayPass}
 use Rattle.values.specs.ValueWords.{depthFrom, keyFrom, valueRowIn, valueRowsOf}
 use Rattle.values.specs.Lawful.{PastInside, isAheadAt, levelIn, levelsIn, rowAt, rowsBehind, Opened}
 use Rattle.values.specs.LawfulLaws.{words-left, after-taken}
-use Rattle.value_text.specs.Rows.{RowPassed, nextUnless, placeFound, Misplaced}
+use Rattle.value_text.specs.Rows.{ValueLinePassed, nextUnless, placeFound, Misplaced}
 
 -- ---- whether a row may come
 
@@ -69,7 +69,7 @@ module _ (line words levels : List ℕ) (at len word : ℕ) (room : len < length
       rw (length-take-le len levels fits) at (may-depth word (take len levels) may)
 
   pub row-passed : {levels′ : List ℕ} {open′ : ℕ} → valueRowOf (fieldsOf line) ≡ some (valueRowIn word) →
-      Opened levels (valueRowIn word) levels′ open′ → RowPassed line words at (set words at word) (take len levels) levels′ open′
+      Opened levels (valueRowIn word) levels′ open′ → ValueLinePassed line words at (set words at word) (take len levels) levels′ open′
   row-passed read opened =
       let (below, near) = taken-depth in
       record {

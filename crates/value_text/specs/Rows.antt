@@ -16,7 +16,7 @@ use Rattle.value_text.specs.declared.rows.TookRow.{TookRow}
 use Rattle.value_text.specs.declared.rows.TookRow.the-variants.{Open, Refused}
 
 -- a line's row was taken: its word is stored, and the levels after it are kept
-pub record RowPassed (line words : List ℕ) (at : ℕ) (words′ levels levels′ : List ℕ) (open′ : ℕ) : Type 0 where
+pub record ValueLinePassed (line words : List ℕ) (at : ℕ) (words′ levels levels′ : List ℕ) (open′ : ℕ) : Type 0 where
   pub word : ℕ
   pub read : valueRowOf (fieldsOf line) ≡ some (valueRowIn word)
   pub may : mayCome (levelsIn levels) (valueRowIn word) ≡ true
@@ -29,9 +29,9 @@ abbrev pub refusedRow : List Level → Option ValueRow → Type 0
 refusedRow levels none = Unit
 refusedRow levels (some x) = mayCome levels x ≡ false
 
-abbrev pub RowTaken : List ℕ → List ℕ → ℕ → List ℕ → List ℕ → List ℕ → TookRow → Type 0
-RowTaken line words at words′ levels levels′ (Open open′) = RowPassed line words at words′ levels levels′ open′
-RowTaken line words at words′ levels levels′ Refused = refusedRow (levelsIn levels) (valueRowOf (fieldsOf line))
+abbrev pub ValueLineTaken : List ℕ → List ℕ → ℕ → List ℕ → List ℕ → List ℕ → TookRow → Type 0
+ValueLineTaken line words at words′ levels levels′ (Open open′) = ValueLinePassed line words at words′ levels levels′ open′
+ValueLineTaken line words at words′ levels levels′ Refused = refusedRow (levelsIn levels) (valueRowOf (fieldsOf line))
 
 -- the place of the next element, where the one at a place is not before it, otherwise the count of all rows
 abbrev pub nextUnless : List ℕ → ℕ → Level → ℕ

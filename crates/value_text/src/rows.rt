@@ -7,7 +7,7 @@ ghost use Rattle.rules.specs.ValueTexts.{fieldLevel, mayCome};
 ghost use Rattle.rules.specs.ValueTextLaws.{mayPass};
 ghost use Rattle.values.specs.ValueWords.{valueRowIn, valueRowsOf};
 ghost use Rattle.values.specs.Lawful.{levelIn, levelsIn};
-ghost use Rattle.value_text.specs.Rows.{RowTaken, nextUnless, Misplaced};
+ghost use Rattle.value_text.specs.Rows.{ValueLineTaken, nextUnless, Misplaced};
 use crate::line::ParsedRow;
 use crate::line::parse;
 use values::ValueRow;
@@ -47,7 +47,7 @@ pub fn take_row(
     len: usize,
 ) -> TookRow
     requires { ⌜ (at < length (now words)) × (len < length (now levels)) ⌝ }
-    ensures { λ r. ⌜ RowTaken (now (line .entry)) (now (words .entry)) at (now (words .exit)) (take len (now (levels .entry))) (now (levels .exit)) r ⌝ }
+    ensures { λ r. ⌜ ValueLineTaken (now (line .entry)) (now (words .entry)) at (now (words .exit)) (take len (now (levels .entry))) (now (levels .exit)) r ⌝ }
 {
     let ParsedRow::Of(row) = parse(line) else {
         return TookRow::Refused;

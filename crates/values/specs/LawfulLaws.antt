@@ -307,16 +307,16 @@ after-taken levels len word below near =
 -- ---- the pass
 
 -- i rows are passed, and `len` levels are open
-pub record Passed (words levels : List ℕ) (len i : ℕ) : Type 0 where
+pub record RowsPassed (words levels : List ℕ) (len i : ℕ) : Type 0 where
   pub inside : i ≤ length words
   pub few : len ≤ i + 1
   pub left : lawfulValueRows (valueRowsOf words) ≡ passes 1 (levelsIn (take len levels)) (valueRowsOf (drop i words))
 
-pub passed-none : (words levels : List ℕ) → 0 < length levels → Passed words (set levels 0 0) 1 0
+pub passed-none : (words levels : List ℕ) → 0 < length levels → RowsPassed words (set levels 0 0) 1 0
 passed-none words [] h = absurd (omega arith)
 passed-none words (x ∷ rest) h = record { inside = omega arith; few = omega arith; left = refl }
 
-module _ {words levels : List ℕ} {len i : ℕ} (passed : Passed words levels len i) where
+module _ {words levels : List ℕ} {len i : ℕ} (passed : RowsPassed words levels len i) where
   -- no row is left
   pub passed-all : length words ≤ i → true ≡ lawfulValueRows (valueRowsOf words)
   unfolding passes
@@ -333,7 +333,7 @@ module _ {words levels : List ℕ} {len i : ℕ} (passed : Passed words levels l
       pub passed-depth : (0 < depthFrom (getD words i 0)) × (depthFrom (getD words i 0) ≤ len)
       passed-depth = rw (length-take-le len levels fits) at (comes-depth words i (take len levels) next)
 
-      pub passed-next : {levels′ : List ℕ} {len′ : ℕ} → Opened levels (rowAt words i) levels′ len′ → Passed words levels′ len′ (i + 1)
+      pub passed-next : {levels′ : List ℕ} {len′ : ℕ} → Opened levels (rowAt words i) levels′ len′ → RowsPassed words levels′ len′ (i + 1)
       unfolding passes
       passed-next opened =
           let (below, near) = passed-depth in

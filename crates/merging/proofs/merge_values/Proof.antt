@@ -5,13 +5,13 @@ use native.Mathlib.Omega.{arith}
 use lib.ListN.{length}
 use borrow.Author.Needs.{needs}
 use Rattle.words.specs.RunLaws.{wrote-length}
-use Rattle.merging.specs.Merges.{Takes}
-use Rattle.merging.specs.MergeLaws.{Passing, passing-begun, passing-more, passing-room, passing-apart, passing-ended}
+use Rattle.merging.specs.Merges.{RowsTaken}
+use Rattle.merging.specs.MergeLaws.{MergePassed, passing-begun, passing-more, passing-room, passing-apart, passing-ended}
 use Rattle.merging.proofs.merge_values.Statement.{statement}
 use Rattle.merging.proofs.merge_values.Tie as tie
 
 abbrev Inv-loop : tie.InvT-loop
-Inv-loop left right out₀ to i₀ j₀ inside₀ at₀ out i j inside at = Passing left right out₀ to out i j inside at
+Inv-loop left right out₀ to i₀ j₀ inside₀ at₀ out i j inside at = MergePassed left right out₀ to out i j inside at
 
 abbrev μ-loop : tie.MeasureT-loop
 μ-loop left right out₀ to i₀ j₀ inside₀ at₀ out i j inside at = (length left + length right) - (i + j)
@@ -25,7 +25,7 @@ takes :
     → let loop = c .before .before .before .before .before .loop in
     let args = c .before .before .before .before .before .before .before .before .before .args in
     let row = c .before .word .given .0 in
-    Takes (args .left .now) (args .right .now) (loop .i) (loop .j) (loop .inside) (row .0) (row .1 .0) (row .1 .1 .0) (row .1 .1 .1 .0)
+    RowsTaken (args .left .now) (args .right .now) (loop .i) (loop .j) (loop .inside) (row .0) (row .1 .0) (row .1 .1 .0) (row .1 .1 .1 .0)
 takes c = rw (c .before .word .given .1) at (c .before .before .before .next-turn .ensures)
 
 -- there is room for it

@@ -9,7 +9,7 @@ use Rattle.rules.specs.Schema.{Item}
 use Rattle.rules.specs.TypeLaws.{deepest}
 use Rattle.words.specs.RunLaws.{wrote-length}
 use Rattle.type_table.specs.Tables.{typeRows, attributeAt}
-use Rattle.type_table.specs.TypeTableLaws.{TypeStands, Writing, tabled-stands, tabled-inside, attribute-inside, passing-below, key-small, good-all, writing-none, writing-all, writing-room, writing-shallow, writing-next}
+use Rattle.type_table.specs.TypeTableLaws.{TypeStands, TrieWriting, tabled-stands, tabled-inside, attribute-inside, passing-below, key-small, good-all, writing-none, writing-all, writing-room, writing-shallow, writing-next}
 use borrow.Author.Needs.{needs}
 use borrow.Fn.Kinds.{In}
 use borrow.Fn.PlainCycle.{Measures, is, falls, and}
@@ -43,14 +43,14 @@ type-to-access-trie-below t =
     type-to-access-trie.Pre
 
 abbrev type-to-access-trie-Inv-loop : type-to-access-trie-lts.InvT-loop
-type-to-access-trie-Inv-loop words table t depth out₀ to at₀ next₀ out at next = Writing words at₀ depth out₀ to at out next
+type-to-access-trie-Inv-loop words table t depth out₀ to at₀ next₀ out at next = TrieWriting words at₀ depth out₀ to at out next
 
 abbrev type-to-access-trie-μ-loop : type-to-access-trie-lts.MeasureT-loop
 type-to-access-trie-μ-loop words table t depth out₀ to at₀ next₀ out at next = length words - at
 
 -- what is known once the type's place is
-abbrev Sized : ℕ → Type 0
-Sized t = type-to-access-trie-lts.After-size-at (
+abbrev TypeMeasured : ℕ → Type 0
+TypeMeasured t = type-to-access-trie-lts.After-size-at (
   size-at-reads.Asked,
   size-at-reads.Learnt,
   is-attribute-reads.Asked,
@@ -67,7 +67,7 @@ Sized t = type-to-access-trie-lts.After-size-at (
     type-to-access-trie-Inv-loop
     type-to-access-trie-μ-loop
 
-there : (t : ℕ) (c : Sized t) → TypeStands (c .before .before .before .before .args .words .now) (c .before .before .before .before .args .t) (c .size-at .result .place)
+there : (t : ℕ) (c : TypeMeasured t) → TypeStands (c .before .before .before .before .args .words .now) (c .before .before .before .before .args .t) (c .size-at .result .place)
 there t c = tabled-stands (c .before .before .before .before .args .words .now) (c .before .before .before .before .args .table .now) (c .before .before .before .before .pre .1 .0 .0) (c .before .before .before .before .pre .1 .0 .1) (c .before .before .before .before .pre .1 .1 .0) (c .size-at .ensures .0)
 
 -- and in a turn, with the next attribute

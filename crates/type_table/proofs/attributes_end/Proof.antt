@@ -7,12 +7,12 @@ use mathlib.Core.Bool.{true}
 use mathlib.Core.Path.{_≡_, sym, _∙_}
 use lib.ListN.{length}
 use Rattle.type_table.specs.Tables.{attributeAt}
-use Rattle.type_table.specs.TypeTableLaws.{Passing, passing-none, passing-all, passing-next, attribute-inside}
+use Rattle.type_table.specs.TypeTableLaws.{AttributesPassed, passing-none, passing-all, passing-next, attribute-inside}
 use Rattle.type_table.proofs.attributes_end.Statement.{statement}
 use Rattle.type_table.proofs.attributes_end.Tie as tie
 
 abbrev Inv-loop : tie.InvT-loop
-Inv-loop words first at₀ at = Passing words first at
+Inv-loop words first at₀ at = AttributesPassed words first at
 
 abbrev μ-loop : tie.MeasureT-loop
 μ-loop words first at₀ at = length words - at

@@ -9,7 +9,7 @@ use lib.ListN.{take, getD, length}
 use Rattle.rules.specs.Schema.{Item}
 use Rattle.rules.specs.TypeLaws.{typesIn}
 use Rattle.schema.specs.Items.{itemsOf}
-use Rattle.type_table.specs.Tables.{attributeAt, Sized}
+use Rattle.type_table.specs.Tables.{attributeAt, TypeMeasured}
 use Rattle.type_table.specs.TypeTableLaws.{TypeStands, Sizing, sizing-none, sizing-small, sizing-next, sizing-all, stands-here, attribute-inside, passing-below}
 use Rattle.type_table.proofs.type_size.Statement.{statement}
 use Rattle.type_table.proofs.type_size.Tie as tie
@@ -38,7 +38,7 @@ value c = ap (λ (it : Item). it .value) (c .of .ensures)
 below : (c : tie.After-of Inv-loop μ-loop) → c .of .result .value < number (c .before .before .before .before .before .before .before)
 below c = rw (value c) (passing-below (c .before .before .before .before .loop .inv .passing) (here (c .before .before)) (there (c .before .before .before .before .before .before .before) .lines .below))
 
-sized : (c : tie.After-of Inv-loop μ-loop) → Sized (c .before .before .before .before .before .before .before .args .words .now) (c .of .result .value) (getD (c .before .before .before .before .before .before .before .args .table .now) (c .of .result .value) 0)
+sized : (c : tie.After-of Inv-loop μ-loop) → TypeMeasured (c .before .before .before .before .before .before .before .args .words .now) (c .of .result .value) (getD (c .before .before .before .before .before .before .before .args .table .now) (c .of .result .value) 0)
 sized c = c .before .before .before .before .before .before .before .pre .1 .1 .1 (c .of .result .value) (below c)
 
 add-at : tie.Need-add-at Inv-loop μ-loop

@@ -7,12 +7,12 @@ use borrow.Author.Needs.{needs}
 use borrow.Author.Tests.{not-true, not-false}
 use lib.ListN.{length}
 use Rattle.batches.specs.Hearings.{heardAt}
-use Rattle.batches.specs.HearingLaws.{all-stand, Merged, merged-none, merged-more, merged-not, merged-all}
+use Rattle.batches.specs.HearingLaws.{all-stand, MergedSofar, merged-none, merged-more, merged-not, merged-all}
 use Rattle.batches.proofs.merges.merges_with_earlier.Statement.{statement}
 use Rattle.batches.proofs.merges.merges_with_earlier.Tie as tie
 
 abbrev Inv-loop : tie.InvT-loop
-Inv-loop words rows places id at scratch₀ i₀ scratch i = Merged words rows places id (heardAt words at) i × (length scratch ≡ length scratch₀)
+Inv-loop words rows places id at scratch₀ i₀ scratch i = MergedSofar words rows places id (heardAt words at) i × (length scratch ≡ length scratch₀)
 
 abbrev μ-loop : tie.MeasureT-loop
 μ-loop words rows places id at scratch₀ i₀ scratch i = length rows - i

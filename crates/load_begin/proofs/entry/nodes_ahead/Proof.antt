@@ -8,12 +8,12 @@ use borrow.Author.Count.{below-more}
 use lib.ListN.{length, getD}
 use lib.Seq.{take-all}
 use Rattle.rows.specs.Words.{depthIn}
-use Rattle.load_begin.specs.EntryLaws.{Ahead, ahead-of, ahead-all}
+use Rattle.load_begin.specs.EntryLaws.{EntryAhead, ahead-of, ahead-all}
 use Rattle.load_begin.proofs.entry.nodes_ahead.Statement.{statement}
 use Rattle.load_begin.proofs.entry.nodes_ahead.Tie as tie
 
 abbrev Inv-loop : tie.InvT-loop
-Inv-loop rows i₀ i = (i ≤ length rows) × Ahead rows i
+Inv-loop rows i₀ i = (i ≤ length rows) × EntryAhead rows i
 
 abbrev μ-loop : tie.MeasureT-loop
 μ-loop rows i₀ i = length rows - i

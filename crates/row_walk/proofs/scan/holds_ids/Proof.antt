@@ -8,13 +8,13 @@ use mathlib.Core.Bool.{Bool, true, false}
 use Prim.Native.Nat.{_+_, _-_}
 use native.Mathlib.Omega.{arith}
 use Rattle.values.specs.ValueWords.{valueRowIn, valueRowsOf}
-use Rattle.row_walk.specs.ScanLaws.{rows-left, Held, held-end, held-above, held-other, held-deeper, held-entity}
+use Rattle.row_walk.specs.ScanLaws.{rows-left, IdsHeld, held-end, held-above, held-other, held-deeper, held-entity}
 use Rattle.row_walk.proofs.scan.holds_ids.Statement.{statement}
 use Rattle.row_walk.proofs.scan.holds_ids.Tie as tie
 
 abbrev Inv-loop : tie.InvT-loop
 Inv-loop values from depth i₀ i =
-    (held : Bool) → Held held depth (valueRowsOf (drop i values)) → Held held depth (valueRowsOf (drop from values))
+    (held : Bool) → IdsHeld held depth (valueRowsOf (drop i values)) → IdsHeld held depth (valueRowsOf (drop from values))
 
 abbrev μ-loop : tie.MeasureT-loop
 μ-loop values from depth i₀ i = length values - i
@@ -38,8 +38,8 @@ next-row :
     let i = c .before .before .before .loop .i in
     let words = args .values .now in
     (held : Bool)
-    → Held held (args .depth) (valueRowIn (getD words i 0) ∷ valueRowsOf (drop (i + 1) words))
-    → Held held (args .depth) (valueRowsOf (drop (args .from) words))
+    → IdsHeld held (args .depth) (valueRowIn (getD words i 0) ∷ valueRowsOf (drop (i + 1) words))
+    → IdsHeld held (args .depth) (valueRowsOf (drop (args .from) words))
 next-row c held h =
     c .before .before .before .loop .inv held
     (rw (rows-left valueRowIn (c .before .before .before .before .before .args .values .now) _ (c .before .before .loop-test .taken)) h)

@@ -6,8 +6,8 @@ use mathlib.Core.List.{List}
 use mathlib.Core.Path.{refl}
 use lib.ListN.{length}
 use Rattle.rules.specs.ValueTexts.{EntityRead}
-use Rattle.store_text.specs.Entities.{Holds}
-use Rattle.store_text.specs.Answering.{EntityStands}
+use Rattle.store_text.specs.Entities.{HoldsEntities}
+use Rattle.store_text.specs.Answering.{EntityFoundAt}
 use Rattle.store_text.specs.AnswerLaws.{ancestor-ids, set-written, set-absent}
 use borrow.Author.Needs.{needs}
 use Rattle.store_text.proofs.answering.answer_ancestors.Statement.{statement}
@@ -16,7 +16,7 @@ use Rattle.store_text.proofs.answering.answer_ancestors.Tie as tie
 -- the entity at a place has the id
 stands : (c : tie.After-known-told) (es : List EntityRead) →
     let a = c .before .before .before .before .before .before .before .before .args in
-    Holds (a .words .now) es → EntityStands (a .words .now) (a .id) (c .before .at .given .0 .0) es
+    HoldsEntities (a .words .now) es → EntityFoundAt (a .words .now) (a .id) (c .before .at .given .0 .0) es
 stands c es holds = rw (c .before .at .given .1) at (c .before .before .before .find-entity .ensures .there es holds)
 
 inside : (c : tie.After-known-told) → c .before .at .given .0 .0 < length (c .before .before .before .before .before .before .before .before .args .words .now)

@@ -5,8 +5,8 @@ use mathlib.Core.Path.{_≡_, refl}
 use Rattle.rules.specs.ValueTexts.{EntityRead}
 use mathlib.Core.List.{List}
 use mathlib.Core.Option.{none}
-use Rattle.store_text.specs.Entities.{Holds}
-use Rattle.store_text.specs.Answering.{entityOf, EntityStands}
+use Rattle.store_text.specs.Entities.{HoldsEntities}
+use Rattle.store_text.specs.Answering.{entityOf, EntityFoundAt}
 use borrow.Author.Needs.{needs}
 use Rattle.store_text.proofs.answering.answer_row.Statement.{statement}
 use Rattle.store_text.proofs.answering.answer_row.Tie as tie
@@ -14,12 +14,12 @@ use Rattle.store_text.proofs.answering.answer_row.Tie as tie
 -- no entity has the id, or the one at a place
 absent : (c : tie.After-enum-told) (es : List EntityRead) →
     let a = c .before .before .before .before .before .args in
-    Holds (a .words .now) es → entityOf (a .id) es ≡ none
+    HoldsEntities (a .words .now) es → entityOf (a .id) es ≡ none
 absent c es holds = rw (c .enum-told .given .1) at (c .before .before .find-entity .ensures .there es holds)
 
 stands : (c : tie.After-known-told) (es : List EntityRead) →
     let a = c .before .before .before .before .before .before .args in
-    Holds (a .words .now) es → EntityStands (a .words .now) (a .id) (c .before .at .given .0 .0) es
+    HoldsEntities (a .words .now) es → EntityFoundAt (a .words .now) (a .id) (c .before .at .given .0 .0) es
 stands c es holds = rw (c .before .at .given .1) at (c .before .before .before .find-entity .ensures .there es holds)
 
 find-entity-requires : tie.Need-find-entity-requires

@@ -8,7 +8,7 @@ use mathlib.Core.Path.{_≡_, refl, _∙_}
 use lib.ListN.{length, getD, length-map, length-set, List·getD-map}
 use Rattle.rules.specs.MergeLaws.{IdsFrom}
 use Rattle.store_text.specs.Answering.{idIn}
-use Rattle.store_text.specs.AnswerLaws.{Merging, merging-none, merging-asked, merging-us, merging-below, merging-same, merging-above}
+use Rattle.store_text.specs.AnswerLaws.{AmongMerged, merging-none, merging-asked, merging-us, merging-below, merging-same, merging-above}
 use borrow.Author.Needs.{needs}
 use Rattle.store_text.proofs.answering.write_among.Statement.{statement}
 use Rattle.store_text.proofs.answering.write_among.Tie as tie
@@ -20,7 +20,7 @@ Inv-loop ancestors asked out₀ to next₀ i₀ j₀ out next i j =
     × (i ≤ length asked)
     × (j ≤ length ancestors)
     × (length out ≡ length out₀)
-    × (IdsFrom 0 (map idIn ancestors) → IdsFrom 0 asked → Merging (map idIn ancestors) asked out₀ to out next i j)
+    × (IdsFrom 0 (map idIn ancestors) → IdsFrom 0 asked → AmongMerged (map idIn ancestors) asked out₀ to out next i j)
 
 abbrev μ-loop : tie.MeasureT-loop
 μ-loop ancestors asked out₀ to next₀ i₀ j₀ out next i j = length asked - i + (length ancestors - j)

@@ -8,15 +8,15 @@ use mathlib.Core.Path.{_≡_, refl, _∙_}
 use lib.ListN.{length, drop, length-drop}
 use lib.Seq.{length-take-le}
 use Rattle.rules.specs.ValueTexts.{EntityRead}
-use Rattle.store_text.specs.Entities.{Holds}
-use Rattle.store_text.specs.OrderLaws.{Passing, Parts, passing-none, passing-all, next-pass, passing-found, passing-next}
+use Rattle.store_text.specs.Entities.{HoldsEntities}
+use Rattle.store_text.specs.OrderLaws.{EntitiesPassed, Parts, passing-none, passing-all, next-pass, passing-found, passing-next}
 use borrow.Author.Needs.{needs}
 use Rattle.store_text.proofs.order.first_unordered.Statement.{statement}
 use Rattle.store_text.proofs.order.first_unordered.Tie as tie
 
 abbrev Inv-loop : tie.InvT-loop
 Inv-loop words levels₀ i₀ levels i =
-    (length levels ≡ length levels₀) × (i ≤ length words) × ((es : List EntityRead) → Holds words es → Passing words es i)
+    (length levels ≡ length levels₀) × (i ≤ length words) × ((es : List EntityRead) → HoldsEntities words es → EntitiesPassed words es i)
 
 abbrev μ-loop : tie.MeasureT-loop
 μ-loop words levels₀ i₀ levels i = length words - i

@@ -7,7 +7,7 @@ use lib.ListN.{length, length-drop}
 use lib.Seq.{length-take-le}
 use Rattle.words.specs.Runs.{stored}
 use Rattle.store_text.specs.Entities.{OrderFound}
-use Rattle.store_text.specs.Outcomes.{Passed}
+use Rattle.store_text.specs.Outcomes.{TextJudged}
 use Rattle.store_text.specs.ReadLaws.{order-refused, order-broken, order-kept}
 use borrow.Author.Needs.{needs}
 use Rattle.store_text.proofs.reading.read_ordered.Statement.{statement}
@@ -16,7 +16,7 @@ use Rattle.store_text.proofs.reading.read_ordered.Tie as tie
 -- every line has passed: the words that are stored, and how many there are
 passed : (c : tie.After-known-told2) →
     let read = c .before .before .before .before .before .before in
-    Passed (read .before .before .before .before .before .args .text .now) (read .read-lines .last .1 .0) (c .before .count .given .0 .0)
+    TextJudged (read .before .before .before .before .before .args .text .now) (read .read-lines .last .1 .0) (c .before .count .given .0 .0)
 passed c = rw (c .before .count .given .1) at (c .before .before .before .before .before .before .read-lines .ensures)
 
 words-kept : (c : tie.After-known-told2) → length (c .before .before .before .before .before .before .read-lines .last .1 .0) ≡ 16385

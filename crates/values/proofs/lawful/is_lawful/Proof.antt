@@ -9,12 +9,12 @@ use lib.ListN.{length, take, length-set}
 use lib.Seq.{length-take-le}
 use mathlib.Core.Bool.{true}
 use Rattle.values.specs.Lawful.{levelsIn, comesAt}
-use Rattle.values.specs.LawfulLaws.{Passed, passed-none, passed-all, passed-bad, passed-depth, passed-next}
+use Rattle.values.specs.LawfulLaws.{RowsPassed, passed-none, passed-all, passed-bad, passed-depth, passed-next}
 use Rattle.values.proofs.lawful.is_lawful.Statement.{statement}
 use Rattle.values.proofs.lawful.is_lawful.Tie as tie
 
 abbrev Inv-loop : tie.InvT-loop
-Inv-loop words levels₀ len₀ i₀ levels len i = (length levels ≡ length levels₀) × Passed words levels len i
+Inv-loop words levels₀ len₀ i₀ levels len i = (length levels ≡ length levels₀) × RowsPassed words levels len i
 
 abbrev μ-loop : tie.MeasureT-loop
 μ-loop words levels₀ len₀ i₀ levels len i = length words - i
