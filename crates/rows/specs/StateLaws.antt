@@ -6,7 +6,7 @@ use mathlib.Core.List.{List, [], _∷_}
 use native.Mathlib.Omega.{arith}
 use borrow.Author.Tests.{le-leb, lt-leb, ltb-true, leb-true, eqb-true}
 use lib.Dec.{ltb, leb, eqb}
-use lib.ListN.{length, getD}
+use lib.ListN.{length, getD, length-map, length-take, length-drop}
 use Rattle.rules.specs.Facts.{by-test, both-true}
 use Rattle.rules.specs.Tries.{Row, Form, count, entriesIn, nodesIn, isEntry, ordered, found, lawful}
 use Rattle.words.specs.Runs.{wordsIn}
@@ -77,6 +77,16 @@ pub all-rows : (rows : List Row) → entriesIn rows + nodesIn rows ≡ length ro
 unfolding count
 all-rows [] = refl
 all-rows (row ∷ rows) = by-test (isEntry row) (λ e. rw e (omega (arith, all-rows rows))) (λ e. rw e (omega (arith, all-rows rows)))
+
+-- a state that counts more rows than its kind has room for is not lawful
+pub lawful-many : (kind : Kind) (state : List ℕ) → wordsOf kind ≤ getD state 0 0 → lawfulState (formOf kind) state ≡ false
+lawful-many kind state many =
+    by-test (lawfulState (formOf kind) state)
+    (λ e.
+      let held : getD state 0 0 < length state = count-within (formOf kind) state e in
+      let counted : length (rowsIn state) ≡ getD state 0 0 = simp (length-map, length-take, length-drop) (omega arith) in
+      absurd (omega (arith, limits-kept kind state e, kind-room kind, all-rows (rowsIn state), counted)))
+    (λ e. e)
 
 -- ---- places, by what was tested
 

@@ -80,6 +80,10 @@ pub fn is_lawful(kind: Kind, state: &[u64]) -> bool
         return false;
     }
     let count = state[0];
+    // what lies past the length of its kind is not looked at
+    if kind.words() as u64 <= count {
+        return false;
+    }
     let room = state.len() as u64;
     if room <= count {
         return false;
