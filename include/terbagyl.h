@@ -81,6 +81,39 @@ enum {
     TERBAGYL_REFUSED_BUFFER = 31         /* a lent buffer is too short */
 };
 
+/* What a number says, in words. Not for a program to compare: the number is the promise. */
+static inline const char *terbagyl_reason(uint64_t number)
+{
+    switch (number) {
+    case TERBAGYL_DONE: return "done";
+    case TERBAGYL_REFUSED_FORM: return "a line or field is not of the stated form, or a lent state is not lawful";
+    case TERBAGYL_REFUSED_ORDER: return "listing order, or depth more than one above the line before, or N before any A";
+    case TERBAGYL_REFUSED_DEPTH: return "a position would exceed 24 steps";
+    case TERBAGYL_REFUSED_NODES: return "over 1,024 nodes in a contribution or 4,096 in a manifest";
+    case TERBAGYL_REFUSED_REQUEST_TYPES: return "a 65th request type";
+    case TERBAGYL_REFUSED_RESULTS: return "too few results, over 32, or not one at the end";
+    case TERBAGYL_REFUSED_SET: return "a set is dereferenced";
+    case TERBAGYL_REFUSED_LITERAL: return "a literal against its type";
+    case TERBAGYL_REFUSED_MISSING: return "the schema lacks this entity";
+    case TERBAGYL_REFUSED_NOT_STRICT: return "not strict: any-entity, an entity type with several names, or an unknown one";
+    case TERBAGYL_REFUSED_LEAF: return "children on a leaf type";
+    case TERBAGYL_REFUSED_COUNT: return "another count of answers than of rows";
+    case TERBAGYL_REFUSED_MERGE: return "two answers to one entity do not agree";
+    case TERBAGYL_REFUSED_VALUE: return "a value is not of a kind that the manifest can read there";
+    case TERBAGYL_REFUSED_LIMIT:
+        return "over 256 path nodes in a result, 8,192 loaded values, parents and ancestor ids, or 256 distinct ids in one ancestors request";
+    case TERBAGYL_REFUSED_TURN: return "a load call out of turn";
+    case TERBAGYL_REFUSED_BUFFER: return "a lent buffer is too short";
+    default: return "a number that docs/FORMS.md does not have";
+    }
+}
+
+/* ---- The version: the first number times 65,536, and the second. This header is of version 0.2. */
+#define TERBAGYL_VERSION 2u
+
+/* The version of the library that is linked. */
+uint64_t terbagyl_version(void);
+
 /* ---- What `has` says beside 0. */
 enum { TERBAGYL_MISSING = 0, TERBAGYL_THERE = 1, TERBAGYL_MARKED = 2 };
 

@@ -34,7 +34,7 @@ static void fail(const char *what)
 static void must(uint64_t number, const char *what)
 {
     if (number != TERBAGYL_DONE) {
-        fprintf(stderr, "clinic: %s: refused %" PRIu64 " at %" PRIu64 "\n", what, number, value);
+        fprintf(stderr, "clinic: %s: refused %" PRIu64 " at %" PRIu64 ": %s\n", what, number, value, terbagyl_reason(number));
         exit(1);
     }
 }

@@ -67,3 +67,13 @@ pub use place::{Held, RequestType, Step};
 pub use refusal::{Counted, Refusal};
 pub use rows::{Entries, Entry, Node, NodeType, Nodes, Positions};
 pub use value::{Entity, Value};
+
+/// The version of the library that is linked: its first number and its second.
+///
+/// ```
+/// assert_eq!(terbagyl::version(), (0, 2));
+/// ```
+pub fn version() -> (u64, u64) {
+    let version = raw::version();
+    (version >> 16, version & 0xffff)
+}

@@ -18,6 +18,7 @@ pub const SETS: usize = 24_577;
 pub const SLICE: usize = 12_289;
 
 extern "C" {
+    fn terbagyl_version() -> u64;
     fn terbagyl_empty_manifest(manifest: *mut u64, manifest_len: usize, value: *mut u64) -> u64;
     fn terbagyl_add(manifest: *mut u64, manifest_len: usize, contribution: *const u64, contribution_len: usize, value: *mut u64) -> u64;
     fn terbagyl_unite_manifests(manifest: *mut u64, manifest_len: usize, other: *const u64, other_len: usize, value: *mut u64) -> u64;
@@ -95,6 +96,10 @@ fn load_told(call: impl FnOnce([*mut u64; 3]) -> u64) -> Result<Told, Refusal> {
 
 // SAFETY, of every block below: each pointer and length are those of one live array or slice, whose length is at least what the library asks
 // for; what the library writes is borrowed mutably, or is a local of `told` or `load_told`, so that nothing else refers to it.
+
+pub fn version() -> u64 {
+    unsafe { terbagyl_version() }
+}
 
 pub fn empty_manifest(manifest: &mut [u64; MANIFEST]) -> Result<(), Refusal> {
     told(|value| unsafe { terbagyl_empty_manifest(manifest.as_mut_ptr(), MANIFEST, value) }).map(drop)

@@ -11,6 +11,10 @@ use Rattle.rows.specs.declared.place.Held.the-variants.{Missing, There, Unheld}
 use Rattle.listing.specs.declared.whole.Written.{Written}
 use Rattle.listing.specs.declared.whole.Written.the-variants.{Bytes, Refused as Unwritten}
 
+-- version 0.2: the first number times 65,536, and the second
+abbrev pub version : ℕ
+version = 2
+
 abbrev pub replyNumber : Reply → ℕ
 replyNumber Done = 0
 replyNumber (Refused number place) = number

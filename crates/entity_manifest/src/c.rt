@@ -9,12 +9,20 @@ ghost use Rattle.schema_text.specs.Outcomes.{readSchemaIn};
 ghost use Rattle.analysis.specs.Outcomes.{analyseIn, addPolicyIn};
 ghost use Rattle.type_annotations.specs.Outcomes.{typedIn};
 ghost use Rattle.rows.specs.declared.Kind.the-variants.{Contribution, Manifest};
-ghost use Rattle.entity_manifest.specs.Numbers.{replyNumber, replyPlace, ToldAs, writtenNumber, writtenValue, heldNumber, heldValue};
+ghost use Rattle.entity_manifest.specs.Numbers.{version, replyNumber, replyPlace, ToldAs, writtenNumber, writtenValue, heldNumber, heldValue};
 use listing::Written;
 use manifest::EntityManifest;
 use rows::Held;
 use rows::Kind;
 use words::Reply;
+
+// The version of the library: its first number times 65,536, and its second.
+#[no_mangle]
+pub extern "C" fn terbagyl_version() -> u64
+    ensures { λ r. ⌜ r ≡ version ⌝ }
+{
+    2
+}
 
 // A reply as its number, its place beside it.
 fn tell(reply: Reply, value: &mut u64) -> u64

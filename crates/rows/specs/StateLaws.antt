@@ -83,9 +83,9 @@ pub lawful-many : (kind : Kind) (state : List ℕ) → wordsOf kind ≤ getD sta
 lawful-many kind state many =
     by-test (lawfulState (formOf kind) state)
     (λ e.
-      let held : getD state 0 0 < length state = count-within (formOf kind) state e in
-      let counted : length (rowsIn state) ≡ getD state 0 0 = simp (length-map, length-take, length-drop) (omega arith) in
-      absurd (omega (arith, limits-kept kind state e, kind-room kind, all-rows (rowsIn state), counted)))
+    let held : getD state 0 0 < length state = count-within (formOf kind) state e in
+    let counted : length (rowsIn state) ≡ getD state 0 0 = simp (length-map, length-take, length-drop) (omega arith) in
+    absurd (omega (arith, limits-kept kind state e, kind-room kind, all-rows (rowsIn state), counted)))
     (λ e. e)
 
 -- ---- places, by what was tested
