@@ -7,7 +7,7 @@ ghost use Rattle.rules.specs.Listing.{read, refusal as refusalOf};
 ghost use Rattle.listing_lines.specs.Lines.{RowFits};
 ghost use Rattle.listing.specs.Reads.{formFor, sofarIn, numbered, RowRoom, RowTaken, rowsBy, rowWords, rowsGot, rowCount};
 use listing_lines::ParsedRow;
-use listing_lines::parse;
+use listing_reader::read_row;
 use rows::Kind;
 use rows::Limits;
 use rows::Row;
@@ -120,7 +120,7 @@ pub fn read_rows(limits: Limits, text: &[u8], rows: &mut [u64]) -> GotRows
     let mut at = 0;
     let mut line: u64 = 0;
     while at < text.len() {
-        let ParsedRow::Of(depth, step, marked, end) = parse(text, at) else {
+        let ParsedRow::Of(depth, step, marked, end) = read_row(text, at) else {
             return GotRows::Refused(1, line);
         };
         let took = take_row(limits, depth, step, marked, &mut path, rows, sofar);

@@ -60,7 +60,7 @@ fn request_at(text: &[u8], at: usize) -> Opened
     requires { ⌜ at < length (now text) ⌝ }
     ensures { λ r. ⌜ requestRead r ≡ requestOfRow (rowAt (now (text .entry)) at) ⌝ }
 {
-    let ParsedRow::Of(depth, step, _, _) = listing_lines::parse(text, at) else {
+    let ParsedRow::Of(depth, step, _, _) = listing_reader::read_row(text, at) else {
         return Opened::Other;
     };
     if depth != 0 {

@@ -8,8 +8,8 @@ use Rattle.policy_runs.specs.PolicyRuns.{requestOfRow}
 use Rattle.policy_runs.proofs.request_at.Statement.{statement}
 use Rattle.policy_runs.proofs.request_at.Tie as tie
 
-parse-requires : tie.Need-parse-requires
-parse-requires c κs = search needs
+read-row-requires : tie.Need-read-row-requires
+read-row-requires c κs = search needs
 
 enum-known-depth : tie.Need-enum-known-depth
 enum-known-depth c = search needs
@@ -18,18 +18,18 @@ enum-told : tie.Need-enum-told
 enum-told c = search needs
 
 returns : tie.Need-returns
-returns c = ap requestOfRow (sym (ap rowRead (c .enum-told .given .1)) ∙ c .before .before .parse .ensures)
+returns c = ap requestOfRow (sym (ap rowRead (c .enum-told .given .1)) ∙ c .before .before .read-row .ensures)
 
 returns-2 : tie.Need-returns-2
 returns-2 c =
     let read-so = c .before .before .depth .given in
-    rw (ne-eqb (read-so .0 .0) 0 (c .if1 .taken)) at (ap requestOfRow (sym (ap rowRead (read-so .1)) ∙ c .before .before .before .before .parse .ensures))
+    rw (ne-eqb (read-so .0 .0) 0 (c .if1 .taken)) at (ap requestOfRow (sym (ap rowRead (read-so .1)) ∙ c .before .before .before .before .read-row .ensures))
 
 returns-3 : tie.Need-returns-3
 returns-3 c =
     let read-so = c .before .before .depth .given in
-    rw (eq-eqb (read-so .0 .0) 0 (c .if1 .left)) at (ap requestOfRow (sym (ap rowRead (read-so .1)) ∙ c .before .before .before .before .parse .ensures))
+    rw (eq-eqb (read-so .0 .0) 0 (c .if1 .left)) at (ap requestOfRow (sym (ap rowRead (read-so .1)) ∙ c .before .before .before .before .read-row .ensures))
 
 pub request-at-spec : {M : Type 1} → statement M
 request-at-spec =
-    tie.close (tie.spec parse-requires enum-known-depth enum-told returns returns-2 returns-3)
+    tie.close (tie.spec read-row-requires enum-known-depth enum-told returns returns-2 returns-3)

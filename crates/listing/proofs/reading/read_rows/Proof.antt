@@ -25,7 +25,7 @@ row-at c = let parts = c .depth .given .0 in read (parts .0) (parts .1 .0) (part
 
 row-read : (c : tie.After-depth Inv-loop μ-loop) → rowAt (c .before .before .before .before .before .before .before .args .text .now)
     (c .before .before .before .before .loop .at) ≡ some (row-at c, c .depth .given .0 .1 .1 .1 .0)
-row-read c = sym (c .before .before .parse .ensures) ∙ ap rowRead (c .depth .given .1)
+row-read c = sym (c .before .before .read-row .ensures) ∙ ap rowRead (c .depth .given .1)
 
 within : (c : tie.After-depth Inv-loop μ-loop) → (c .before .before .before .before .loop .at ≤ c .depth .given .0 .1 .1 .1 .0)
     × (c .depth .given .0 .1 .1 .1 .0 < length (c .before .before .before .before .before .before .before .args .text .now))
@@ -38,8 +38,8 @@ loop-holds c = (
   refl,
 )
 
-parse-requires : tie.Need-parse-requires Inv-loop μ-loop
-parse-requires c κs = search needs
+read-row-requires : tie.Need-read-row-requires Inv-loop μ-loop
+read-row-requires c κs = search needs
 
 enum-known-depth : tie.Need-enum-known-depth Inv-loop μ-loop
 enum-known-depth c = search needs
@@ -52,7 +52,7 @@ same-length c = c .before .before .before .before .loop .inv .1
 
 returns : tie.Need-returns Inv-loop μ-loop
 returns c =
-    let unread = sym (c .before .before .parse .ensures) ∙ ap rowRead (c .enum-told .given .1) in
+    let unread = sym (c .before .before .read-row .ensures) ∙ ap rowRead (c .enum-told .given .1) in
     (reading-unread (c .before .before .before .before .loop .inv .0) unread (c .before .before .before .loop-test .taken), omega arith)
 
 slice-aggregate-take-row : tie.Need-slice-aggregate-take-row Inv-loop μ-loop
@@ -119,7 +119,7 @@ read-rows-spec =
     Inv-loop
     μ-loop
     loop-holds
-    parse-requires
+    read-row-requires
     enum-known-depth
     enum-told
     same-length
