@@ -1,27 +1,51 @@
 -- Laws of judging and writing all ancestors requests. No contract cites this file.
-use Prim.Native.Nat.{ℕ, suc, _+_, _≤_, _<_}
+use Prim.Native.Nat.{ℕ, suc, _+_, _-_, _≤_, _<_}
 use native.Mathlib.Numerals.{add-one}
 use native.Mathlib.Omega.{arith}
 use mathlib.Core.Path.{_≡_, refl, sym, ap, _∙_}
-use mathlib.Core.List.{List, [], _∷_, _++_, flatten, map-append, append-assoc, append-nil}
+use mathlib.Core.Bool.{false}
+use mathlib.Core.List.{List, [], _∷_, _++_, flatten, map, map-append, append-assoc, append-nil}
 use lib.ListN.{length, take, drop, getD, set, length-append, length-map, drop-of-length-le}
 use lib.Seq.{sets, length-sets, length-take-le, take-all, take-suc}
 use Rattle.rules.specs.Tries.{Row}
-use Rattle.rules.specs.Loading.{LoadAnswer, done, refusedAt, counted, _then_, Request, EntityRequest, Loaded, ancestorsRequest, ancestorsRequests}
+use Rattle.rules.specs.Loading.{LoadAnswer, done, refusedAt, counted, _then_, Request, EntityRequest, Loaded, hasChild, ancestorsRequest, ancestorsRequests}
 use Rattle.words.specs.Runs.{Wrote}
 use Rattle.words.specs.RunLaws.{wrote-more}
 use Rattle.words.specs.SeqLaws.{sets-snoc, set-before}
 use Rattle.words.specs.declared.Reply.{Reply}
 use Rattle.words.specs.declared.Reply.the-variants.{Done, Refused as RefusedReply}
+use Rattle.rows.specs.Words.{rowIn, depthIn}
+use Rattle.rows.specs.States.{rowsOf}
 use Rattle.values.specs.ValueWords.{rowAsked}
+use Rattle.row_walk.specs.RowWalks.{childTest}
+use Rattle.row_walk.specs.BatchLaws.{drop-map}
 use Rattle.row_walk.specs.ScanLaws.{rows-left}
 use Rattle.ancestors.specs.Sets.{idsOf}
 use Rattle.slices.specs.Slices.{rowsAsked}
 use Rattle.ancestors.specs.Takings.{Asks}
-use Rattle.ancestors.specs.Requests.{headOf, heads, JudgedAs, MayWrite, WrittenAs, RoomFor, RequestsAnswered}
+use Rattle.ancestors.specs.Requests.{rootsBelow, headOf, heads, JudgedAs, MayWrite, WrittenAs, RoomFor, RequestsAnswered}
+use Rattle.ancestors.specs.RoomLaws.{none-asked}
 use Rattle.ancestors.specs.declared.events.Next.{Next}
 use Rattle.ancestors.specs.declared.events.Next.the-variants.{To, Refused}
 use Rattle.ancestors.specs.declared.events.Taken.{Taken}
+
+-- ---- whether a node has an ancestors trie
+
+pub roots-past : (nodes : List ℕ) (n : ℕ) → length nodes ≤ n → rootsBelow (drop n (rowsOf nodes)) ≡ false
+roots-past nodes n h = ap rootsBelow (drop-map rowIn n nodes ∙ ap (map rowIn) (drop-of-length-le nodes h))
+
+pub roots-there :
+    (nodes : List ℕ) (n : ℕ)
+    → n < length nodes
+    → rootsBelow (drop n (rowsOf nodes)) ≡ hasChild (childTest false) (depthIn (getD nodes n 0)) (rowsOf (drop (n + 1) nodes))
+roots-there nodes n inside = ap rootsBelow (drop-map rowIn n nodes ∙ rows-left rowIn nodes n inside)
+
+-- ---- judged
+
+-- the ids that are asked for
+pub asked-done :
+    {answer : ℕ → LoadAnswer (List ℕ)} {r : Taken} {len : ℕ} → Asks answer r → r .next ≡ To len → (place : ℕ) → answer place ≡ done (idsOf (r .set))
+asked-done asks is place = asks .asks place ∙ rw is
 
 module _ (request : Request) (nodes : List Row) (slice : List Loaded) (asked : List ℕ) where
   -- the requests from a row on
@@ -59,33 +83,38 @@ module _ (request : Request) (nodes : List Row) (slice : List Loaded) (asked : L
       unfolding ancestorsRequests
       next-request = ap (ancestorsRequests request nodes slice i) (rows-left rowAsked asked i inside) ∙ rw (← add-one i)
 
-      module _ {r : Taken} (asks : Asks (λ place. ancestorsRequest request nodes slice place (rowAsked (getD asked i 0))) r) where
-        -- the next is refused
-        refused-all : {number : ℕ} → r .next ≡ Refused number → requestsFrom 0 ≡ refusedAt number i
-        refused-all {number} is =
-            let e : ancestorsRequest request nodes slice i (rowAsked (getD asked i 0)) ≡ refusedAt number i = asks .asks i ∙ rw is in
-            judging .sofar ∙ rw (next-request, e)
+      -- the next is refused
+      refused-all : {number : ℕ} → ancestorsRequest request nodes slice i (rowAsked (getD asked i 0)) ≡ refusedAt number i → requestsFrom 0
+          ≡ refusedAt number i
+      refused-all e = judging .sofar ∙ rw (next-request, e)
 
-        pub judged-refused : {number : ℕ} → r .next ≡ Refused number → JudgedAs (requestsFrom 0) (RefusedReply number i)
-        judged-refused is = rw (refused-all is) refl
+      pub judged-refused :
+          {r : Taken} {number : ℕ}
+          → Asks (λ place. ancestorsRequest request nodes slice place (rowAsked (getD asked i 0))) r
+          → r .next ≡ Refused number
+          → JudgedAs (requestsFrom 0) (RefusedReply number i)
+      judged-refused {number = number} asks is = rw (refused-all {number = number} (asks .asks i ∙ rw is)) refl
 
-        -- it is done
-        pub judging-next : {len : ℕ} → r .next ≡ To len → Judging (i + 1)
-        judging-next is =
-            let e : ancestorsRequest request nodes slice i (rowAsked (getD asked i 0)) ≡ done (idsOf (r .set)) = asks .asks i ∙ rw is in
-            record {
-              front = judging .front ++ (idsOf (r .set) ∷ []);
-              as-many = omega (arith, length-append (judging .front) (idsOf (r .set) ∷ []), judging .as-many);
-              sofar = judging .sofar ∙ rw (next-request, e) (go (requestsFrom (i + 1)));
-            }
-          where
-            go :
-                (o : LoadAnswer (List (List ℕ)))
-                → o then (λ more. done (idsOf (r .set) ∷ more)) then (λ more. done (judging .front ++ more))
-                ≡ o then (λ more. done (judging .front ++ (idsOf (r .set) ∷ []) ++ more))
-            go (done more) = rw (append-assoc (judging .front) (idsOf (r .set) ∷ []) more)
-            go (refusedAt m n) = refl
-            go (counted m n) = refl
+      -- it is done
+      pub judging-next :
+          {wanted : List ℕ} → ancestorsRequest request nodes slice i (rowAsked (getD asked i 0)) ≡ done wanted → Judging (i + 1)
+      judging-next {wanted} e = record {
+        front = judging .front ++ (wanted ∷ []);
+        as-many = omega (arith, length-append (judging .front) (wanted ∷ []), judging .as-many);
+        sofar = judging .sofar ∙ rw (next-request, e) (go (requestsFrom (i + 1)));
+      }
+        where
+          go :
+              (o : LoadAnswer (List (List ℕ)))
+              → o then (λ more. done (wanted ∷ more)) then (λ more. done (judging .front ++ more))
+              ≡ o then (λ more. done (judging .front ++ (wanted ∷ []) ++ more))
+          go (done more) = rw (append-assoc (judging .front) (wanted ∷ []) more)
+          go (refusedAt m n) = refl
+          go (counted m n) = refl
+
+      -- its node has no ancestors trie
+      pub judging-empty : rootsBelow (drop (rowAsked (getD asked i 0) .node) nodes) ≡ false → Judging (i + 1)
+      judging-empty none = judging-next (none-asked request nodes slice i (rowAsked (getD asked i 0)) none)
 
 -- ---- as words
 
@@ -126,7 +155,28 @@ sets-both out xs ys at =
     record { after = refl; text = refl } in
     wrote-more first second .text
 
+-- The request for a row is done, and its few ids are written.
+pub record IdsWritten
+    (request : Request) (nodes : List Row) (slice : List Loaded) (asked : List ℕ) (i : ℕ) (out : List ℕ) (at : ℕ) (out′ : List ℕ) (at′ : ℕ)
+    : Type 0 where
+  pub wanted : List ℕ
+  pub is : ancestorsRequest request nodes slice i (rowAsked (getD asked i 0)) ≡ done wanted
+  pub wrote : Wrote out at wanted out′ at′
+  pub few : length wanted ≤ 256
+
 module _ (request : Request) (nodes : List Row) (slice : List Loaded) (asked : List ℕ) where
+  -- its node has no ancestors trie
+  pub no-ids :
+      {i : ℕ} (out : List ℕ) (at : ℕ)
+      → rootsBelow (drop (rowAsked (getD asked i 0) .node) nodes) ≡ false
+      → IdsWritten request nodes slice asked i out at out at
+  no-ids {i} out at none = record {
+    wanted = [];
+    is = none-asked request nodes slice i (rowAsked (getD asked i 0)) none;
+    wrote = record { after = omega arith; text = refl };
+    few = omega arith;
+  }
+
   abbrev whole : LoadAnswer (List (List ℕ))
   whole = requestsFrom request nodes slice asked 0
 
@@ -177,63 +227,76 @@ module _ (request : Request) (nodes : List Row) (slice : List Loaded) (asked : L
         ∙ ap (λ l. sets l (length asked + 1) (flatten front)) (set-before out₀ 0 (length asked) 1 hs (omega arith))
         ∙ rw place (sets-both (set out₀ 0 (length asked)) hs (flatten front) 1))
 
-    module _ (inside : i < length asked) {r : Taken} (asks : Asks (λ place. ancestorsRequest request nodes slice place (rowAsked (getD asked i 0))) r) where
-      -- the next is not refused
-      must : (len : ℕ) × (r .next ≡ To len)
-      must = go (r .next) refl
+    module _ (inside : i < length asked) where
+      -- the next is not refused: it asks for the ids of the set
+      pub asked-ids :
+          {r : Taken}
+          → Asks (λ place. ancestorsRequest request nodes slice place (rowAsked (getD asked i 0))) r
+          → ancestorsRequest request nodes slice i (rowAsked (getD asked i 0)) ≡ done (idsOf (r .set))
+      asked-ids {r} asks = go (r .next) refl
         where
-          go : (next : Next) → r .next ≡ next → (len : ℕ) × (r .next ≡ To len)
-          go (To len) e = (len, e)
+          go : (next : Next) → r .next ≡ next → ancestorsRequest request nodes slice i (rowAsked (getD asked i 0)) ≡ done (idsOf (r .set))
+          go (To len) e = asked-done asks e i
           go (Refused number) e =
-              absurd (let z : _≡_ {A = ℕ} 0 1 = cc (refused-all request nodes slice asked (writing .judging) inside asks e, may .is-done) in omega arith)
+              absurd
+              (let z : _≡_ {A = ℕ} 0 1 =
+              cc (refused-all request nodes slice asked (writing .judging) inside {number = number} (asks .asks i ∙ rw e), may .is-done) in
+              omega arith)
 
-      next : Judging request nodes slice asked (i + 1)
-      next = let (len, is) = must in judging-next request nodes slice asked (writing .judging) inside asks is
+      module _ {wanted : List ℕ} (is : ancestorsRequest request nodes slice i (rowAsked (getD asked i 0)) ≡ done wanted) where
+        next : Judging request nodes slice asked (i + 1)
+        next = judging-next request nodes slice asked (writing .judging) inside is
 
-      next-front : next .front ≡ front ++ (idsOf (r .set) ∷ [])
-      unfolding next judging-next
-      next-front = refl
+        next-front : next .front ≡ front ++ (wanted ∷ [])
+        unfolding next judging-next
+        next-front = refl
 
-      -- there is room for its ids
-      pub writing-room : at + length (idsOf (r .set)) ≤ length out₀
-      writing-room =
-          let (more, is) = front-of next (may .lists) (may .is-done) in
-          let all : length (flatten (may .lists)) ≡ length (flatten front) + length (idsOf (r .set)) + length (flatten more) =
-          ap (λ l. length (flatten l)) (is ∙ ap (λ l. l ++ more) next-front) ∙ flatten-length front (idsOf (r .set)) more in
-          omega (arith, all, may .room, writing .after)
+        -- there is room for its ids
+        pub writing-room : at + length wanted ≤ length out₀
+        writing-room =
+            let (more, are) = front-of next (may .lists) (may .is-done) in
+            let all : length (flatten (may .lists)) ≡ length (flatten front) + length wanted + length (flatten more) =
+            ap (λ l. length (flatten l)) (are ∙ ap (λ l. l ++ more) next-front) ∙ flatten-length front wanted more in
+            omega (arith, all, may .room, writing .after)
 
-      -- its head and its ids are written
+      -- its ids and its head are written
       pub writing-next :
-          {word : ℕ} {out₂ : List ℕ} {at₂ : ℕ}
-          → word ≡ headOf (rowAsked (getD asked i 0) .id) (r .set .len)
-          → Wrote (set out (i + 1) word) at (idsOf (r .set)) out₂ at₂
-          → Writing out₀ out₂ at₂ (i + 1)
-      writing-next {word} {out₂} {at₂} is-head wrote =
-          let wanted : List ℕ = idsOf (r .set) in
+          {out₁ : List ℕ} {at₁ word : ℕ} (ids : IdsWritten request nodes slice asked i out at out₁ at₁)
+          → word ≡ headOf (rowAsked (getD asked i 0) .id) (at₁ - at)
+          → Writing out₀ (set out₁ (i + 1) word) at₁ (i + 1)
+      writing-next {out₁} {at₁} {word} ids is-head =
+          let wanted : List ℕ = ids .wanted in
           let hs : List ℕ = heads (rowsAsked (take i asked)) front in
-          let many : length wanted ≡ r .set .len = length-take-le (r .set .len) (r .set .ids) (omega (arith, asks .is-set .places, asks .is-set .few)) in
+          let many : at₁ - at ≡ length wanted = omega (arith, ids .wrote .after) in
           let head : ℕ = headOf (rowAsked (getD asked i 0) .id) (length wanted) in
+          let is : word ≡ head = is-head ∙ rw many in
           let long : length hs ≡ i =
           heads-length (rowsAsked (take i asked)) front rows-many ∙ rows-many ∙ writing .judging .as-many in
           let rows : rowsAsked (take (i + 1) asked) ≡ rowsAsked (take i asked) ++ (rowAsked (getD asked i 0) ∷ []) =
           rw (add-one, take-suc asked i 0 inside) (map-append rowAsked (take i asked) (getD asked i 0 ∷ [])) in
           let place : i + 1 ≡ 1 + length hs = omega arith in
-          let with-head : set out (i + 1) head ≡ sets (sets out₀ 1 (hs ++ (head ∷ []))) (length asked + 1) (flatten front) =
-          ap (λ l. set l (i + 1) head) (writing .text)
-          ∙ set-before (sets out₀ 1 hs) (i + 1) head (length asked + 1) (flatten front) (omega arith)
-          ∙ rw (sets-snoc out₀ 1 hs head, place) in
+          let with-ids : out₁ ≡ sets (sets out₀ 1 hs) (length asked + 1) (flatten front ++ wanted) =
+          ids .wrote .text
+          ∙ ap (λ l. sets l at wanted) (writing .text)
+          ∙ ap (λ n. sets (sets (sets out₀ 1 hs) (length asked + 1) (flatten front)) n wanted) (writing .after)
+          ∙ sets-both (sets out₀ 1 hs) (flatten front) wanted (length asked + 1) in
           record {
-            judging = next;
+            judging = next (ids .is);
             within = omega arith;
-            after = rw (next-front, flatten-more front wanted) (omega (arith, wrote .after, writing .after, length-append (flatten front) wanted));
+            after =
+                rw (next-front (ids .is), flatten-more front wanted)
+                (omega (arith, ids .wrote .after, writing .after, length-append (flatten front) wanted));
             text =
-                rw (next-front, rows, heads-more (rowsAsked (take i asked)) front (rowAsked (getD asked i 0)) wanted rows-many, flatten-more front wanted)
-                (wrote .text
-                ∙ ap (λ w. sets (set out (i + 1) w) at wanted) is-head
-                ∙ ap (λ n. sets (set out (i + 1) (headOf (rowAsked (getD asked i 0) .id) n)) at wanted) (sym many)
-                ∙ ap (λ l. sets l at wanted) with-head
-                ∙ ap (λ n. sets (sets (sets out₀ 1 (hs ++ (head ∷ []))) (length asked + 1) (flatten front)) n wanted) (writing .after)
-                ∙ sets-both (sets out₀ 1 (hs ++ (head ∷ []))) (flatten front) wanted (length asked + 1));
+                rw (
+                  next-front (ids .is),
+                  rows,
+                  heads-more (rowsAsked (take i asked)) front (rowAsked (getD asked i 0)) wanted rows-many,
+                  flatten-more front wanted,
+                )
+                (ap (λ w. set out₁ (i + 1) w) is
+                ∙ ap (λ l. set l (i + 1) head) with-ids
+                ∙ set-before (sets out₀ 1 hs) (i + 1) head (length asked + 1) (flatten front ++ wanted) (omega arith)
+                ∙ rw (sets-snoc out₀ 1 hs head, place));
           }
 
 -- ---- judged, and then written

@@ -1,11 +1,12 @@
 -- All ancestors requests as words, and what the call that writes them answers and leaves.
 use Prim.Native.Nat.{ℕ, _+_, _*_, _/_, _%_, _≤_}
 use mathlib.Core.Path.{_≡_}
+use mathlib.Core.Bool.{Bool, false}
 use mathlib.Core.List.{List, [], _∷_, _++_, flatten}
 use lib.ListN.{length}
 use lib.Seq.{sets}
-use Rattle.rules.specs.Tries.{ids}
-use Rattle.rules.specs.Loading.{LoadAnswer, done, refusedAt, counted, EntityRequest, ancestorsRequests}
+use Rattle.rules.specs.Tries.{Row, ids}
+use Rattle.rules.specs.Loading.{LoadAnswer, done, refusedAt, counted, EntityRequest, hasAncestorsTrie, ancestorsRequests}
 use Rattle.rows.specs.States.{rowsOf}
 use Rattle.words.specs.declared.Reply.{Reply}
 use Rattle.words.specs.declared.Reply.the-variants.{Done, Refused}
@@ -19,6 +20,11 @@ use Rattle.slices.specs.Slices.{rowsAsked}
 abbrev pub allRequests : Asked → List ℕ → List ℕ → List ℕ → List ℕ → LoadAnswer (List (List ℕ))
 allRequests request context nodes slice asked =
     ancestorsRequests (requestOf request context) (rowsOf nodes) (sliceIn slice) 0 (rowsAsked asked)
+
+-- whether some root stands right below the first of some rows: whether it has an ancestors trie
+abbrev pub rootsBelow : List Row → Bool
+rootsBelow [] = false
+rootsBelow (row ∷ rows) = hasAncestorsTrie row rows
 
 -- a request's head: its entity, and 65,536 times the count of its ids
 abbrev pub headOf : ℕ → ℕ → ℕ

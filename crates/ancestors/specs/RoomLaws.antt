@@ -15,10 +15,11 @@ use Rattle.rules.specs.Tries.{Row, at, kindOf, ordered, isEntry, count, entries
 use Rattle.rules.specs.TrieLaws.{Ordered, ordered-true}
 use Rattle.rules.specs.Typing.{isField}
 use Rattle.rules.specs.Values.{Entity}
-use Rattle.rules.specs.Loading.{LoadAnswer, done, refusedAt, counted, _then_, Request, EntityRequest, Event, yielded, ancestor, bad, hasChild, hasAncestorsTrie, remainingEntities, isContextRoot, inContext, atRoots, initialEntities, Loaded, loadedAs, withId, Wanted, takeId, takeEvents, isMarked, takeRow, takeRows, takeBatches, Load, ancestorsRequest, ancestorsRequests}
+use Rattle.rules.specs.Loading.{LoadAnswer, done, refusedAt, counted, _then_, Request, EntityRequest, Event, yielded, ancestor, bad, hasChild, remainingEntities, isContextRoot, inContext, atRoots, initialEntities, Loaded, loadedAs, withId, Wanted, takeId, takeEvents, isMarked, takeRow, takeRows, takeBatches, Load, ancestorsRequest, ancestorsRequests}
 use Rattle.rules.specs.Trips.{EachOf, none-left, and-each, with, Distinct, nodesAsked, allFields, isPrimary, placeAt, Primary, BoundedTrips, rootUnder, depthOf}
 use Rattle.rules.specs.TripLaws.{GoingLoad, going-bounded}
 use Rattle.ancestors.specs.Takings.{takeMark}
+use Rattle.ancestors.specs.Requests.{rootsBelow}
 use Rattle.ancestors.specs.RoundLaws.{none-wait}
 
 -- ---- a request has at most 256 ids
@@ -90,11 +91,6 @@ module _ (nodes : List Row) (slice : List Loaded) (place : ℕ) where
 
 -- ---- it has none where no root stands right below its node
 
--- whether some root stands right below the first of some rows
-abbrev rootsBelow : List Row → Bool
-rootsBelow [] = false
-rootsBelow (row ∷ rows) = hasAncestorsTrie row rows
-
 module _ (request : Request) where
   -- where none does, nothing is met
   none-met :
@@ -135,7 +131,7 @@ module _ (request : Request) where
             (few-events place events (record { ids = []; next = [] }) (omega arith))
             (few-batches nodes slice place mostSteps))
 
-    none-asked : rootsBelow (drop (row .node) nodes) ≡ false → wanted ≡ done []
+    pub none-asked : rootsBelow (drop (row .node) nodes) ≡ false → wanted ≡ done []
     unfolding takeEvents
     none-asked h = go (drop (row .node) nodes) refl
       where

@@ -1,14 +1,18 @@
 // The one ancestors call: a request for each row ever asked, in asking order (docs/FORMS.md, 'Ancestors requests out').
 ghost use mathlib.Core.Path.{_≡_};
 ghost use Prim.Native.Nat.{_+_, _^_, _≤_, _<_};
-ghost use lib.ListN.{length};
+ghost use lib.ListN.{length, drop};
+ghost use Rattle.rows.specs.States.{rowsOf};
 ghost use Rattle.words.specs.Runs.{Wrote};
+ghost use Rattle.values.specs.ValueWords.{rowAsked};
 ghost use Rattle.ancestors.specs.Sets.{idsOf, IsSet};
-ghost use Rattle.ancestors.specs.Requests.{requestIn, headOf, allRequests, JudgedAs, MayWrite, WrittenAs, RoomFor, RequestsAnswered};
+ghost use Rattle.ancestors.specs.Requests.{rootsBelow, requestIn, headOf, allRequests, JudgedAs, MayWrite, WrittenAs, RoomFor, RequestsAnswered};
 use crate::events::Next;
 use crate::rounds::compute_ancestors_request;
 use crate::set::AncestorSet;
 use row_walk::Request;
+use row_walk::has_child;
+use rows::Row;
 use values::EntityRequest;
 use words::Reply;
 
@@ -34,6 +38,18 @@ impl AncestorsRequest {
     {
         self.id + self.count as u64 * 0x1_0000
     }
+}
+
+// Whether the node of a row has an ancestors trie. Without one no ids are asked for, and there is nothing to walk.
+fn has_ancestors_trie(nodes: &[u64], row: u64) -> bool
+    ensures { λ r. ⌜ r ≡ rootsBelow (drop (rowAsked row .node) (rowsOf (now (nodes .entry)))) ⌝ }
+{
+    let node = EntityRequest::of(row).node as usize;
+    if nodes.len() <= node {
+        return false;
+    }
+    let own = Row { word: nodes[node] };
+    has_child(nodes, node + 1, own.depth(), false)
 }
 
 // Writes the ids of a set to a place, and answers the place after them.
@@ -65,20 +81,15 @@ fn judge_requests(
 {
     let mut i = 0;
     while i < asked.len() {
-        let taken = compute_ancestors_request(
-            nodes,
-            slice,
-            request,
-            context,
-            asked[i],
-            rows,
-            found,
-        );
-        let next = taken.next;
-        match next {
-            Next::To(_) => {}
-            Next::Refused(number) => {
-                return Reply::Refused(number, i as u64);
+        let row = asked[i];
+        if has_ancestors_trie(nodes, row) {
+            let taken = compute_ancestors_request(nodes, slice, request, context, row, rows, found);
+            let next = taken.next;
+            match next {
+                Next::To(_) => {}
+                Next::Refused(number) => {
+                    return Reply::Refused(number, i as u64);
+                }
             }
         }
         i += 1;
@@ -107,15 +118,17 @@ fn write_requests(
     let mut i = 0;
     while i < asked.len() {
         let row = asked[i];
-        let taken = compute_ancestors_request(nodes, slice, request, context, row, rows, found);
-        let set = taken.set;
-        let own = EntityRequest::of(row);
+        let start = at;
+        if has_ancestors_trie(nodes, row) {
+            let taken = compute_ancestors_request(nodes, slice, request, context, row, rows, found);
+            let set = taken.set;
+            at = write_ids(set, out, start);
+        }
         let head = AncestorsRequest {
-            id: own.id,
-            count: set.len,
+            id: EntityRequest::of(row).id,
+            count: at - start,
         };
         out[i + 1] = head.word();
-        at = write_ids(set, out, at);
         i += 1;
     }
     out[0] = asked.len() as u64;

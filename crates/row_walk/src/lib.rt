@@ -11,6 +11,7 @@ pub use initial::Request;
 pub use initial::ask_roots;
 pub use initial::context_root;
 pub use initial::initial_entities_to_load;
+pub use scan::has_child;
 pub use walk::Meeting;
 pub use walk::Met;
 pub use walk::next_event;

@@ -3,12 +3,13 @@
 use borrow.Author.Needs.{needs}
 use native.Mathlib.Omega.{arith}
 use Prim.Native.Nat.{_-_}
-use mathlib.Core.Path.{_≡_, refl, _∙_}
+use mathlib.Core.Path.{_≡_, refl, sym, _∙_}
+use mathlib.Core.Logic.{⊎-elim}
 use lib.ListN.{length}
 use Rattle.rows.specs.States.{rowsOf}
 use Rattle.row_walk.specs.Initial.{requestWith as requestOf}
 use Rattle.ancestors.specs.SliceWords.{sliceIn}
-use Rattle.ancestors.specs.RequestLaws.{Judging, judging-none, judged-all, judged-refused, judging-next}
+use Rattle.ancestors.specs.RequestLaws.{asked-done, Judging, judging-none, judged-all, judged-refused, judging-next, judging-empty}
 use Rattle.ancestors.proofs.requests.judge_requests.Statement.{statement}
 use Rattle.ancestors.proofs.requests.judge_requests.Tie as tie
 
@@ -23,16 +24,19 @@ abbrev μ-loop : tie.MeasureT-loop
 loop-holds : tie.Need-loop-holds Inv-loop μ-loop
 loop-holds c = (refl, refl, judging-none _ _ _ _)
 
-mul-compute-ancestors-request : tie.Need-mul-compute-ancestors-request Inv-loop μ-loop
-mul-compute-ancestors-request c = search needs
+mul-row : tie.Need-mul-row Inv-loop μ-loop
+mul-row c = search needs
 
-shared-slice-read-compute-ancestors-request : tie.Need-shared-slice-read-compute-ancestors-request Inv-loop μ-loop
-shared-slice-read-compute-ancestors-request c = search needs
+shared-slice-read-row : tie.Need-shared-slice-read-row Inv-loop μ-loop
+shared-slice-read-row c = search needs
+
+has-ancestors-trie-requires : tie.Need-has-ancestors-trie-requires Inv-loop μ-loop
+has-ancestors-trie-requires c κs = search needs
 
 compute-ancestors-request-requires : tie.Need-compute-ancestors-request-requires Inv-loop μ-loop
 compute-ancestors-request-requires c κs =
-    let pre = c .before .before .before .before .before .before .before .before .before .before .before .pre in
-    let sofar = c .before .before .before .before .loop .inv in
+    let pre = c .before .before .before .before .before .before .before .before .before .before .before .before .before .pre in
+    let sofar = c .before .before .before .before .before .before .loop .inv in
     (pre .0, (omega (arith, pre .1 .0, sofar .0), omega (arith, pre .1 .1, sofar .1)))
 
 enum-told : tie.Need-enum-told Inv-loop μ-loop
@@ -42,14 +46,15 @@ enum-known-next : tie.Need-enum-known-next Inv-loop μ-loop
 enum-known-next c = search needs
 
 same-length : tie.Need-same-length Inv-loop μ-loop
-same-length c = c .before .before .before .before .before .before .before .compute-ancestors-request .kept .1 .1 .1 .1 .1 .0 ∙ c .before .before .before .before .before .before .before .before .before .before .before .before .loop .inv .0
+same-length c = c .before .before .before .before .before .before .before .compute-ancestors-request .kept .1 .1 .1 .1 .1 .0 ∙ c .before .before .before .before .before .before .before .before .before .before .before .before .before .before .loop .inv .0
 
 same-length-2 : tie.Need-same-length-2 Inv-loop μ-loop
-same-length-2 c = c .before .before .before .before .before .before .before .compute-ancestors-request .kept .1 .1 .1 .1 .1 .1 .0 ∙ c .before .before .before .before .before .before .before .before .before .before .before .before .loop .inv .1
+same-length-2 c = c .before .before .before .before .before .before .before .compute-ancestors-request .kept .1 .1 .1 .1 .1 .1 .0 ∙ c .before .before .before .before .before .before .before .before .before .before .before .before .before .before .loop .inv .1
 
 returns : tie.Need-returns Inv-loop μ-loop
 returns c =
-    judged-refused _ _ _ _ (c .before .before .before .before .before .before .before .before .before .before .before .before .loop .inv .2) (c .before .before .before .before .before .before .before .before .before .before .before .loop-test .taken) (c .before .before .before .before .before .before .before .compute-ancestors-request .ensures) (c .before .next .given .1)
+    judged-refused _ _ _ _ (c .before .before .before .before .before .before .before .before .before .before .before .before .before .before .loop .inv .2) (c .before .before .before .before .before .before .before .before .before .before .before .before .before .loop-test .taken)
+    (c .before .before .before .before .before .before .before .compute-ancestors-request .ensures) (c .before .next .given .1)
 
 add-i : tie.Need-add-i Inv-loop μ-loop
 add-i c = search needs
@@ -58,11 +63,17 @@ loop-less : tie.Need-loop-less Inv-loop μ-loop
 loop-less c = search needs
 
 loop-again : tie.Need-loop-again Inv-loop μ-loop
-loop-again c = (
-  c .before .before .before .before .before .before .compute-ancestors-request .kept .1 .1 .1 .1 .1 .0 ∙ c .before .before .before .before .before .before .before .before .before .before .before .loop .inv .0,
-  c .before .before .before .before .before .before .compute-ancestors-request .kept .1 .1 .1 .1 .1 .1 .0 ∙ c .before .before .before .before .before .before .before .before .before .before .before .loop .inv .1,
-  judging-next _ _ _ _ (c .before .before .before .before .before .before .before .before .before .before .before .loop .inv .2) (c .before .before .before .before .before .before .before .before .before .before .loop-test .taken) (c .before .before .before .before .before .before .compute-ancestors-request .ensures) (c .enum-told .given .1),
-)
+loop-again c =
+    let inv = c .before .before .before .before .loop .inv in
+    let inside = c .before .before .before .loop-test .taken in
+    ⊎-elim
+    (λ w.
+    rw (w .10, w .11)
+    (w .3 .kept .1 .1 .1 .1 .1 .0 ∙ inv .0, w .3 .kept .1 .1 .1 .1 .1 .1 .0 ∙ inv .1, judging-next _ _ _ _ (inv .2) inside (asked-done (w .3 .ensures) (w .9 .given .1) _)))
+    (λ w.
+    rw (w .1, w .2)
+    (inv .0, inv .1, judging-empty _ _ _ _ (inv .2) inside (sym (c .before .has-ancestors-trie .ensures) ∙ w .0 .left)))
+    (c .if1 .came)
 
 same-length-3 : tie.Need-same-length-3 Inv-loop μ-loop
 same-length-3 c = c .before .loop .inv .0
@@ -80,8 +91,9 @@ judge-requests-spec =
     Inv-loop
     μ-loop
     loop-holds
-    mul-compute-ancestors-request
-    shared-slice-read-compute-ancestors-request
+    mul-row
+    shared-slice-read-row
+    has-ancestors-trie-requires
     compute-ancestors-request-requires
     enum-told
     enum-known-next
