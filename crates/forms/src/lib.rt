@@ -18,10 +18,14 @@ pub enum Form {
     Schema,
     Request,
     Store,
+    Names,
 }
 
-// What no line of any text may have; answers whether that was it.
-fn say_shape(err: i32, line: &[u8]) -> bool {
+// What no line of any other text than a name table may have; answers whether that was it.
+fn say_shape(err: i32, form: Form, line: &[u8]) -> bool {
+    if let Form::Names = form {
+        return false;
+    }
     if line.len() == 0 {
         say(err, b"a line is not empty");
         return true;
@@ -275,11 +279,54 @@ fn say_store(err: i32, line: &[u8], place: u64) {
     say(err, b"expected an E, P, U or V line");
 }
 
+// Whether a field is no name.
+fn is_unnamed(line: &[u8], k: u64) -> bool {
+    let field = field_of(line, k);
+    let from = field.from;
+    let to = field.to;
+    let name = &line[from..to];
+    name.len() == 0
+        || has_byte(name, 0, 31)
+        || has_byte(name, 34, 34)
+        || has_byte(name, 92, 92)
+        || has_byte(name, 127, 255)
+}
+
+// A line of a name table. Its names may have spaces, so that it is judged by itself.
+fn say_named(err: i32, line: &[u8]) {
+    let is_kind = is_word(line, 0, b"t") || is_word(line, 0, b"e") || is_word(line, 0, b"f");
+    if !is_kind || !has_fields(line, 3) {
+        say(
+            err,
+            b"a line has t (entity type), e (entity) or f (field), an id and a name, parted by one tab",
+        );
+        return;
+    }
+    if !is_decimal(line, 1) {
+        say(
+            err,
+            b"an id is a decimal from 0 to 65535, without 0 in front",
+        );
+        return;
+    }
+    if is_unnamed(line, 2) {
+        say(
+            err,
+            b"a name is one printable ASCII character or more, without quote and backslash",
+        );
+        return;
+    }
+    say(
+        err,
+        b"lines ascend strictly by kind, in the order t e f, and then by id, and a name stands once within its kind",
+    );
+}
+
 // What was expected where a text has ended.
 fn say_more(err: i32, form: Form) {
     match form {
         Form::Request => say(err, b"expected a Q line"),
-        Form::Listing | Form::Steps | Form::Policy | Form::Schema | Form::Store => {
+        Form::Listing | Form::Steps | Form::Policy | Form::Schema | Form::Store | Form::Names => {
             say(err, b"expected an A line")
         }
     }
@@ -298,7 +345,7 @@ pub fn say_form(err: i32, form: Form, place: u64, text: &[u8], from: usize, to: 
         return;
     }
     let line = &text[from..to];
-    if say_shape(err, line) {
+    if say_shape(err, form, line) {
         return;
     }
     match form {
@@ -308,5 +355,6 @@ pub fn say_form(err: i32, form: Form, place: u64, text: &[u8], from: usize, to: 
         Form::Schema => say_schema(err, line),
         Form::Request => say_request(err, line, place),
         Form::Store => say_store(err, line, place),
+        Form::Names => say_named(err, line),
     }
 }

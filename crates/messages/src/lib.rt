@@ -60,7 +60,9 @@ fn say_nodes(err: i32, form: Form, is_end: bool) {
     }
     match form {
         Form::Steps | Form::Policy => say(err, b"over 1,024 nodes in a contribution"),
-        Form::Listing | Form::Schema | Form::Request | Form::Store => say(err, b"over 4,096 nodes"),
+        Form::Listing | Form::Schema | Form::Request | Form::Store | Form::Names => {
+            say(err, b"over 4,096 nodes")
+        }
     }
 }
 
@@ -71,9 +73,8 @@ fn say_types(err: i32, form: Form) {
             err,
             b"the contribution that ends here has a 65th request type",
         ),
-        Form::Listing | Form::Steps | Form::Schema | Form::Request | Form::Store => {
-            say(err, b"a 65th request type")
-        }
+        Form::Listing | Form::Steps | Form::Schema | Form::Request | Form::Store | Form::Names =>
+            say(err, b"a 65th request type"),
     }
 }
 
