@@ -458,13 +458,17 @@ places-few (RecordHead fields) at = omega arith
 
 -- the path at the place of a head is its own
 module _ {words rest : List ℕ} {qs : List Paths} {from left : ℕ} where
-  pub own-path : (q : Paths) → Each IsPath (ownPath q) → Ahead words rest (q ∷ qs) from left → pathsAt words (placesFor (headFor q) from) ≡ ownPath q
-  unfolding pathsAt pathAt Each
-  own-path Empty good a = refl
-  own-path (AccessPath path) good a =
+  pub path-there : (path : Path) → Stepped path → Ahead words rest (AccessPath path ∷ qs) from left → pathAt words from ≡ path
+  unfolding pathAt
+  path-there path stepped a =
       let steps : getD words from 0 / 64 ≡ length path = omega (arith, next-head-word a, kind-small path) in
       let kind : getD words from 0 / 8 % 8 ≡ rootKind path = omega (arith, next-head-word a, kind-small path) in
-      rw (steps, kind, next-payload a, path-back path (good .0 .steps))
+      rw (steps, kind, next-payload a, path-back path stepped)
+
+  own-path : (q : Paths) → Each IsPath (ownPath q) → Ahead words rest (q ∷ qs) from left → pathsAt words (placesFor (headFor q) from) ≡ ownPath q
+  unfolding pathsAt Each
+  own-path Empty good a = refl
+  own-path (AccessPath path) good a = rw (path-there path (good .0 .steps) a)
   own-path (Union l r) good a = refl
   own-path (RecordLiteral fields) good a = refl
   own-path (SetLiteral elements) good a = refl
