@@ -1,12 +1,12 @@
 -- Laws of steps that wrap or push results: what each leaves on the stack. No contract cites this file.
-use Prim.Native.Nat.{ℕ, zero, suc, _+_, _*_, _-_, _≤_, _<_}
+use Prim.Native.Nat.{ℕ, _+_, _*_, _-_, _≤_, _<_}
 use native.Mathlib.Omega.{arith}
 use mathlib.Core.Path.{_≡_, refl, sym, ap, _∙_, subst}
 use mathlib.Core.Logic.{_⊎_, inl, inr}
 use mathlib.Core.Bool.{false}
 use mathlib.Core.List.{List, [], _∷_, _++_, map-append, append-assoc, append-nil}
 use mathlib.Core.Option.{Option, none, some}
-use lib.ListN.{length, take, drop, getD, set, replicate, length-map, length-append, take-append-drop}
+use lib.ListN.{length, take, drop, set, replicate, length-map, length-append, take-append-drop}
 use lib.Seq.{sets-eq, length-sets, take-at, length-take-le}
 use Rattle.rules.specs.Numbers.{refused}
 use Rattle.rules.specs.Tries.{Row, union}
@@ -292,13 +292,6 @@ module _ {codeRun tries : List ℕ} {stack : Stack} (results : List Result) (hel
       outcome)
 
 -- no name, and a head with names
--- what each has, the one at a place has
-pub each-at : {A : Type 0} (P : A → Type 0) (xs : List A) (i : ℕ) (d : A) → Each P xs → i < length xs → P (getD xs i d)
-unfolding Each
-each-at P [] i d all h = absurd (omega arith)
-each-at P (x ∷ xs) zero d all h = all .0
-each-at P (x ∷ xs) (suc i) d all h = each-at P xs i d (all .1) (omega arith)
-
 pub rec-none :
     (results : List Result) (names codeRun′ tries′ : List ℕ) (r : Stepped)
     → names ≡ []

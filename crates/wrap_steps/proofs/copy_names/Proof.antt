@@ -4,7 +4,7 @@ use Prim.Native.Nat.{_-_, _<_}
 use native.Mathlib.Omega.{arith}
 use lib.ListN.{length}
 use Rattle.words.specs.RunLaws.{Copying, copying-first, copying-length, copying-next, copying-all}
-use Rattle.wrap_steps.specs.WrapLaws.{each-at}
+use Rattle.rules.specs.StepLaws.{each-at}
 use borrow.Author.Needs.{needs}
 use Rattle.wrap_steps.proofs.copy_names.Statement.{statement}
 use Rattle.wrap_steps.proofs.copy_names.Tie as tie
