@@ -37,9 +37,9 @@ fn answer_policy(
     types: u64,
     text: &[u8],
     manifest: &mut [u64],
-    code: &mut [u64],
+    code: &mut [u16],
     tries: &mut [u64],
-    paths: &mut [u64],
+    paths: &mut [u16],
 ) -> Answered
     requires { ⌜ GoodTypes (now words) (now table) types × JobLent Policy (now manifest) ⌝ }
     requires { ⌜ (length (now code) < 2 ^ 53) × Scratch (now code) (now paths) ⌝ }
@@ -65,9 +65,9 @@ fn answer_in(
     types: u64,
     text: &[u8],
     out: &mut [u64],
-    code: &mut [u64],
+    code: &mut [u16],
     tries: &mut [u64],
-    paths: &mut [u64],
+    paths: &mut [u16],
 ) -> Answered
     requires { ⌜ GoodTypes (now words) (now table) types × JobLent job (now out) ⌝ }
     requires { ⌜ (length (now code) < 2 ^ 53) × Scratch (now code) (now paths) ⌝ }
@@ -101,9 +101,9 @@ fn answer_small(
     requires { ⌜ GoodTypes (now words) (now table) types × JobLent job (now out) ⌝ }
     ensures { λ r. ⌜ AnsweredBy (answerTo (itemsOf (now (words .entry))) job (now (text .entry)) (now (out .entry))) (now (out .entry)) (now (out .exit)) r ⌝ }
 {
-    let mut code = [0u64; Stack::SMALL_CODE];
+    let mut code = [0u16; Stack::SMALL_CODE];
     let mut tries = [0u64; Stack::SMALL_TRIES];
-    let mut paths = [0u64; Stack::SMALL_CODE];
+    let mut paths = [0u16; Stack::SMALL_CODE];
     answer_in(
         job,
         words,
@@ -129,9 +129,9 @@ fn answer_large(
     requires { ⌜ GoodTypes (now words) (now table) types × JobLent job (now out) ⌝ }
     ensures { λ r. ⌜ AnswerStored (answerTo (itemsOf (now (words .entry))) job (now (text .entry)) (now (out .entry))) (now (out .entry)) (now (out .exit)) r ⌝ }
 {
-    let mut code = [0u64; Stack::CODE];
+    let mut code = [0u16; Stack::CODE];
     let mut tries = [0u64; Stack::TRIES];
-    let mut paths = [0u64; WrappedAccessPaths::WORDS];
+    let mut paths = [0u16; WrappedAccessPaths::WORDS];
     match answer_in(
         job,
         words,

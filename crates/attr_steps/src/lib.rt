@@ -20,7 +20,7 @@ use wrapped_paths::get_or_has_attr;
 use wrapped_paths::measure;
 
 // `restore_global_trie_invariant`: merges the paths at some places into a trie, and answers whether it stays within the limit of nodes.
-fn restore_global_trie_invariant(trie: &mut [u64], code: &[u64], places: &[u64]) -> bool
+fn restore_global_trie_invariant(trie: &mut [u64], code: &[u16], places: &[u64]) -> bool
     requires { ⌜ PathsToAdd (now trie) (now code) (now places) ⌝ }
     ensures { λ r. ⌜ Became (addPaths (rowsIn (now (trie .entry))) (pathsAt (now (code .entry)) (now (places .entry))) emptyLeaf) (now (trie .exit)) r ⌝ }
 {
@@ -31,9 +31,9 @@ fn restore_global_trie_invariant(trie: &mut [u64], code: &[u64], places: &[u64])
 // `paths` and `trie` are scratch.
 pub fn attr_step(
     name: u64,
-    code: &mut [u64],
+    code: &mut [u16],
     tries: &mut [u64],
-    paths: &mut [u64],
+    paths: &mut [u16],
     trie: &mut [u64],
     stack: Stack,
 ) -> Stepped
@@ -45,8 +45,13 @@ pub fn attr_step(
         return Stepped::Refused(6);
     }
     let mut places = [0u64; WrappedAccessPaths::PATHS];
-    let Extended::Done(words, grown) = get_or_has_attr(code, stack.code, name, paths, &mut places)
-    else {
+    let Extended::Done(words, grown) = get_or_has_attr(
+        code,
+        stack.code,
+        name as u16,
+        paths,
+        &mut places,
+    ) else {
         return Stepped::Refused(7);
     };
     if is_too_deep(paths, &places[..grown], 0) {

@@ -20,7 +20,7 @@ pub fn full_step(
     words: &[u64],
     table: &[u64],
     types: u64,
-    code: &mut [u64],
+    code: &mut [u16],
     tries: &mut [u64],
     trie: &mut [u64],
     stack: Stack,

@@ -38,7 +38,7 @@ pub pair-at :
     (words : List ℕ) (types : ℕ) (pairs : List ℕ) (i : ℕ)
     → AllPairs words types pairs
     → i < length pairs
-    → (getD pairs i 0 / 1024 + 1 + getD words (getD pairs i 0 / 1024) 0 / 8 ≤ length words) × (getD pairs i 0 % 1024 < types)
+    → (getD pairs i 0 / 1024 + 1 + getD words (getD pairs i 0 / 1024) 0 / 64 ≤ length words) × (getD pairs i 0 % 1024 < types)
 unfolding AllPairs
 pair-at words types [] i all h = absurd (omega arith)
 pair-at words types (pair ∷ pairs) zero all h = (all .0, all .1 .0)
@@ -53,13 +53,13 @@ pairs-left words pairs i h = rw (add-one, drop-cons pairs i 0 h)
 deep-here :
     (words table items : List ℕ) (types pair : ℕ)
     → Tabled items table types
-    → pair / 1024 + 1 + getD words (pair / 1024) 0 / 8 ≤ length words
+    → pair / 1024 + 1 + getD words (pair / 1024) 0 / 64 ≤ length words
     → pair % 1024 < types
     → ltb 24 (length (pathAt words (pair / 1024)) + deepest (typeRows items (pair % 1024)))
-    ≡ ltb 24 (getD words (pair / 1024) 0 / 8 + sizeDepth (getD table (pair % 1024) 0))
+    ≡ ltb 24 (getD words (pair / 1024) 0 / 64 + sizeDepth (getD table (pair % 1024) 0))
 deep-here words table items types pair tabled within less =
     rw (path-steps words (pair / 1024) within, tabled .1 (pair % 1024) less .depth)
-    (sym (capped-sum-above 24 (getD words (pair / 1024) 0 / 8) (deepest (typeRows items (pair % 1024)))))
+    (sym (capped-sum-above 24 (getD words (pair / 1024) 0 / 64) (deepest (typeRows items (pair % 1024)))))
 
 -- i pairs are passed, and the others say what is answered
 pub record LookingTaken (words table pairs : List ℕ) (i : ℕ) : Type 0 where
@@ -90,7 +90,7 @@ module _ {words table pairs : List ℕ} {i : ℕ} (looking : LookingTaken words 
         → Tabled items table types
         → AllPairs words types pairs
         → anyTakenDeep items (map (takenAt words) pairs)
-        ≡ (ltb 24 (getD words (getD pairs i 0 / 1024) 0 / 8 + sizeDepth (getD table (getD pairs i 0 % 1024) 0))
+        ≡ (ltb 24 (getD words (getD pairs i 0 / 1024) 0 / 64 + sizeDepth (getD table (getD pairs i 0 % 1024) 0))
         || anyTakenDeep items (map (takenAt words) (drop (i + 1) pairs)))
     unfolding anyTakenDeep
     next-deep items types tabled all =
@@ -100,7 +100,7 @@ module _ {words table pairs : List ℕ} {i : ℕ} (looking : LookingTaken words 
 
     -- the next goes too deep, or not
     pub pairs-deep :
-        24 < getD words (getD pairs i 0 / 1024) 0 / 8 + sizeDepth (getD table (getD pairs i 0 % 1024) 0)
+        24 < getD words (getD pairs i 0 / 1024) 0 / 64 + sizeDepth (getD table (getD pairs i 0 % 1024) 0)
         → (items : List ℕ) (types : ℕ)
         → Tabled items table types
         → AllPairs words types pairs
@@ -108,7 +108,7 @@ module _ {words table pairs : List ℕ} {i : ℕ} (looking : LookingTaken words 
     pairs-deep h items types tabled all = sym (next-deep items types tabled all ∙ rw (lt-ltb 24 _ h))
 
     pub pairs-look-next :
-        getD words (getD pairs i 0 / 1024) 0 / 8 + sizeDepth (getD table (getD pairs i 0 % 1024) 0) ≤ 24
+        getD words (getD pairs i 0 / 1024) 0 / 64 + sizeDepth (getD table (getD pairs i 0 % 1024) 0) ≤ 24
         → LookingTaken words table pairs (i + 1)
     pairs-look-next h = record {
       inside = omega arith;

@@ -16,6 +16,7 @@ use Rattle.rules.specs.Paths.{
   SetLiteral,
   Fields,
   nodesOf,
+  pathsIn,
   kindAt,
   elementAt,
   attributesAt,
@@ -23,6 +24,7 @@ use Rattle.rules.specs.Paths.{
   hasAll,
   fullTypeRequired,
 }
+use Rattle.rules.specs.StepLaws.{AllPaths}
 use Rattle.rules.specs.TypeLaws.{typesIn}
 use Rattle.wrapped_paths.specs.declared.WrappedAccessPaths.{WrappedAccessPaths}
 use Rattle.wrapped_paths.specs.declared.WrappedAccessPaths.the-variants.{
@@ -108,7 +110,7 @@ pub record Meeting (words : List ℕ) (at : ℕ) (head : WrappedAccessPaths) (sc
 -- the pair that a head gives, if it is that of a path
 abbrev pub pairsFor : WrappedAccessPaths → ℕ → ℕ → List ℕ
 pairsFor EmptyHead at t = []
-pairsFor (PathHead steps) at t = (at * 1024 + t) ∷ []
+pairsFor (PathHead kind steps) at t = (at * 1024 + t) ∷ []
 pairsFor UnionHead at t = []
 pairsFor SetHead at t = []
 pairsFor (RecordHead fields) at t = []
@@ -140,4 +142,5 @@ abbrev pub RequiredAt : List ℕ → List Item → ℕ → ℕ → List ℕ → 
 RequiredAt words items t at pairs r =
     (paths : Paths) (rest : List ℕ)
     → drop at words ≡ code paths ++ rest
+    → AllPaths (pathsIn paths)
     → RequiredBy words items paths t at pairs r

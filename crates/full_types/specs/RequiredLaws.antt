@@ -13,8 +13,8 @@ use lib.Seq.{length-take-le, drop-cons, drop-length, take-at, take-take, getD-at
 use Rattle.rules.specs.Facts.{by-test, cond-some}
 use Rattle.rules.specs.Listing.{_>>=_}
 use Rattle.rules.specs.Schema.{Item, setType, recordType, attributesOf}
-use Rattle.rules.specs.Paths.{Taken, attributesAt, Paths, Empty, AccessPath, Union, RecordLiteral, SetLiteral, Fields, noField, field, hasAll, nodesOf, kindAt, elementAt, attributeType, fullTypeRequired, fieldsRequired}
-use Rattle.rules.specs.StepLaws.{Each, each-append}
+use Rattle.rules.specs.Paths.{Taken, attributesAt, Paths, Empty, AccessPath, Union, RecordLiteral, SetLiteral, Fields, noField, field, hasAll, nodesOf, pathsIn, kindAt, elementAt, attributeType, fullTypeRequired, fieldsRequired}
+use Rattle.rules.specs.StepLaws.{Each, IsPath, AllPaths, each-append, each-split}
 use Rattle.rules.specs.TypeLaws.{Ascends, attributes-below, attribute-stands, typesIn, types-few}
 use Rattle.schema.specs.Items.{itemsOf}
 use Rattle.wrapped_paths.specs.declared.WrappedAccessPaths.{WrappedAccessPaths}
@@ -22,9 +22,9 @@ use Rattle.wrapped_paths.specs.declared.WrappedAccessPaths.the-variants.{Empty 
 use Rattle.full_types.specs.declared.Awaited.{Awaited}
 use Rattle.full_types.specs.declared.Awaited.the-variants.{Left, Mismatch as NoneWait}
 use Rattle.full_types.specs.declared.Required.the-variants.{Next}
-use Rattle.wrapped_paths.specs.Code.{headOf, sizeOf, wrapsOf, countIn, namesIn, code, codes, nodesOfAll, pathAt, Standing, Measures}
+use Rattle.wrapped_paths.specs.Code.{headOf, sizeOf, wrapsOf, countIn, namesIn, code, codes, nodesOfAll, Standing, Measures}
 use Rattle.wrapped_paths.specs.Turns.{Noted}
-use Rattle.wrapped_paths.specs.CodeLaws.{fieldPaths, headFor, unwrapped, unwrapped-many, names-many, paths-within, nodes-turn, nodes-words, many-nodes, Ahead, next-of, next-within, next-room, next-head-word, next-head, next-payload, next-ahead, nodes-next, words-next, noted-none, noted-one}
+use Rattle.wrapped_paths.specs.CodeLaws.{fieldPaths, headFor, unwrapped, ownPath, pathsInAll, kind-small, paths-next, path-there, unwrapped-many, names-many, paths-within, nodes-turn, nodes-words, many-nodes, Ahead, next-of, next-within, next-room, next-head-word, next-head, next-ahead, nodes-next, words-next, noted-none, noted-one}
 use Rattle.wrapped_paths.specs.AttrLaws.{stands-alone, head-here, behind-it, literal-names, empty-of, path-of, union-of, record-of, set-of}
 use Rattle.type_table.specs.NamedLaws.{attributes-cut, attributes-inside}
 use Rattle.type_table.specs.TypeTableLaws.{good-lawful, TypeStands, tabled-stands, tabled-inside, stands-kind, stands-element, stands-attributes}
@@ -184,9 +184,9 @@ module _ (words : List ℕ) (items : List Item) (at t : ℕ) (waiting : List ℕ
       (record { new = []; awaited = refl; there = noted-none waiting left inside })
 
   pub path-stacked :
-      {steps : ℕ} → PathHead steps ≡ headOf (getD words at 0) → left ≤ length waiting → PathsStacked words items at t waiting left waiting (Left left)
-  path-stacked {steps} head inside q rest coded =
-      rw (path-of q steps (sym (head ∙ head-here words rest q at coded)) .1)
+      {kind steps : ℕ} → PathHead kind steps ≡ headOf (getD words at 0) → left ≤ length waiting → PathsStacked words items at t waiting left waiting (Left left)
+  path-stacked {kind} {steps} head inside q rest coded =
+      rw (path-of q kind steps (sym (head ∙ head-here words rest q at coded)) .1)
       (record { new = []; awaited = refl; there = noted-none waiting left inside })
 
   pub union-stacked :
@@ -437,26 +437,25 @@ module _ {words rest : List ℕ} {qs : List Paths} {from left : ℕ} (t types : 
   own-pairs (AccessPath path) a =
       let place : (from * 1024 + t) / 1024 ≡ from = omega arith in
       let type : (from * 1024 + t) % 1024 ≡ t = omega arith in
-      rw (place, type) (omega (arith, next-head-word a, next-room a), (less, tt))
+      rw (place, type) (omega (arith, next-head-word a, next-room a, kind-small path), (less, tt))
   own-pairs (Union l r) a = tt
   own-pairs (RecordLiteral fields) a = tt
   own-pairs (SetLiteral elements) a = tt
 
-  own-taken : (q : Paths) → Ahead words rest (q ∷ qs) from left → map (takenAt words) (pairsFor (headFor q) from t) ≡ ownTaken q t
-  unfolding pathAt
-  own-taken Empty a = refl
-  own-taken (AccessPath path) a =
+  own-taken : (q : Paths) → Each IsPath (ownPath q) → Ahead words rest (q ∷ qs) from left → map (takenAt words) (pairsFor (headFor q) from t) ≡ ownTaken q t
+  unfolding Each
+  own-taken Empty good a = refl
+  own-taken (AccessPath path) good a =
       let place : (from * 1024 + t) / 1024 ≡ from = omega arith in
       let type : (from * 1024 + t) % 1024 ≡ t = omega arith in
-      let steps : getD words from 0 / 8 ≡ length path = omega (arith, next-head-word a) in
-      rw (place, type, steps, next-payload a)
-  own-taken (Union l r) a = refl
-  own-taken (RecordLiteral fields) a = refl
-  own-taken (SetLiteral elements) a = refl
+      rw (place, type, path-there path (good .0 .steps) a)
+  own-taken (Union l r) good a = refl
+  own-taken (RecordLiteral fields) good a = refl
+  own-taken (SetLiteral elements) good a = refl
 
 pairs-few : (h : WrappedAccessPaths) (at t : ℕ) → length (pairsFor h at t) ≤ 1
 pairs-few EmptyHead at t = omega arith
-pairs-few (PathHead steps) at t = omega arith
+pairs-few (PathHead kind steps) at t = omega arith
 pairs-few UnionHead at t = omega arith
 pairs-few SetHead at t = omega arith
 pairs-few (RecordHead fields) at t = omega arith
@@ -474,6 +473,7 @@ pub record Waits (words rest : List ℕ) (items : List Item) (paths : Paths) (t 
   pub stacked : take left waiting ≡ reverse ts
   pub known : Each (Known (typesIn items)) ts
   pub few : count + nodesOfAll qs ≤ nodesOf paths
+  pub good : AllPaths (pathsInAll qs)
   pub ends : from + length (codes qs) ≡ at + length (code paths)
   pub in-pairs : count ≤ length pairs
   pub all-pairs : AllPairs words (typesIn items) (take count pairs)
@@ -486,6 +486,7 @@ pub record Walking (words : List ℕ) (items : List Item) (t at : ℕ) (waiting 
   pub all :
       (paths : Paths) (rest : List ℕ)
       → drop at words ≡ code paths ++ rest
+      → AllPaths (pathsIn paths)
       → Waits words rest items paths t at waiting pairs from left count
 
 pub walking-first :
@@ -493,11 +494,11 @@ pub walking-first :
     → KnownType schema table t
     → length pairs ≡ 256
     → Walking words (itemsOf schema) t at (replicate 256 t) pairs at 1 0
-unfolding codes nodesOfAll AllPairs Each
+unfolding codes nodesOfAll pathsInAll AllPairs Each
 walking-first words schema pairs {table} {t} at k places = record {
   stack = refl;
   places = places;
-  all = λ paths rest coded. record {
+  all = λ paths rest coded good. record {
     qs = paths ∷ [];
     ts = t ∷ [];
     ahead = stands-alone words rest paths at coded;
@@ -505,6 +506,7 @@ walking-first words schema pairs {table} {t} at k places = record {
     stacked = refl;
     known = ((λ other. k .known), tt);
     few = omega arith;
+    good = rw append-nil good;
     ends = rw append-nil;
     in-pairs = omega arith;
     all-pairs = tt;
@@ -585,6 +587,12 @@ module _
           ∙ ap (λ (qs : List Paths). joined so-far (allRequired items qs (w .ts))) (next-paths .2)
           ∙ ap (λ (ts : List ℕ). joined so-far (allRequired items (next-paths .0 ∷ next-paths .1) ts)) (next-type .2)
 
+      -- its own path, and those ahead of it
+      good-here : Each IsPath (ownPath (next-paths .0)) × AllPaths (pathsInAll (unwrapped (next-paths .0) ++ next-paths .1))
+      good-here =
+          each-split IsPath (ownPath (next-paths .0)) (pathsInAll (unwrapped (next-paths .0) ++ next-paths .1))
+          (rw (next-paths .2, paths-next (next-paths .0) (next-paths .1)) at (w .good))
+
       pub waits-within : from < length words
       waits-within = next-within here
 
@@ -630,7 +638,7 @@ module _
         waits-on = omega (arith, past, nodes-words (next-paths .0), nodes-turn (next-paths .0))
 
         pub waits-passed : getD waiting (left - 1) 0 ≡ passedOver → Waits words rest items paths t at waiting pairs end (left - 1) count
-        unfolding codes Each
+        unfolding codes pathsInAll Each
         waits-passed over = record {
           qs = next-paths .1;
           ts = next-type .1;
@@ -642,6 +650,7 @@ module _
           stacked = below-type;
           known = (rw (next-type .2) at (w .known)) .1;
           few = omega (arith, w .few, nodes-here);
+          good = each-split IsPath (pathsIn (next-paths .0)) (pathsInAll (next-paths .1)) (rw (next-paths .2) at (w .good)) .1;
           ends = omega (arith, w .ends, past, simp length-append at (ap (λ (l : List Paths). length (codes l)) (next-paths .2)));
           in-pairs = w .in-pairs;
           all-pairs = w .all-pairs;
@@ -707,7 +716,7 @@ module _
               new-taken =
                   ap (map (takenAt words)) new-pairs
                   ∙ map-append (takenAt words) (take count pairs) (pairsFor (headFor (next-paths .0)) from (next-type .0))
-                  ∙ rw (own-taken (next-type .0) (typesIn items) (omega (arith, typed .known, typed .few)) (typed .known) (next-paths .0) here)
+                  ∙ rw (own-taken (next-type .0) (typesIn items) (omega (arith, typed .known, typed .few)) (typed .known) (next-paths .0) (good-here .0) here)
 
               pub waits-next : Waits words rest items paths t at waiting′ pairs′ (from + (1 + sizeOf h)) more count′
               unfolding Each
@@ -730,6 +739,7 @@ module _
                       noted-many (w .in-pairs) noted,
                       pairs-few h from (getD waiting (left - 1) 0),
                     );
+                good = good-here .1;
                 ends =
                     rw head
                     (omega (

@@ -16,14 +16,16 @@ ghost use Rattle.type_table.specs.Tables.{KnownType};
 ghost use Rattle.full_types.specs.Pairs.{pairPlace, pairType, AllPairs, takenAt, DeepBy, TypedPath, TypedLeaf, TypedPairs};
 ghost use Rattle.full_types.specs.Required.{typeOr, fieldTypes, setAwaits, StackedBy, RecordStacked, PathsStacked, Meeting, pairsFor, PairRoom, PairsRoom, RequiredAt};
 use path_tries::FEW;
+use path_tries::PATH;
 use path_tries::add_access_path;
-use path_tries::path_at;
+use path_tries::read_path;
 use rows::Kind;
 use schema::Item;
 use type_table::attributes_end;
 use type_table::size_at;
 use type_table::type_named;
 use type_table::type_to_access_trie;
+use words::wide;
 use wrapped_paths::WrappedAccessPaths;
 use wrapped_paths::measure;
 use wrapped_paths::name_place;
@@ -71,7 +73,7 @@ impl Pair {
 }
 
 // Whether all attributes of a record type are among the names of a literal.
-fn has_all(attributes: &[u64], names: &[u64]) -> bool
+fn has_all(attributes: &[u64], names: &[u16]) -> bool
     ensures { λ r. ⌜ ((fields : Fields) → now (names .entry) ≡ namesIn fields → r ≡ hasAll fields (itemsOf (now (attributes .entry)))) ⌝ }
 {
     let mut i = 0;
@@ -97,7 +99,7 @@ fn field_type(attributes: &[u64], name: u64) -> u64
 }
 
 // The types of a record literal's fields wait, that of its first name on top; answers how many wait then.
-fn await_fields(attributes: &[u64], names: &[u64], waiting: &mut [u64], left: usize) -> usize
+fn await_fields(attributes: &[u64], names: &[u16], waiting: &mut [u64], left: usize) -> usize
     requires { ⌜ Ascends 0 (itemsOf (now attributes)) × (left + length (now names) ≤ length (now waiting)) ⌝ }
     ensures { λ r. ⌜ Noted (now (waiting .entry)) left (reverse (fieldTypes (itemsOf (now (attributes .entry))) (now (names .entry)))) (now (waiting .exit)) r ⌝ }
 {
@@ -105,7 +107,7 @@ fn await_fields(attributes: &[u64], names: &[u64], waiting: &mut [u64], left: us
     let mut i = names.len();
     while 0 < i {
         i -= 1;
-        waiting[more] = field_type(attributes, names[i]);
+        waiting[more] = field_type(attributes, wide(names[i]));
         more += 1;
     }
     more
@@ -113,7 +115,7 @@ fn await_fields(attributes: &[u64], names: &[u64], waiting: &mut [u64], left: us
 
 // The record literal at a place, of so many fields, against a type: it needs a record type and every attribute of it.
 fn await_record(
-    code: &[u64],
+    code: &[u16],
     at: usize,
     fields: usize,
     words: &[u64],
@@ -155,7 +157,7 @@ fn await_set(words: &[u64], table: &[u64], t: u64, waiting: &mut [u64], left: us
 
 // The head at a place against a type: the types of what it wraps wait.
 fn await_wrapped(
-    code: &[u64],
+    code: &[u16],
     at: usize,
     head: WrappedAccessPaths,
     words: &[u64],
@@ -169,7 +171,7 @@ fn await_wrapped(
 {
     match head {
         WrappedAccessPaths::Empty => Awaited::Left(left),
-        WrappedAccessPaths::AccessPath(_) => Awaited::Left(left),
+        WrappedAccessPaths::AccessPath(_, _) => Awaited::Left(left),
         WrappedAccessPaths::Union => {
             waiting[left] = t;
             waiting[left + 1] = t;
@@ -189,7 +191,7 @@ fn note_pair(head: WrappedAccessPaths, at: usize, t: u64, pairs: &mut [u64], cou
 {
     match head {
         WrappedAccessPaths::Empty => count,
-        WrappedAccessPaths::AccessPath(_) => {
+        WrappedAccessPaths::AccessPath(_, _) => {
             pairs[count] = Pair { place: at, t }.word();
             count + 1
         }
@@ -201,7 +203,7 @@ fn note_pair(head: WrappedAccessPaths, at: usize, t: u64, pairs: &mut [u64], cou
 
 // The wrapped paths at a place against a type: each head in turn meets the type that waits for it.
 pub fn full_type_required(
-    code: &[u64],
+    code: &[u16],
     at: usize,
     words: &[u64],
     table: &[u64],
@@ -244,7 +246,7 @@ pub fn full_type_required(
 }
 
 // Whether some path with the trie of its type below it would exceed the steps of a position.
-pub fn is_any_too_deep(code: &[u64], table: &[u64], pairs: &[u64]) -> bool
+pub fn is_any_too_deep(code: &[u16], table: &[u64], pairs: &[u64]) -> bool
     requires { ⌜ AllPairs (now code) 1024 (now pairs) × (length (now table) ≡ 1024) ⌝ }
     ensures { λ r. ⌜ DeepBy (now (code .entry)) (now (table .entry)) (now (pairs .entry)) r ⌝ }
 {
@@ -295,7 +297,7 @@ fn add_typed(trie: &mut [u64], path: &[u64], words: &[u64], table: &[u64], t: u6
 // Merges all paths with the tries of their types into a trie, and answers whether it stays within the limit of nodes.
 pub fn add_taken(
     trie: &mut [u64],
-    code: &[u64],
+    code: &[u16],
     words: &[u64],
     table: &[u64],
     pairs: &[u64],
@@ -303,10 +305,12 @@ pub fn add_taken(
     requires { ⌜ TypedPairs (now trie) (now code) (now words) (now table) (now pairs) ⌝ }
     ensures { λ r. ⌜ Became (addTaken (itemsOf (now (words .entry))) (rowsIn (now (trie .entry))) (map (takenAt (now (code .entry))) (now (pairs .entry)))) (now (trie .exit)) r ⌝ }
 {
+    let mut path = [0u64; PATH];
     let mut i = 0;
     while i < pairs.len() {
         let pair = Pair::of(pairs[i]);
-        if !add_typed(trie, path_at(code, pair.place), words, table, pair.t) {
+        let steps = read_path(code, pair.place, &mut path);
+        if !add_typed(trie, &path[..steps], words, table, pair.t) {
             return false;
         }
         i += 1;

@@ -26,7 +26,7 @@ use wrapped_paths::paths_in;
 
 // `to_ancestor_access_trie`: merges the paths at some places, each leaf marked, into a trie, and answers whether it stays within the limit of
 // nodes.
-fn to_ancestor_access_trie(code: &[u64], places: &[u64], trie: &mut [u64]) -> bool
+fn to_ancestor_access_trie(code: &[u16], places: &[u64], trie: &mut [u64]) -> bool
     requires { ⌜ PathsToAdd (now trie) (now code) (now places) ⌝ }
     ensures { λ r. ⌜ Became (addPaths (rowsIn (now (trie .entry))) (pathsAt (now (code .entry)) (now (places .entry))) markedLeaf) (now (trie .exit)) r ⌝ }
 {
@@ -35,7 +35,7 @@ fn to_ancestor_access_trie(code: &[u64], places: &[u64], trie: &mut [u64]) -> bo
 
 // `with_ancestors_required`: merges the paths at some places, with the ancestor trie of the right side's paths below each, into a trie, and
 // answers whether it stays within the limit of nodes.
-fn with_ancestors_required(trie: &mut [u64], code: &[u64], left: &[u64], right: &[u64]) -> bool
+fn with_ancestors_required(trie: &mut [u64], code: &[u16], left: &[u64], right: &[u64]) -> bool
     requires { ⌜ PathsToAdd (now trie) (now code) (now left) ⌝ }
     requires { ⌜ AllWithin (now code) (now right) × AllPaths (pathsAt (now code) (now right)) ⌝ }
     requires { ⌜ anyDeep (pathsAt (now code) (now left)) (longestOf (pathsAt (now code) (now right))) ≡ false ⌝ }
@@ -53,7 +53,7 @@ fn with_ancestors_required(trie: &mut [u64], code: &[u64], left: &[u64], right: 
 }
 
 // `in`: the left side with the right side's ancestor trie, then both tries merged; no paths are left. `trie` is scratch.
-pub fn in_step(code: &mut [u64], tries: &mut [u64], trie: &mut [u64], stack: Stack) -> Stepped
+pub fn in_step(code: &mut [u16], tries: &mut [u64], trie: &mut [u64], stack: Stack) -> Stepped
     requires { ⌜ Working (now code) (now tries) (now trie) stack ⌝ }
     ensures { λ r. ⌜ StepsBy (λ place results. twoStep inResult place results) (now (code .entry)) (now (tries .entry)) stack (now (code .exit)) (now (tries .exit)) r ⌝ }
 {

@@ -12,7 +12,7 @@ use mathlib.Core.Option.{none, Option·some-ne-none}
 use borrow.Author.Tests.{ltb-true, leb-true, leb-false, eqb-true, eqb-false, lt-ltb, le-ltb, le-leb, lt-leb, ne-eqb}
 use lib.Dec.{leb, ltb, eqb}
 use lib.ListN.{length, take, drop, getD, set, length-map, length-append, length-take, length-drop, drop-of-length-le}
-use lib.Seq.{sets, sets-eq, length-sets, drop-cons, take-at, length-take-le}
+use lib.Seq.{sets, sets-eq, length-sets, getD-drop, getD-take, drop-cons, take-at, take-all, take-suc, take-suc-set, length-take-le}
 use Rattle.rules.specs.Facts.{by-test, compared, larger, larger-max}
 use Rattle.rules.specs.Numbers.{accepted, refused, mostSteps}
 use Rattle.rules.specs.Tries.{Row, isStep, isRoot, isRow, contribution, count, entriesIn, nodesIn, union, unionWithin}
@@ -31,7 +31,7 @@ use Rattle.rows.specs.StateLaws.{all-rows}
 use Rattle.rows.specs.declared.Kind.the-variants.{Contribution}
 use Rattle.words.specs.declared.Reply.the-variants.{Done, Refused}
 use Rattle.words.specs.RunLaws.{wrote-length, wrote-more, taken-back, held-count}
-use Rattle.wrapped_paths.specs.Code.{pathAt, pathsAt, AllWithin}
+use Rattle.wrapped_paths.specs.Code.{rooted, pathAt, pathsAt, AllWithin}
 use Rattle.path_tries.specs.Nodes.{nodeWord, belowWord, allNodes, allBelow, IsState, Became, leafOf, anyDeep, AllFit, chainWords, deeperWords, RunOf}
 
 -- ---- words of nodes
@@ -473,14 +473,69 @@ unfolding pathsAt
 next-paths code places i h = rw (drop-cons places i 0 h)
 
 next-within : (code places : List ℕ) (i : ℕ) → i < length places → AllWithin code (drop i places) →
-    (getD places i 0 + 1 + getD code (getD places i 0) 0 / 8 ≤ length code) × AllWithin code (drop (suc i) places)
+    (getD places i 0 + 1 + getD code (getD places i 0) 0 / 64 ≤ length code) × AllWithin code (drop (suc i) places)
 unfolding AllWithin
 next-within code places i h within = rw (drop-cons places i 0 h) at within
 
--- a path that stands in words has as many steps as its head says
-pub path-steps : (code : List ℕ) (at : ℕ) → at + 1 + getD code at 0 / 8 ≤ length code → length (pathAt code at) ≡ getD code at 0 / 8
-unfolding pathAt
-path-steps code at h = length-take-le (getD code at 0 / 8) (drop (at + 1) code) (omega (arith, length-drop (at + 1) code))
+-- ---- a path that is read
+
+-- the kind of its root changes nothing else of its ids
+rooted-length : (kind : ℕ) (ids : List ℕ) → length (rooted kind ids) ≡ length ids
+rooted-length kind [] = refl
+rooted-length kind (id ∷ fields) = refl
+
+rooted-first : (kind : ℕ) (ids : List ℕ) → 0 < length ids → getD (rooted kind ids) 0 0 ≡ kind * 65536 + getD ids 0 0
+rooted-first kind [] h = absurd (omega arith)
+rooted-first kind (id ∷ fields) h = refl
+
+rooted-later : (kind : ℕ) (ids : List ℕ) (i : ℕ) → 0 < i → getD (rooted kind ids) i 0 ≡ getD ids i 0
+rooted-later kind [] i h = refl
+rooted-later kind (id ∷ fields) zero h = absurd (omega arith)
+rooted-later kind (id ∷ fields) (suc i) h = refl
+
+module _ (code : List ℕ) (at : ℕ) (h : at + 1 + getD code at 0 / 64 ≤ length code) where
+  abbrev ids : List ℕ
+  ids = take (getD code at 0 / 64) (drop (at + 1) code)
+
+  -- a path that stands in words has as many steps as its head says
+  ids-many : length ids ≡ getD code at 0 / 64
+  ids-many = length-take-le (getD code at 0 / 64) (drop (at + 1) code) (omega (arith, length-drop (at + 1) code))
+
+  pub path-steps : length (pathAt code at) ≡ getD code at 0 / 64
+  unfolding pathAt
+  path-steps = rooted-length (getD code at 0 / 8 % 8) ids ∙ ids-many
+
+  ids-there : (i : ℕ) → i < getD code at 0 / 64 → getD ids i 0 ≡ getD code (at + 1 + i) 0
+  ids-there i less = getD-take (getD code at 0 / 64) (drop (at + 1) code) i 0 less ∙ getD-drop (at + 1) code i 0
+
+  -- its root, and its fields
+  pub path-first : 0 < getD code at 0 / 64 → getD (pathAt code at) 0 0 ≡ getD code at 0 / 8 % 8 * 65536 + getD code (at + 1) 0
+  unfolding pathAt
+  path-first some-step =
+      rooted-first (getD code at 0 / 8 % 8) ids (omega (arith, ids-many))
+      ∙ ap (λ (id : ℕ). getD code at 0 / 8 % 8 * 65536 + id) (ids-there 0 some-step ∙ rw add-zero)
+
+  pub path-later : (i : ℕ) → 0 < i → i < getD code at 0 / 64 → getD (pathAt code at) i 0 ≡ getD code (at + 1 + i) 0
+  unfolding pathAt
+  path-later i past less = rooted-later (getD code at 0 / 8 % 8) ids i past ∙ ids-there i less
+
+-- the first i steps of a path are read
+pub record Reading (path out : List ℕ) (i : ℕ) : Type 0 where
+  pub so-many : i ≤ length path
+  pub there : take i out ≡ take i path
+
+pub reading-first : (path out : List ℕ) → Reading path out 0
+reading-first path out = record { so-many = omega arith; there = refl }
+
+module _ {path out : List ℕ} {i : ℕ} (reading : Reading path out i) where
+  pub reading-next : {step : ℕ} → i < length path → i < length out → getD path i 0 ≡ step → Reading path (set out i step) (i + 1)
+  reading-next {step} more room e = record {
+    so-many = omega arith;
+    there = rw (add-one, take-suc-set out i step room, take-suc path i 0 more, reading .there, e);
+  }
+
+  pub reading-all : length path ≤ i → take i out ≡ path
+  reading-all h = reading .there ∙ take-all i path h
 
 -- The paths from i on are left to be added, and lead to what all of them give.
 pub record Adding (code places below : List ℕ) (mark : Bool) (start trie : List ℕ) (i : ℕ) : Type 0 where
@@ -499,7 +554,7 @@ module _ {code places below : List ℕ} {mark : Bool} {start trie : List ℕ} {i
     path = pathAt code (getD places i 0)
 
     -- the next path stands in the words, is a path, and fits
-    pub adding-within : getD places i 0 + 1 + getD code (getD places i 0) 0 / 8 ≤ length code
+    pub adding-within : getD places i 0 + 1 + getD code (getD places i 0) 0 / 64 ≤ length code
     adding-within = next-within code places i h (adding .within) .0
 
     pub adding-path : IsPath path
@@ -550,20 +605,20 @@ pub record Looking (code places : List ℕ) (below i : ℕ) : Type 0 where
 
 module _ {code places : List ℕ} {below i : ℕ} (looking : Looking code places below i) where
   module _ (h : i < length places) where
-    pub looking-within : getD places i 0 + 1 + getD code (getD places i 0) 0 / 8 ≤ length code
+    pub looking-within : getD places i 0 + 1 + getD code (getD places i 0) 0 / 64 ≤ length code
     looking-within = next-within code places i h (looking .within) .0
 
-    next-looked : (ltb 24 (getD code (getD places i 0) 0 / 8 + below) || anyDeep (pathsAt code (drop (suc i) places)) below) ≡ anyDeep (pathsAt code places) below
+    next-looked : (ltb 24 (getD code (getD places i 0) 0 / 64 + below) || anyDeep (pathsAt code (drop (suc i) places)) below) ≡ anyDeep (pathsAt code places) below
     unfolding anyDeep
     next-looked = rw (next-paths code places i h, path-steps code (getD places i 0) looking-within) at (looking .left)
 
-    pub looking-deep : 24 < getD code (getD places i 0) 0 / 8 + below → true ≡ anyDeep (pathsAt code places) below
-    looking-deep deep = rw (lt-ltb 24 (getD code (getD places i 0) 0 / 8 + below) deep) at next-looked
+    pub looking-deep : 24 < getD code (getD places i 0) 0 / 64 + below → true ≡ anyDeep (pathsAt code places) below
+    looking-deep deep = rw (lt-ltb 24 (getD code (getD places i 0) 0 / 64 + below) deep) at next-looked
 
-    pub looking-next : getD code (getD places i 0) 0 / 8 + below ≤ 24 → Looking code places below (i + 1)
+    pub looking-next : getD code (getD places i 0) 0 / 64 + below ≤ 24 → Looking code places below (i + 1)
     looking-next flat = record {
       within = rw add-one (next-within code places i h (looking .within) .1);
-      left = rw add-one (rw (le-ltb 24 (getD code (getD places i 0) 0 / 8 + below) flat) at next-looked);
+      left = rw add-one (rw (le-ltb 24 (getD code (getD places i 0) 0 / 64 + below) flat) at next-looked);
     }
 
   pub looking-all : length places ≤ i → false ≡ anyDeep (pathsAt code places) below
@@ -580,10 +635,10 @@ longest-first code places within = record { within = within; left = simp larger-
 
 module _ {code places : List ℕ} {most i : ℕ} (so-far : Longest code places most i) where
   module _ (h : i < length places) where
-    pub longest-within : getD places i 0 + 1 + getD code (getD places i 0) 0 / 8 ≤ length code
+    pub longest-within : getD places i 0 + 1 + getD code (getD places i 0) 0 / 64 ≤ length code
     longest-within = next-within code places i h (so-far .within) .0
 
-    pub longest-next : Longest code places (larger most (getD code (getD places i 0) 0 / 8)) (i + 1)
+    pub longest-next : Longest code places (larger most (getD code (getD places i 0) 0 / 64)) (i + 1)
     unfolding longest
     longest-next = record {
       within = rw add-one (next-within code places i h (so-far .within) .1);

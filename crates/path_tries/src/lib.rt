@@ -4,7 +4,7 @@ ghost use mathlib.Core.Bool.{true, not, _&&_};
 ghost use mathlib.Core.List.{[], _∷_};
 ghost use Prim.Native.Nat.{_+_, _≤_};
 ghost use lib.Dec.{eqb};
-ghost use lib.ListN.{length, getD};
+ghost use lib.ListN.{length, take, getD};
 ghost use Rattle.rules.specs.Tries.{union};
 ghost use Rattle.rules.specs.Paths.{toRootAccessTrieWithLeaf, addAccessPath, addPaths};
 ghost use Rattle.rules.specs.StepLaws.{IsPath};
@@ -19,12 +19,16 @@ use rows::Kind;
 use rows::Row;
 use words::Reply;
 use words::larger;
+use words::wide;
 use wrapped_paths::steps_at;
 
 // The words of a trie: its count and at most as many nodes as a contribution has. A path with its leaf has at most 24 more.
 pub const TRIE: usize = 1_026;
 
 const RUN: usize = 1_048;
+
+// The steps of a path.
+pub const PATH: usize = 24;
 
 // Most unions, runs and leaves are short. These take a buffer of so many words, which costs little to clear.
 pub const FEW: usize = 64;
@@ -164,20 +168,26 @@ pub fn add_access_path(trie: &mut [u64], path: &[u64], marked: bool, below: &[u6
     add_by(trie, path, marked, below, &mut run)
 }
 
-// The path whose head stands at a place.
-pub fn path_at(code: &[u64], at: usize) -> &[u64]
-    requires { ⌜ AllWithin (now code) (at ∷ []) ⌝ }
-    ensures { λ r. ⌜ now r ≡ pathAt (now (code .entry)) at ⌝ }
+// Reads the path whose head stands at a place: its root has the kind that the head says. Answers how many steps it has.
+pub fn read_path(code: &[u16], at: usize, path: &mut [u64]) -> usize
+    requires { ⌜ AllWithin (now code) (at ∷ []) × (IsPath (pathAt (now code) at) × (length (now path) ≡ 24)) ⌝ }
+    ensures { λ r. ⌜ (r ≤ length (now (path .exit))) × (take r (now (path .exit)) ≡ pathAt (now (code .entry)) at) ⌝ }
 {
     let first = at + 1;
-    let end = first + steps_at(code, at) as usize;
-    &code[first..end]
+    let steps = steps_at(code, at) as usize;
+    path[0] = wide(code[at]) / 8 % 8 * 0x1_0000 + wide(code[first]);
+    let mut i = 1;
+    while i < steps {
+        path[i] = wide(code[first + i]);
+        i += 1;
+    }
+    i
 }
 
 // `add_wrapped_access_paths`: merges the paths at some places with one leaf into a trie, and answers whether it stays within the limit.
 pub fn add_wrapped_access_paths(
     trie: &mut [u64],
-    code: &[u64],
+    code: &[u16],
     places: &[u64],
     marked: bool,
     below: &[u64],
@@ -186,10 +196,11 @@ pub fn add_wrapped_access_paths(
     requires { ⌜ (length (now below) ≤ 1024) × AllFit (pathsAt (now code) (now places)) (now below) ⌝ }
     ensures { λ r. ⌜ Became (addPaths (rowsIn (now (trie .entry))) (pathsAt (now (code .entry)) (now (places .entry))) (leafOf marked (now (below .entry)))) (now (trie .exit)) r ⌝ }
 {
+    let mut path = [0u64; PATH];
     let mut i = 0;
     while i < places.len() {
-        let at = places[i] as usize;
-        if !add_access_path(trie, path_at(code, at), marked, below) {
+        let steps = read_path(code, places[i] as usize, &mut path);
+        if !add_access_path(trie, &path[..steps], marked, below) {
             return false;
         }
         i += 1;
@@ -198,7 +209,7 @@ pub fn add_wrapped_access_paths(
 }
 
 // Whether some path with so many steps below it would exceed the steps of a position.
-pub fn is_too_deep(code: &[u64], places: &[u64], below: u64) -> bool
+pub fn is_too_deep(code: &[u16], places: &[u64], below: u64) -> bool
     requires { ⌜ AllWithin (now code) (now places) × (below ≤ 24) ⌝ }
     ensures { λ r. ⌜ r ≡ anyDeep (pathsAt (now (code .entry)) (now (places .entry))) below ⌝ }
 {
@@ -214,7 +225,7 @@ pub fn is_too_deep(code: &[u64], places: &[u64], below: u64) -> bool
 }
 
 // The steps of the longest of some paths.
-pub fn longest(code: &[u64], places: &[u64]) -> u64
+pub fn longest(code: &[u16], places: &[u64]) -> u64
     requires { ⌜ AllWithin (now code) (now places) ⌝ }
     ensures { λ r. ⌜ r ≡ longestOf (pathsAt (now (code .entry)) (now (places .entry))) ⌝ }
 {

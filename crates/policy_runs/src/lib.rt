@@ -102,10 +102,10 @@ fn take_line(
     words: &[u64],
     table: &[u64],
     types: u64,
-    code: &mut [u64],
+    code: &mut [u16],
     tries: &mut [u64],
     names: &mut [u64],
-    paths: &mut [u64],
+    paths: &mut [u16],
     trie: &mut [u64],
     contribution: &mut [u64],
     united: &mut [u64],
@@ -163,9 +163,9 @@ pub fn run_policy(
     types: u64,
     text: &[u8],
     rows: &mut [u64],
-    code: &mut [u64],
+    code: &mut [u16],
     tries: &mut [u64],
-    paths: &mut [u64],
+    paths: &mut [u16],
 ) -> PolicyRan
     requires { ⌜ GoodTypes (now words) (now table) types × LentManifest (now rows) ⌝ }
     requires { ⌜ (length (now code) < 2 ^ 53) × Scratch (now code) (now paths) ⌝ }

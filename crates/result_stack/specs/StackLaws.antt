@@ -200,6 +200,16 @@ module _ (words out : List ℕ) (end : ℕ) (fits : length words ≤ end) (insid
     same-length = rw (w .text) (length-sets out (end - length words) words);
   }
 
+-- so many words
+pub placed-many :
+    (words out : List ℕ) (end n : ℕ) {out′ : List ℕ} {after : ℕ}
+    → length words ≡ n
+    → n ≤ end
+    → end ≤ length out
+    → Wrote out (end - n) words out′ after
+    → Placed words out end out′ (end - n)
+placed-many words out end n many fits inside w = rw (← many) (placed words out end (omega arith) inside (rw (← many) at w))
+
 -- one word
 pub placed-one : (w : ℕ) (out : List ℕ) (end : ℕ) → 0 < end → end ≤ length out → Placed (w ∷ []) out end (set out (end - 1) w) (end - 1)
 placed-one w out end some-place inside =

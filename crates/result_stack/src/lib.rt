@@ -6,6 +6,7 @@ ghost use Rattle.rows.specs.States.{rowsIn};
 ghost use Rattle.path_tries.specs.Nodes.{IsState};
 ghost use Rattle.result_stack.specs.Stacks.{Holding, Placed, TrieAt, CopiedFrom, trieWords, Pushed, TriesAt, MergedFrom, ReplacedBy};
 use path_tries::union_into;
+use words::copy_short_words;
 use words::copy_words;
 use wrapped_paths::WrappedAccessPaths;
 
@@ -53,13 +54,13 @@ impl Stack {
     }
 }
 
-// Copies words so that they end at a place, and answers where they begin.
-pub fn put_before(words: &[u64], out: &mut [u64], end: usize) -> usize
+// Copies words of paths so that they end at a place, and answers where they begin.
+pub fn put_before(words: &[u16], out: &mut [u16], end: usize) -> usize
     requires { ⌜ (length (now words) ≤ end) × (end ≤ length (now out)) ⌝ }
     ensures { λ r. ⌜ Placed (now (words .entry)) (now (out .entry)) end (now (out .exit)) r ⌝ }
 {
     let start = end - words.len();
-    copy_words(words, out, start);
+    copy_short_words(words, out, start);
     start
 }
 
@@ -86,11 +87,13 @@ pub fn put_trie(trie: &[u64], tries: &mut [u64], end: usize) -> usize
     ensures { λ r. ⌜ Placed (trieWords (rowsIn (now (trie .entry)))) (now (tries .entry)) end (now (tries .exit)) r ⌝ }
 {
     let count = trie[0] as usize + 1;
-    put_before(&trie[..count], tries, end)
+    let start = end - count;
+    copy_words(&trie[..count], tries, start);
+    start
 }
 
 // A result with an empty trie on top: `from_root`, and the default result.
-pub fn push(paths: &[u64], code: &mut [u64], tries: &mut [u64], stack: Stack) -> Stepped
+pub fn push(paths: &[u16], code: &mut [u16], tries: &mut [u64], stack: Stack) -> Stepped
     requires { ⌜ Holding (now code) (now tries) stack × (length (now paths) ≤ 2) ⌝ }
     ensures { λ r. ⌜ Pushed (now (paths .entry)) (now (code .entry)) (now (tries .entry)) stack (now (code .exit)) (now (tries .exit)) r ⌝ }
 {
@@ -129,7 +132,7 @@ pub fn merge_tries(tries: &mut [u64], at: usize, count: u64, merged: &mut [u64])
 // Puts a trie with empty paths in the place of results that end at two places.
 pub fn replace(
     trie: &[u64],
-    code: &mut [u64],
+    code: &mut [u16],
     code_end: usize,
     tries: &mut [u64],
     tries_end: usize,

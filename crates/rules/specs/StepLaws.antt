@@ -179,7 +179,7 @@ pub record GoodResult (r : Result) : Type 0 where
 abbrev pub AllGood : List Result → Type 0
 AllGood = Each GoodResult
 
--- what a line's step names is a root or a field
+-- what a line's step names is a root or fields
 abbrev pub GoodStep : Step → Type 0
 GoodStep (root r) = isRoot r ≡ true
 GoodStep noneLine = Unit
@@ -189,7 +189,7 @@ GoodStep dropLine = Unit
 GoodStep (full t) = Unit
 GoodStep inLine = Unit
 GoodStep set = Unit
-GoodStep (rec names) = Unit
+GoodStep (rec names) = Each (λ f. f < 65536) names
 
 -- the items of a schema that was read
 abbrev pub AllKeys : List Item → Type 0
@@ -266,7 +266,18 @@ module _ {A : Type 0} (P : A → Type 0) where
   each-map Q f then [] h = tt
   each-map Q f then (x ∷ xs) h = (then x (h .0), each-map Q f then xs (h .1))
 
+  pub each-at : (xs : List A) (i : ℕ) (d : A) → Each P xs → i < length xs → P (getD xs i d)
+  unfolding Each
+  each-at [] i d h less = absurd (omega arith)
+  each-at (x ∷ xs) zero d h less = h .0
+  each-at (x ∷ xs) (suc i) d h less = each-at xs i d (h .1) (omega arith)
+
 -- A line's step.
+
+reversed-each : (P : ℕ → Type 0) (xs : List ℕ) → Each P xs → Each P (reversed xs)
+unfolding Each
+reversed-each P [] h = tt
+reversed-each P (x ∷ xs) h = each-append P (reversed xs) (x ∷ []) (reversed-each P xs (h .1)) (h .0, tt)
 
 -- a good step that is given is the good step
 step-given : (a step : Step) → GoodStep a → some a ≡ some step → GoodStep step
@@ -274,6 +285,7 @@ step-given a step h e = rw (Option·some-injective a step e) at h
 
 -- so it is with a line of one word, of names, and of a word and a field
 bare-good : (word : List ℕ) (step : Step) → bareStep word ≡ some step → GoodStep step
+unfolding Each
 bare-good word step e =
     cond-given (isText (bytes "none") word) (some noneLine) _ step e (step-given noneLine step tt) λ e.
     cond-given (isText (bytes "union") word) (some unionLine) _ step e (step-given unionLine step tt) λ e.
@@ -283,10 +295,22 @@ bare-good word step e =
     cond-given (isText (bytes "rec") word) (some (rec [])) _ step e (step-given (rec []) step tt) λ e.
     absurd (Option·none-ne-some step e)
 
+-- decimals are fields
+ascending-fields : (least : ℕ) (names : List (List ℕ)) (ns : List ℕ) → ascending least names ≡ some ns → Each (λ f. f < 65536) ns
+unfolding ascending Each
+ascending-fields least [] ns e = rw (← Option·some-injective [] ns e) tt
+ascending-fields least (name ∷ names) ns e =
+    bind-some (decimalOf name) _ ns e λ n number e.
+    bind-some (cond (leb least n) (ascending (n + 1) names) none) _ ns e λ more ascend e.
+    cond-given (leb least n) _ none more ascend
+    (λ ascend. rw (← Option·some-injective (n ∷ more) ns e) (omega (arith, decimal-written name n number .1), ascending-fields (n + 1) names more ascend))
+    λ ascend. absurd (Option·none-ne-some more ascend)
+
 rec-good : (names : List (List ℕ)) (step : Step) → recOf names ≡ some step → GoodStep step
 rec-good names step e =
-    bind-some (ascending 0 names) _ step e λ ns _ e.
-    cond-given (leb (length ns) 32) (some (rec (reversed ns))) _ step e (step-given (rec (reversed ns)) step tt) λ e.
+    bind-some (ascending 0 names) _ step e λ ns ascend e.
+    cond-given (leb (length ns) 32) (some (rec (reversed ns))) _ step e
+    (step-given (rec (reversed ns)) step (reversed-each (λ f. f < 65536) ns (ascending-fields 0 names ns ascend))) λ e.
     absurd (Option·none-ne-some step e)
 
 -- `p a r c` are roots, and so is a literal entity

@@ -8,6 +8,7 @@ use lib.ListN.{length, drop}
 use Rattle.rules.specs.Text.{bytes}
 use Rattle.rules.specs.Tries.{stepOf, isRoot}
 use Rattle.rules.specs.Listing.{placeIn, _>>=_}
+use Rattle.rules.specs.StepLaws.{Each}
 use Rattle.rules.specs.Steps.{Step, root, noneLine, attr, unionLine, dropLine, full, inLine, set, rec}
 use Rattle.step_lines.specs.declared.Step.{Step as StepRead}
 use Rattle.step_lines.specs.declared.Step.the-variants.{Root, None, Attr, Union, Drop, Full, In, Set, Rec, Bad}
@@ -47,15 +48,15 @@ pub record Bare (r : StepRead) (step : Option Step) : Type 0 where
 abbrev pub varStep : List ℕ → Option Step
 varStep name = placeIn (bytes "parc") name >>= (λ kind. some (root (stepOf (suc kind) 0)))
 
--- what a step names is a root or a field
-abbrev pub GoodRead : StepRead → Type 0
-GoodRead (Root r) = isRoot r ≡ true
-GoodRead None = Unit
-GoodRead (Attr f) = f < 65536
-GoodRead Union = Unit
-GoodRead Drop = Unit
-GoodRead (Full t) = Unit
-GoodRead In = Unit
-GoodRead Set = Unit
-GoodRead (Rec count) = Unit
-GoodRead Bad = Unit
+-- what a step names is a root or fields
+abbrev pub GoodRead : StepRead → List ℕ → Type 0
+GoodRead (Root r) names = isRoot r ≡ true
+GoodRead None names = Unit
+GoodRead (Attr f) names = f < 65536
+GoodRead Union names = Unit
+GoodRead Drop names = Unit
+GoodRead (Full t) names = Unit
+GoodRead In names = Unit
+GoodRead Set names = Unit
+GoodRead (Rec count) names = Each (λ f. f < 65536) (drop (32 - count) names)
+GoodRead Bad names = Unit

@@ -90,7 +90,7 @@ apply-few items place (rec names) stack after e =
 
 -- ---- what a line is read as, and a schema's words, are good
 
-pub read-good : (step : StepRead) (names : List ℕ) (fields : List (List ℕ)) → stepRead step names ≡ stepFrom fields → GoodRead step
+pub read-good : (step : StepRead) (names : List ℕ) (fields : List (List ℕ)) → stepRead step names ≡ stepFrom fields → GoodRead step names
 read-good (Root r) names fields e = step-good fields (root r) (sym e)
 read-good None names fields e = tt
 read-good (Attr f) names fields e = step-good fields (attr f) (sym e)
@@ -99,7 +99,7 @@ read-good Drop names fields e = tt
 read-good (Full t) names fields e = tt
 read-good In names fields e = tt
 read-good Set names fields e = tt
-read-good (Rec count) names fields e = tt
+read-good (Rec count) names fields e = step-good fields (rec (drop (32 - count) names)) (sym e)
 read-good Bad names fields e = tt
 
 pub schema-good : (words : List ℕ) → goodItems words ≡ true → GoodSchema (itemsOf words)

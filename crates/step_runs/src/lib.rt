@@ -48,10 +48,10 @@ pub fn step_line(
     words: &[u64],
     table: &[u64],
     types: u64,
-    code: &mut [u64],
+    code: &mut [u16],
     tries: &mut [u64],
     names: &mut [u64],
-    paths: &mut [u64],
+    paths: &mut [u16],
     trie: &mut [u64],
     stack: Stack,
 ) -> StepTaken
@@ -89,9 +89,9 @@ pub fn run(
     table: &[u64],
     types: u64,
     text: &[u8],
-    code: &mut [u64],
+    code: &mut [u16],
     tries: &mut [u64],
-    paths: &mut [u64],
+    paths: &mut [u16],
 ) -> Ran
     requires { ⌜ GoodTypes (now words) (now table) types ⌝ }
     requires { ⌜ (length (now code) < 2 ^ 53) × Scratch (now code) (now paths) ⌝ }
@@ -155,9 +155,9 @@ pub fn answer_steps(
     request: u64,
     text: &[u8],
     out: &mut [u64],
-    code: &mut [u64],
+    code: &mut [u16],
     tries: &mut [u64],
-    paths: &mut [u64],
+    paths: &mut [u16],
 ) -> Answered
     requires { ⌜ GoodTypes (now words) (now table) types × ((request < 2 ^ 48) × (1026 ≤ length (now out))) ⌝ }
     requires { ⌜ (length (now code) < 2 ^ 53) × Scratch (now code) (now paths) ⌝ }

@@ -24,14 +24,14 @@ pub fn apply(
     words: &[u64],
     table: &[u64],
     types: u64,
-    code: &mut [u64],
+    code: &mut [u16],
     tries: &mut [u64],
-    paths: &mut [u64],
+    paths: &mut [u16],
     trie: &mut [u64],
     stack: Stack,
 ) -> Stepped
     requires { ⌜ GoodTypes (now words) (now table) types ⌝ }
-    requires { ⌜ (nameCount step ≤ 32) × ((length (now names) ≡ 32) × GoodRead step) ⌝ }
+    requires { ⌜ (nameCount step ≤ 32) × ((length (now names) ≡ 32) × GoodRead step (now names)) ⌝ }
     requires { ⌜ Working (now code) (now tries) (now trie) stack × Scratch (now code) (now paths) ⌝ }
     ensures { λ r. ⌜ StepsBy (λ place results. steppedBy (itemsOf (now (words .entry))) place (stepRead step (now (names .entry))) results) (now (code .entry)) (now (tries .entry)) stack (now (code .exit)) (now (tries .exit)) r ⌝ }
 {

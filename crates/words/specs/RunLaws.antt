@@ -6,8 +6,9 @@ use native.Mathlib.Omega.{arith}
 use mathlib.Core.List.{List, [], _∷_, _++_}
 use mathlib.Core.Path.{_≡_, refl, sym, ap, _∙_}
 use lib.ListN.{length, getD, take, drop, set, length-drop, length-append}
-use lib.Seq.{sets, sets-eq, length-sets, take-append-seam, getD-take, getD-set-same, take-suc-set, drop-set-add, length-take-le}
+use lib.Seq.{sets, sets-eq, length-sets, take-append-seam, getD-take, getD-set-same, take-suc-set, take-length, drop-set-add, length-take-le}
 use Rattle.words.specs.Runs.{Wrote, stored, Outcome}
+use Rattle.words.specs.SeqLaws.{copied-next}
 
 -- ---- runs after one another
 
@@ -49,6 +50,29 @@ wrote-same e w = rw e at w
 -- what was stored from the start on is what stands there
 pub taken-back : (l xs : List ℕ) → length xs ≤ length l → take (length xs) (sets l 0 xs) ≡ xs
 taken-back l xs h = rw (sets-eq xs l 0 (omega arith)) (take-append-seam xs (drop (0 + length xs) l))
+
+-- ---- a copy, word by word
+
+-- the first i words are copied
+pub record Copying (words out : List ℕ) (to : ℕ) (out′ : List ℕ) (i : ℕ) : Type 0 where
+  pub so-many : i ≤ length words
+  pub text : out′ ≡ sets out to (take i words)
+
+pub copying-first : (words out : List ℕ) (to : ℕ) → Copying words out to out 0
+copying-first words out to = record { so-many = omega arith; text = refl }
+
+module _ {words out out′ : List ℕ} {to i : ℕ} (copying : Copying words out to out′ i) where
+  -- the output keeps its length
+  pub copying-length : length out′ ≡ length out
+  copying-length = ap length (copying .text) ∙ length-sets out to (take i words)
+
+  pub copying-next : i < length words → Copying words out to (set out′ (to + i) (getD words i 0)) (i + 1)
+  copying-next h = record { so-many = omega arith; text = rw (copying .text) (copied-next words out to i h) }
+
+  pub copying-all : length words ≤ i → Wrote out to words out′ (to + i)
+  copying-all h =
+      let all : i ≡ length words = omega (arith, copying .so-many) in
+      record { after = rw all; text = copying .text ∙ rw (all, take-length words) }
 
 -- ---- words with their count in front
 

@@ -46,6 +46,26 @@ pub fn copy_words(words: &[u64], out: &mut [u64], to: usize) -> usize
     to + i
 }
 
+// A word of 16 bits as a number.
+pub fn wide(word: u16) -> u64
+    ensures { λ r. ⌜ (r ≡ word) × (r < 65536) ⌝ }
+{
+    word as u64
+}
+
+// Copies words of 16 bits to a place, and answers the place after them.
+pub fn copy_short_words(words: &[u16], out: &mut [u16], to: usize) -> usize
+    requires { ⌜ to + length (now words) ≤ length (now out) ⌝ }
+    ensures { λ r. ⌜ Wrote (now (out .entry)) to (now (words .entry)) (now (out .exit)) r ⌝ }
+{
+    let mut i = 0;
+    while i < words.len() {
+        out[to + i] = words[i];
+        i += 1;
+    }
+    to + i
+}
+
 // Copies a state: its count, and as many rows behind it. What follows them stays.
 pub fn copy_rows(from: &[u64], to: &mut [u64])
     requires { ⌜ (getD (now from) 0 0 < length (now from)) × (getD (now from) 0 0 < length (now to)) ⌝ }

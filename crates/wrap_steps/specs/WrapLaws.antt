@@ -262,7 +262,7 @@ module _ {codeRun tries : List ℕ} {stack : Stack} (results : List Result) (hel
       (count : ℕ) (codeRun′ tries′ : List ℕ) (r : Stepped)
       → length names ≡ count
       → count ≤ stack .results
-      → WrapsBy ((4 + 8 * count) ∷ names) count codeRun tries stack codeRun′ tries′ r
+      → WrapsBy ((4 + 64 * count) ∷ names) count codeRun tries stack codeRun′ tries′ r
       → Outcomes (λ place. recStep names place results) codeRun′ tries′ r
   unfolding code nodesOf
   rec-done count codeRun′ tries′ r as-many enough by =
@@ -270,7 +270,7 @@ module _ {codeRun tries : List ℕ} {stack : Stack} (results : List Result) (hel
       let split : take count results ++ drop count results ≡ results = take-append-drop count results in
       let top = top-of count results held in
       let (w, e, k) = names-wrapped names (take count results) (drop count results) (many ∙ sym as-many) (taken-good (take count results) (drop count results) many top) in
-      let wraps : Wraps ((4 + 8 * count) ∷ names) (take count results) (result (w .trie) (RecordLiteral (w .fields))) =
+      let wraps : Wraps ((4 + 64 * count) ∷ names) (take count results) (result (w .trie) (RecordLiteral (w .fields))) =
       record {
         coded = rw (k .counted ∙ as-many, k .named, k .coded);
         nodes = rw (k .nodes);

@@ -1,14 +1,14 @@
 -- Laws of what `attr` makes of wrapped paths, head by head. No contract cites this file.
-use Prim.Native.Nat.{ℕ, suc, _+_, _*_, _-_, _/_, _≤_, _<_}
+use Prim.Native.Nat.{ℕ, suc, _+_, _*_, _-_, _/_, _%_, _≤_, _<_}
 use native.Mathlib.Nat.{add-sub-cancel-left}
 use native.Mathlib.Numerals.{add-one}
 use native.Mathlib.Omega.{arith}
 use mathlib.Core.Path.{_≡_, refl, sym, ap, _∙_}
 use mathlib.Core.Bool.{Bool, true, false, cond, false≢true, true≢false}
-use mathlib.Core.List.{List, [], _∷_, _++_, append-assoc, append-nil}
+use mathlib.Core.List.{List, [], _∷_, _++_, map, append-assoc, append-nil}
 use mathlib.Core.Option.{Option, none, some}
 use lib.Dec.{eqb}
-use lib.ListN.{length, take, drop, getD, set, length-append, length-drop, take-append-drop, List·getD-append}
+use lib.ListN.{length, take, drop, getD, set, length-append, length-drop, length-map, take-append-drop, List·getD-append}
 use lib.Seq.{
   sets,
   sets-eq,
@@ -21,11 +21,12 @@ use lib.Seq.{
   drop-append-le,
   drop-append-add,
   getD-append-seam,
-  take-length,
+  take-all,
   take-at,
 }
 use Rattle.words.specs.SeqLaws.{sets-snoc}
 use Rattle.rules.specs.Listing.{_>>=_}
+use Rattle.rules.specs.Tries.{idOf}
 use Rattle.rules.specs.Paths.{
   Path,
   Paths,
@@ -45,7 +46,7 @@ use Rattle.rules.specs.Paths.{
   fieldOr,
   getOrHasAttr,
 }
-use Rattle.rules.specs.StepLaws.{AllPaths, Each, IsPath, grownIn, each-split}
+use Rattle.rules.specs.StepLaws.{AllPaths, Each, Stepped, IsPath, grownIn, grown-stepped, each-append, each-split}
 use Rattle.words.specs.Runs.{Wrote}
 use Rattle.wrapped_paths.specs.declared.Moved.{Moved}
 use Rattle.wrapped_paths.specs.declared.Turn.the-variants.{Next, SetDereferenced}
@@ -57,12 +58,13 @@ use Rattle.wrapped_paths.specs.declared.WrappedAccessPaths.the-variants.
   RecordLiteral as RecordHead,
   SetLiteral as SetHead,
 }
-use Rattle.wrapped_paths.specs.Code.{headOf, headWord, sizeOf, countIn, namesIn, code, codeFields, codes, nodesOfAll, namePlace, Standing, Measures, pathAt, pathsAt, AllWithin, Grew}
+use Rattle.wrapped_paths.specs.Code.{headOf, headWord, rootIn, sizeOf, countIn, namesIn, rootKind, code, codeFields, codes, nodesOfAll, namePlace, Standing, Measures, pathAt, pathsAt, AllWithin, Grew}
 use Rattle.wrapped_paths.specs.Turns.{
   placesFor,
   Noted,
   sidesOf,
   TurnTook,
+  IsGrown,
   Gained,
   fieldFrom,
   Literal,
@@ -73,7 +75,7 @@ use Rattle.wrapped_paths.specs.Turns.{
   TurnRoom,
   Turned,
 }
-use Rattle.wrapped_paths.specs.CodeLaws.{fieldPaths, headFor, codes-append, codes-fields, names-many, paths-within, code-turn, nodes-turn, nodes-words, Ahead, next-within, next-room, next-head-word, next-head, behind-word, stands-short, many-nodes, many-words, next-of, paths-at-append, within-append, places-few}
+use Rattle.wrapped_paths.specs.CodeLaws.{fieldPaths, headFor, kind-small, kind-grown, ids-grown, path-back, codes-append, codes-fields, names-many, paths-within, code-turn, nodes-turn, nodes-words, Ahead, next-within, next-room, next-head-word, next-head, behind-word, stands-short, many-nodes, many-words, next-of, paths-at-append, within-append, places-few}
 
 -- ---- one stands there
 
@@ -95,25 +97,44 @@ within-it words xs rest at e h = omega (arith, ap length e, length-drop at words
 -- ---- a path that gains a field
 
 pub path-gained :
-    (words rest path out out₁ : List ℕ) (at steps f to last : ℕ)
+    (words rest path out out₁ : List ℕ) (at kind steps f to last : ℕ)
+    → f < 65536
+    → rootKind path ≡ kind
     → length path ≡ steps
     → drop at words ≡ code (AccessPath path) ++ rest
-    → Wrote (set out to (headWord (PathHead (steps + 1)))) (to + 1) (take (at + 1 + steps - (at + 1)) (drop (at + 1) words)) out₁ last
+    → Wrote (set out to (headWord (PathHead kind (steps + 1)))) (to + 1) (take (at + 1 + steps - (at + 1)) (drop (at + 1) words)) out₁ last
     → TurnTook at (code (AccessPath path)) out to (code (AccessPath (path ++ (f ∷ [])))) (set out₁ last f) (record { from = at + 1 + steps; to = last + 1 })
 unfolding code
-path-gained words rest path out out₁ at steps f to last many e w =
-    let behind : drop (at + 1) words ≡ path ++ rest = behind-word words at e in
-    let copied : take (at + 1 + steps - (at + 1)) (drop (at + 1) words) ≡ path = cut words path rest (at + 1) (at + 1 + steps) behind (rw many) in
+path-gained words rest path out out₁ at kind steps f to last small rooted many e w =
+    let ids = map idOf path in
+    let as-many : length ids ≡ steps = length-map path idOf ∙ many in
+    let behind : drop (at + 1) words ≡ ids ++ rest = behind-word words at e in
+    let copied : take (at + 1 + steps - (at + 1)) (drop (at + 1) words) ≡ ids = cut words ids rest (at + 1) (at + 1 + steps) behind (rw as-many) in
     let more : length (path ++ (f ∷ [])) ≡ steps + 1 = length-append path (f ∷ []) ∙ rw many in
-    let afterWords : last ≡ to + 1 + length path = w .after ∙ rw copied in
-    let text : out₁ ≡ sets (set out to (headWord (PathHead (steps + 1)))) (to + 1) path = w .text ∙ rw copied in
+    let head : rootKind (path ++ (f ∷ [])) ≡ kind = kind-grown path f small ∙ rooted in
+    let afterWords : last ≡ to + 1 + length ids = w .after ∙ rw copied in
+    let text : out₁ ≡ sets (set out to (headWord (PathHead kind (steps + 1)))) (to + 1) ids = w .text ∙ rw copied in
     record {
       next = omega arith;
       wrote = record {
-        after = omega arith;
-        text = rw (more, text, afterWords, add-one to) (sym (sets-snoc (set out to (headWord (PathHead (steps + 1)))) (suc to) path f));
+        after = rw (ids-grown path f small) (omega (arith, length-append ids (f ∷ [])));
+        text =
+            rw (more, head, ids-grown path f small, text, afterWords, add-one to)
+            (sym (sets-snoc (set out to (headWord (PathHead kind (steps + 1)))) (suc to) ids f));
       };
     }
+
+-- the paths of a result that gain a field
+pub all-grown : (f : ℕ) (q : Paths) → f < 65536 → AllPaths (pathsIn q) → Each IsGrown (grownIn f q)
+unfolding pathsIn grownIn Each
+all-grown f Empty small h = tt
+all-grown f (AccessPath path) small h =
+    (record { steps = grown-stepped path f small (h .0 .steps); short = omega (arith, length-append path (f ∷ []), h .0 .short) }, tt)
+all-grown f (Union left right) small h =
+    let (r, l) = each-split IsPath (pathsIn right) (pathsIn left) h in
+    each-append IsGrown (grownIn f right) (grownIn f left) (all-grown f right small r) (all-grown f left small l)
+all-grown f (RecordLiteral fields) small h = tt
+all-grown f (SetLiteral elements) small h = tt
 
 -- ---- the field of a record literal
 
@@ -272,12 +293,12 @@ empty-of (Union left right) e = cc
 empty-of (RecordLiteral fields) e = cc
 empty-of (SetLiteral elements) e = cc
 
-pub path-of : (q : Paths) (n : ℕ) → headFor q ≡ PathHead n → (path : Path) × (q ≡ AccessPath path) × (length path ≡ n)
-path-of Empty n e = absurd (let z : _≡_ {A = ℕ} 0 1 = cc in omega arith)
-path-of (AccessPath path) n e = (path, refl, cc)
-path-of (Union left right) n e = absurd (let z : _≡_ {A = ℕ} 0 1 = cc in omega arith)
-path-of (RecordLiteral fields) n e = absurd (let z : _≡_ {A = ℕ} 0 1 = cc in omega arith)
-path-of (SetLiteral elements) n e = absurd (let z : _≡_ {A = ℕ} 0 1 = cc in omega arith)
+pub path-of : (q : Paths) (kind n : ℕ) → headFor q ≡ PathHead kind n → (path : Path) × (q ≡ AccessPath path) × (rootKind path ≡ kind) × (length path ≡ n)
+path-of Empty kind n e = absurd (let z : _≡_ {A = ℕ} 0 1 = cc in omega arith)
+path-of (AccessPath path) kind n e = (path, refl, ap rootIn e, ap sizeOf e)
+path-of (Union left right) kind n e = absurd (let z : _≡_ {A = ℕ} 0 1 = cc in omega arith)
+path-of (RecordLiteral fields) kind n e = absurd (let z : _≡_ {A = ℕ} 0 1 = cc in omega arith)
+path-of (SetLiteral elements) kind n e = absurd (let z : _≡_ {A = ℕ} 0 1 = cc in omega arith)
 
 pub union-of : (q : Paths) → headFor q ≡ UnionHead → (left : Paths) × (right : Paths) × (q ≡ Union left right)
 union-of Empty e = absurd (let z : _≡_ {A = ℕ} 0 1 = cc in omega arith)
@@ -308,7 +329,7 @@ mutual
 
   words-few : (q : Paths) → AllPaths (pathsIn q) → length (code q) + 1 ≤ 26 * nodesOf q
   words-few Empty h = omega arith
-  words-few (AccessPath path) h = omega (arith, h .0 .short)
+  words-few (AccessPath path) h = omega (arith, h .0 .short, length-map path idOf)
   words-few (Union left right) h =
       let (r, l) = each-split IsPath (pathsIn right) (pathsIn left) h in
       omega (arith, words-few right r, words-few left l, length-append (code right) (code left))
@@ -326,7 +347,7 @@ mutual
 pub words-most : (q : Paths) → AllPaths (pathsIn q) → nodesOf q ≤ 256 → length (code q) ≤ 6631
 unfolding pathsIn nodesOf code Each
 words-most Empty h few = omega arith
-words-most (AccessPath path) h few = omega (arith, h .0 .short)
+words-most (AccessPath path) h few = omega (arith, h .0 .short, length-map path idOf)
 words-most (Union left right) h few =
     let (r, l) = each-split IsPath (pathsIn right) (pathsIn left) h in
     omega (arith, words-few right r, words-few left l, length-append (code right) (code left))
@@ -368,7 +389,7 @@ grown-nodes f (SetLiteral elements) = omega arith
 pub grown-few : (f : ℕ) (q : Paths) → AllPaths (pathsIn q) → length (code q) + length (grownIn f q) ≤ 26 * nodesOf q
 unfolding grownIn nodesOf pathsIn code Each
 grown-few f Empty h = omega arith
-grown-few f (AccessPath path) h = omega (arith, h .0 .short)
+grown-few f (AccessPath path) h = omega (arith, h .0 .short, length-map path idOf)
 grown-few f (Union left right) h =
     let (r, l) = each-split IsPath (pathsIn right) (pathsIn left) h in
     omega (
@@ -403,12 +424,18 @@ module _ {words out : List ℕ} {at f to : ℕ} (r : TurnRoom words at f out to)
   here-head : {h : WrappedAccessPaths} → headOf (getD words at 0) ≡ h → headFor (r .paths) ≡ h
   here-head said = sym (head-here words (r .rest) (r .paths) at (r .coded)) ∙ said
 
-  pub room-path : (n : ℕ) → headOf (getD words at 0) ≡ PathHead n → (at + 1 + n ≤ length words) × (to + 2 + n ≤ length out)
-  unfolding code grownIn
-  room-path n said =
-      let (path, same, many) = path-of (r .paths) n (here-head said) in (
+  pub room-path :
+      (kind n : ℕ) → headOf (getD words at 0) ≡ PathHead kind n
+      → (at + 1 + n ≤ length words) × ((to + 2 + n ≤ length out) × ((kind < 8) × (n ≤ 24)))
+  unfolding code grownIn Each
+  room-path kind n said =
+      let (path, same, rooted, many) = path-of (r .paths) kind n (here-head said) in
+      let grown = rw same at (r .good) in (
         omega (arith, next-room here-alone, ap sizeOf (here-head said)),
-        omega (arith, r .fits, ap (λ (q : Paths). length (code q) + length (grownIn f q)) same, many),
+        (
+          omega (arith, r .fits, ap (λ (q : Paths). length (code q) + length (grownIn f q)) same, many, length-map path idOf),
+          (omega (arith, rooted, kind-small path), omega (arith, many, grown .0 .short, length-append path (f ∷ []))),
+        ),
       )
 
   pub room-literal : (n : ℕ) → headOf (getD words at 0) ≡ RecordHead n → Literal words at n f out to
@@ -443,11 +470,11 @@ module _ (words out out′ : List ℕ) (at f to : ℕ) (moved : Moved) where
       rw same (refl, rw word at took)
 
   pub turned-path :
-      (n : ℕ) → headOf (getD words at 0) ≡ PathHead n → Gained words at n f out to out′ moved → Turned words at f out to out′ (Next moved)
+      (kind n : ℕ) → headOf (getD words at 0) ≡ PathHead kind n → Gained words at kind n f out to out′ moved → Turned words at f out to out′ (Next moved)
   unfolding readAt writtenFor
-  turned-path n said gained q rest e =
-      let (path, same, many) = path-of q n (sym (head-here words rest q at e) ∙ said) in
-      rw same (refl, gained path rest many (rw same at e))
+  turned-path kind n said gained q rest e =
+      let (path, same, rooted, many) = path-of q kind n (sym (head-here words rest q at e) ∙ said) in
+      rw same (refl, gained path rest rooted many (rw same at e))
 
   pub turned-record :
       (n : ℕ) → headOf (getD words at 0) ≡ RecordHead n → FieldTaken words at n f out to out′ moved → Turned words at f out to out′ (Next moved)
@@ -538,7 +565,7 @@ grown-turn f (RecordLiteral fields) qs = refl
 grown-turn f (SetLiteral elements) qs = refl
 
 -- what was written stays as it is where more is written behind it
-path-more : (words more : List ℕ) (at : ℕ) → at + 1 + getD words at 0 / 8 ≤ length words → getD (words ++ more) at 0 ≡ getD words at 0
+path-more : (words more : List ℕ) (at : ℕ) → at + 1 + getD words at 0 / 64 ≤ length words → getD (words ++ more) at 0 ≡ getD words at 0
 path-more words more at h = List·getD-append words more 0 at (omega arith)
 
 within-more : (words more ps : List ℕ) → AllWithin words ps → AllWithin (words ++ more) ps
@@ -552,26 +579,40 @@ unfolding AllWithin pathsAt pathAt
 paths-more words more [] h = refl
 paths-more words more (p ∷ ps) h =
     let inside : p + 1 ≤ length words = omega (arith, h .0) in
-    let short : getD words p 0 / 8 ≤ length (drop (p + 1) words) = omega (arith, h .0, length-drop (p + 1) words) in
-    rw (paths-more words more ps (h .1), path-more words more p (h .0), drop-append-le (p + 1) words more inside, take-append-le (getD words p 0 / 8) (drop (p + 1) words) more short)
+    let short : getD words p 0 / 64 ≤ length (drop (p + 1) words) = omega (arith, h .0, length-drop (p + 1) words) in
+    rw (paths-more words more ps (h .1), path-more words more p (h .0), drop-append-le (p + 1) words more inside, take-append-le (getD words p 0 / 64) (drop (p + 1) words) more short)
 
 -- the path that was grown stands at its place
-grown-there : (f : ℕ) (words : List ℕ) (q : Paths) → pathsAt (words ++ writtenFor f q) (placesFor (headFor q) (length words)) ≡ ownGrown f q
-unfolding pathsAt pathAt writtenFor code
-grown-there f words Empty = refl
-grown-there f words (AccessPath path) =
-    let steps : (1 + 8 * length (path ++ (f ∷ []))) / 8 ≡ length (path ++ (f ∷ [])) = omega arith in
-    rw (getD-append-seam words (1 + 8 * length (path ++ (f ∷ []))) (path ++ (f ∷ [])) 0, steps, drop-append-add words ((1 + 8 * length (path ++ (f ∷ []))) ∷ (path ++ (f ∷ []))) 1, take-length (path ++ (f ∷ [])))
-grown-there f words (Union left right) = refl
-grown-there f words (RecordLiteral fields) = refl
-grown-there f words (SetLiteral elements) = refl
+grown-there : (f : ℕ) (words : List ℕ) (q : Paths) → Each IsGrown (ownGrown f q) → pathsAt (words ++ writtenFor f q) (placesFor (headFor q) (length words)) ≡ ownGrown f q
+unfolding pathsAt pathAt writtenFor code Each
+grown-there f words Empty good = refl
+grown-there f words (AccessPath path) good =
+    let grown = path ++ (f ∷ []) in
+    let word : ℕ = headWord (PathHead (rootKind grown) (length grown)) in
+    let steps : word / 64 ≡ length grown = omega (arith, kind-small grown) in
+    let kind : word / 8 % 8 ≡ rootKind grown = omega (arith, kind-small grown) in
+    rw (
+      getD-append-seam words word (map idOf grown) 0,
+      steps,
+      kind,
+      drop-append-add words (word ∷ map idOf grown) 1,
+      take-all (length grown) (map idOf grown) (omega (arith, length-map grown idOf)),
+      path-back grown (good .0 .steps),
+    )
+grown-there f words (Union left right) good = refl
+grown-there f words (RecordLiteral fields) good = refl
+grown-there f words (SetLiteral elements) good = refl
 
 grown-within : (f : ℕ) (words : List ℕ) (q : Paths) → AllWithin (words ++ writtenFor f q) (placesFor (headFor q) (length words))
 unfolding AllWithin writtenFor code
 grown-within f words Empty = tt
 grown-within f words (AccessPath path) =
-    let word : ℕ = 1 + 8 * length (path ++ (f ∷ [])) in
-    (rw (getD-append-seam words word (path ++ (f ∷ [])) 0) (omega (arith, length-append words (word ∷ (path ++ (f ∷ []))))), tt)
+    let grown = path ++ (f ∷ []) in
+    let word : ℕ = headWord (PathHead (rootKind grown) (length grown)) in (
+      rw (getD-append-seam words word (map idOf grown) 0)
+          (omega (arith, kind-small grown, length-map grown idOf, length-append words (word ∷ map idOf grown))),
+      tt,
+    )
 grown-within f words (Union left right) = tt
 grown-within f words (RecordLiteral fields) = tt
 grown-within f words (SetLiteral elements) = tt
@@ -580,7 +621,8 @@ grown-within f words (SetLiteral elements) = tt
 written-few : (f : ℕ) (q : Paths) → length (writtenFor f q) + length (codes (spine q)) ≤ length (code q) + length (ownGrown f q)
 unfolding writtenFor codes code
 written-few f Empty = omega arith
-written-few f (AccessPath path) = omega (arith, length-append path (f ∷ []))
+written-few f (AccessPath path) =
+    omega (arith, length-append path (f ∷ []), length-map path idOf, length-map (path ++ (f ∷ [])) idOf)
 written-few f (Union left right) = rw append-nil (omega arith)
 written-few f (RecordLiteral fields) = omega (arith, from-few f fields)
 written-few f (SetLiteral elements) = omega arith
@@ -650,11 +692,15 @@ pub record ExtendingPaths (words rest : List ℕ) (f : ℕ) (paths : Paths) (out
   pub in-places : grown ≤ length places
   pub within : AllWithin (take to out) (take grown places)
   pub there : pathsAt (take to out) (take grown places) ++ grownInAll f qs ≡ grownIn f paths
+  pub good : Each IsGrown (grownIn f paths)
 
 -- whatever stands there
 abbrev pub Extending : List ℕ → ℕ → ℕ → List ℕ → List ℕ → ℕ → ℕ → ℕ → ℕ → Type 0
 Extending words at f out places from to left grown =
-    (paths : Paths) (rest : List ℕ) → drop at words ≡ code paths ++ rest → ExtendingPaths words rest f paths out places from to left grown
+    (paths : Paths) (rest : List ℕ)
+    → drop at words ≡ code paths ++ rest
+    → Each IsGrown (grownIn f paths)
+    → ExtendingPaths words rest f paths out places from to left grown
 
 after-nothing : (o : Option (List ℕ)) → afterWords [] o ≡ o
 after-nothing none = refl
@@ -662,7 +708,7 @@ after-nothing (some more) = refl
 
 pub extending-first : (words out places : List ℕ) (at f : ℕ) → Extending words at f out places at 0 1 0
 unfolding nodesOfAll pathsAt AllWithin codes grownInAll
-extending-first words out places at f paths rest e = record {
+extending-first words out places at f paths rest e good = record {
   qs = paths ∷ [];
   ahead = stands-alone words rest paths at e;
   few = omega arith;
@@ -672,6 +718,7 @@ extending-first words out places at f paths rest e = record {
   in-places = omega arith;
   within = tt;
   there = rw append-nil;
+  good = good;
 }
 
 -- what `attr` gives for one is what the codes say
@@ -712,6 +759,11 @@ module _ {words rest out places : List ℕ} {f : ℕ} {paths : Paths} {from to l
       last [] many a b = (a ∙ rw append-nil, rw append-nil at b)
       last (q ∷ qs) many a b = absurd (omega arith)
 
+  -- the paths that gain the field in what is left
+  ahead-grown : (q : Paths) (more : List Paths) → g .qs ≡ q ∷ more → Each IsGrown (grownInAll f (q ∷ more))
+  ahead-grown q more same =
+      rw same at (each-split IsGrown (pathsAt (take to out) (take grown places)) (grownInAll f (g .qs)) (rw (g .there) (g .good)) .1)
+
   -- the words of what is left, from turn to turn
   ahead-words :
       (q : Paths) (more : List Paths)
@@ -736,6 +788,8 @@ module _ {words rest out places : List ℕ} {f : ℕ} {paths : Paths} {from to l
       n .there ∙ ap (λ (h : WrappedAccessPaths). take grown places ++ placesFor h to) head in
       let put : take to′ out′ ≡ w ++ v = rw (wrote .after, wrote .text) (put-behind out v to (omega (arith, wrote .after))) in
       let front : length w ≡ to = length-take-le to out (g .in-out) in
+      let own : Each IsGrown (ownGrown f q) =
+      each-split IsGrown (ownGrown f q) (grownInAll f (spine q ++ more)) (rw (grown-turn f q more) at (ahead-grown q more same)) .0 in
       record {
         qs = spine q ++ more;
         ahead = rw head (ahead-turn from′ a goes next);
@@ -761,7 +815,8 @@ module _ {words rest out places : List ℕ} {f : ℕ} {paths : Paths} {from to l
             (within-append (w ++ v) (take grown places) here (within-more w v (take grown places) (g .within)) (rw front at (grown-within f w q)));
         there =
             rw (put, noted, paths-at-append (w ++ v) (take grown places) here, paths-more w v (take grown places) (g .within))
-            (rw (rw front at (grown-there f w q), append-assoc, ← grown-turn f q more, ← same) (g .there));
+            (rw (rw front at (grown-there f w q own), append-assoc, ← grown-turn f q more, ← same) (g .there));
+        good = g .good;
       }
 
   module _ (some-left : 0 < left) where
@@ -799,6 +854,7 @@ module _ {words rest out places : List ℕ} {f : ℕ} {paths : Paths} {from to l
             paths = q;
             rest = codes more ++ rest;
             coded = next-coded;
+            good = each-split IsGrown (grownIn f q) (grownInAll f more) (ahead-grown q more same) .0;
             fits =
                 omega (
                   arith,

@@ -2,10 +2,11 @@
 use Prim.Native.Nat.{ℕ, suc, _+_, _*_, _/_, _%_, _≤_}
 use mathlib.Core.Path.{_≡_}
 use mathlib.Core.Bool.{cond}
-use mathlib.Core.List.{List, [], _∷_, _++_}
+use mathlib.Core.List.{List, [], _∷_, _++_, map}
 use mathlib.Core.Option.{none, some}
 use lib.Dec.{eqb}
 use lib.ListN.{length, take, drop, getD}
+use Rattle.rules.specs.Tries.{stepOf, kindOf, idOf}
 use Rattle.rules.specs.Paths.{
   Path,
   Paths,
@@ -33,31 +34,40 @@ use Rattle.wrapped_paths.specs.declared.WrappedAccessPaths.the-variants.
 use Rattle.wrapped_paths.specs.declared.Extended.{Extended}
 use Rattle.wrapped_paths.specs.declared.Extended.the-variants.{Done, SetDereferenced}
 
--- the head that a word says, and the word that says it: its kind, and 8 times the steps of a path or the fields of a record
+-- the head that a word says, and the word that says it: what it is, 8 times the kind of a path's root, and 64 times the steps of a path or the
+-- fields of a record
 unfoldable pub headOf : ℕ → WrappedAccessPaths
 headOf w =
     cond (eqb (w % 8) 0) EmptyHead
-    (cond (eqb (w % 8) 1) (PathHead (w / 8))
-    (cond (eqb (w % 8) 2) UnionHead (cond (eqb (w % 8) 3) SetHead (RecordHead (w / 8)))))
+    (cond (eqb (w % 8) 1) (PathHead (w / 8 % 8) (w / 64))
+    (cond (eqb (w % 8) 2) UnionHead (cond (eqb (w % 8) 3) SetHead (RecordHead (w / 64)))))
 
 abbrev pub headWord : WrappedAccessPaths → ℕ
 headWord EmptyHead = 0
-headWord (PathHead steps) = 1 + 8 * steps
+headWord (PathHead kind steps) = 1 + 8 * kind + 64 * steps
 headWord UnionHead = 2
 headWord SetHead = 3
-headWord (RecordHead fields) = 4 + 8 * fields
+headWord (RecordHead fields) = 4 + 64 * fields
+
+-- the kind of a path's root
+abbrev pub rootIn : WrappedAccessPaths → ℕ
+rootIn EmptyHead = 0
+rootIn (PathHead kind steps) = kind
+rootIn UnionHead = 0
+rootIn SetHead = 0
+rootIn (RecordHead fields) = 0
 
 -- its steps or names, and how many wrapped paths it wraps
 abbrev pub sizeOf : WrappedAccessPaths → ℕ
 sizeOf EmptyHead = 0
-sizeOf (PathHead steps) = steps
+sizeOf (PathHead kind steps) = steps
 sizeOf UnionHead = 0
 sizeOf SetHead = 0
 sizeOf (RecordHead fields) = fields
 
 abbrev pub wrapsOf : WrappedAccessPaths → ℕ
 wrapsOf EmptyHead = 0
-wrapsOf (PathHead steps) = 0
+wrapsOf (PathHead kind steps) = 0
 wrapsOf UnionHead = 2
 wrapsOf SetHead = 1
 wrapsOf (RecordHead fields) = fields
@@ -70,11 +80,16 @@ unfoldable pub namesIn : Fields → List ℕ
 namesIn noField = []
 namesIn (field name paths fields) = name ∷ namesIn fields
 
+-- the kind of a path's root, which its head says; the words behind the head are ids
+abbrev pub rootKind : Path → ℕ
+rootKind [] = 0
+rootKind (root ∷ fields) = kindOf root % 8
+
 -- the words of wrapped paths
 unfoldable mutual
   pub code : Paths → List ℕ
   code Empty = headWord EmptyHead ∷ []
-  code (AccessPath path) = headWord (PathHead (length path)) ∷ path
+  code (AccessPath path) = headWord (PathHead (rootKind path) (length path)) ∷ map idOf path
   code (Union left right) = headWord UnionHead ∷ (code right ++ code left)
   code (RecordLiteral fields) = headWord (RecordHead (countIn fields)) ∷ (namesIn fields ++ codeFields fields)
   code (SetLiteral elements) = headWord SetHead ∷ code elements
@@ -120,12 +135,19 @@ pub record ResultStands (words : List ℕ) (at : ℕ) : Type 0 where
   pub few-nodes : nodesOf paths ≤ 256
   pub good-paths : AllPaths (pathsIn paths)
 
--- how many steps the path has whose head stands at a place, the path, and that all of it stands there
+-- how many steps the path has whose head stands at a place, the kind of its root, the path, and that all of it stands there
 abbrev pub stepsAt : List ℕ → ℕ → ℕ
-stepsAt words at = getD words at 0 / 8
+stepsAt words at = getD words at 0 / 64
+
+abbrev pub rootAt : List ℕ → ℕ → ℕ
+rootAt words at = getD words at 0 / 8 % 8
+
+abbrev pub rooted : ℕ → List ℕ → Path
+rooted kind [] = []
+rooted kind (id ∷ fields) = stepOf kind id ∷ fields
 
 unfoldable pub pathAt : List ℕ → ℕ → Path
-pathAt words at = take (stepsAt words at) (drop (at + 1) words)
+pathAt words at = rooted (rootAt words at) (take (stepsAt words at) (drop (at + 1) words))
 
 unfoldable pub pathsAt : List ℕ → List ℕ → List Path
 pathsAt words [] = []
@@ -142,7 +164,11 @@ pub record Found (words : List ℕ) (paths : Paths) (places : List ℕ) (count :
   pub there : pathsAt words (take count places) ≡ pathsIn paths
 
 abbrev pub FoundAt : List ℕ → ℕ → List ℕ → ℕ → Type 0
-FoundAt words at places count = (paths : Paths) (rest : List ℕ) → drop at words ≡ code paths ++ rest → Found words paths places count
+FoundAt words at places count =
+    (paths : Paths) (rest : List ℕ)
+    → drop at words ≡ code paths ++ rest
+    → AllPaths (pathsIn paths)
+    → Found words paths places count
 
 -- what `attr` gives in words, and the places of the paths that gained the field
 pub record Grew (f : ℕ) (paths : Paths) (out places : List ℕ) (words grown : ℕ) : Type 0 where
@@ -160,4 +186,8 @@ ExtendedBy f paths out places (Done words grown) = Grew f paths out places words
 ExtendedBy f paths out places SetDereferenced = getOrHasAttr f paths ≡ none
 
 abbrev pub ExtendedAt : List ℕ → ℕ → ℕ → List ℕ → List ℕ → Extended → Type 0
-ExtendedAt words at f out places r = (paths : Paths) (rest : List ℕ) → drop at words ≡ code paths ++ rest → ExtendedBy f paths out places r
+ExtendedAt words at f out places r =
+    (paths : Paths) (rest : List ℕ)
+    → drop at words ≡ code paths ++ rest
+    → AllPaths (pathsIn paths)
+    → ExtendedBy f paths out places r

@@ -1,15 +1,18 @@
 -- Laws of wrapped paths as words: what stands at a head, how far wrapped paths go, and what `attr` makes of them, head by head.
 -- No contract cites this file.
 use Prim.Native.Nat.{ℕ, suc, _+_, _*_, _-_, _/_, _%_, _≤_, _<_}
-use native.Mathlib.Nat.{add-zero, add-assoc, add-mul-mod-self-left}
+use native.Mathlib.Nat.{add-zero, add-assoc}
 use native.Mathlib.Numerals.{add-one}
 use native.Mathlib.Omega.{arith}
 use mathlib.Core.Path.{_≡_, refl, sym, ap, _∙_}
-use mathlib.Core.List.{List, [], _∷_, _++_, append-assoc, append-nil}
-use borrow.Author.Tests.{eq-eqb, ne-eqb}
-use lib.ListN.{length, take, drop, getD, set, length-append, length-drop, length-set, drop-of-length-le}
+use mathlib.Core.Bool.{and-eq-true-iff}
+use mathlib.Core.List.{List, [], _∷_, _++_, map, append-assoc, append-nil}
+use borrow.Author.Tests.{eq-eqb, ne-eqb, leb-true}
+use lib.ListN.{length, take, drop, getD, set, length-append, length-drop, length-set, length-map, drop-of-length-le}
 use lib.Seq.{drop-drop, getD-drop, take-append-seam, drop-append-seam, drop-cons, take-suc-set, length-take-le}
+use Rattle.rules.specs.Tries.{kindOf, idOf, isStep}
 use Rattle.rules.specs.Paths.{Path, Paths, Empty, AccessPath, Union, RecordLiteral, SetLiteral, Fields, noField, field, nodesOf, nodesOfFields, pathsIn, pathsInFields}
+use Rattle.rules.specs.StepLaws.{Each, Stepped, IsPath, AllPaths, each-split}
 use Rattle.wrapped_paths.specs.declared.WrappedAccessPaths.{WrappedAccessPaths}
 use Rattle.wrapped_paths.specs.declared.WrappedAccessPaths.the-variants.{
   Empty as EmptyHead,
@@ -18,7 +21,7 @@ use Rattle.wrapped_paths.specs.declared.WrappedAccessPaths.the-variants.
   RecordLiteral as RecordHead,
   SetLiteral as SetHead,
 }
-use Rattle.wrapped_paths.specs.Code.{headOf, headWord, sizeOf, wrapsOf, countIn, namesIn, code, codeFields, codes, nodesOfAll, namePlace, Measures, pathAt, pathsAt, AllWithin, FoundAt}
+use Rattle.wrapped_paths.specs.Code.{headOf, headWord, sizeOf, wrapsOf, countIn, namesIn, rootKind, code, codeFields, codes, nodesOfAll, namePlace, Measures, rooted, pathAt, pathsAt, AllWithin, FoundAt}
 use Rattle.wrapped_paths.specs.Turns.{placesFor, Noted}
 
 -- ---- heads
@@ -28,7 +31,7 @@ module _ (w : ℕ) where
   unfolding headOf
   head-empty e = rw (eq-eqb (w % 8) 0 e)
 
-  pub head-path : w % 8 ≡ 1 → headOf w ≡ PathHead (w / 8)
+  pub head-path : w % 8 ≡ 1 → headOf w ≡ PathHead (w / 8 % 8) (w / 64)
   unfolding headOf
   head-path e = rw (ne-eqb (w % 8) 0 (omega arith), eq-eqb (w % 8) 1 e)
 
@@ -40,19 +43,9 @@ module _ (w : ℕ) where
   unfolding headOf
   head-set e = rw (ne-eqb (w % 8) 0 (omega arith), ne-eqb (w % 8) 1 (omega arith), ne-eqb (w % 8) 2 (omega arith), eq-eqb (w % 8) 3 e)
 
-  pub head-record : (w % 8 ≡ 0 → ⊥) → (w % 8 ≡ 1 → ⊥) → (w % 8 ≡ 2 → ⊥) → (w % 8 ≡ 3 → ⊥) → headOf w ≡ RecordHead (w / 8)
+  pub head-record : (w % 8 ≡ 0 → ⊥) → (w % 8 ≡ 1 → ⊥) → (w % 8 ≡ 2 → ⊥) → (w % 8 ≡ 3 → ⊥) → headOf w ≡ RecordHead (w / 64)
   unfolding headOf
   head-record a b c d = rw (ne-eqb (w % 8) 0 a, ne-eqb (w % 8) 1 b, ne-eqb (w % 8) 2 c, ne-eqb (w % 8) 3 d)
-
--- a word says the head that it is for
-pub head-word : (h : WrappedAccessPaths) → headOf (headWord h) ≡ h
-head-word EmptyHead = head-empty 0 refl
-head-word (PathHead n) = head-path (1 + 8 * n) (add-mul-mod-self-left 1 8 n) ∙ ap PathHead (omega arith)
-head-word UnionHead = head-union 2 refl
-head-word SetHead = head-set 3 refl
-head-word (RecordHead n) =
-    let e : (4 + 8 * n) % 8 ≡ 4 = add-mul-mod-self-left 4 8 n in
-    head-record (4 + 8 * n) (omega arith) (omega arith) (omega arith) (omega arith) ∙ ap RecordHead (omega arith)
 
 -- ---- a head, its steps or names, and what it wraps
 
@@ -62,14 +55,14 @@ fieldPaths (field name paths fields) = paths ∷ fieldPaths fields
 
 abbrev pub headFor : Paths → WrappedAccessPaths
 headFor Empty = EmptyHead
-headFor (AccessPath path) = PathHead (length path)
+headFor (AccessPath path) = PathHead (rootKind path) (length path)
 headFor (Union left right) = UnionHead
 headFor (RecordLiteral fields) = RecordHead (countIn fields)
 headFor (SetLiteral elements) = SetHead
 
 abbrev pub payload : Paths → List ℕ
 payload Empty = []
-payload (AccessPath path) = path
+payload (AccessPath path) = map idOf path
 payload (Union left right) = []
 payload (RecordLiteral fields) = namesIn fields
 payload (SetLiteral elements) = []
@@ -93,6 +86,58 @@ unfoldable pub pathsInAll : List Paths → List Path
 pathsInAll [] = []
 pathsInAll (paths ∷ more) = pathsIn paths ++ pathsInAll more
 
+-- ---- the ids of a path
+
+-- a kind takes three bits
+pub kind-small : (path : Path) → rootKind path < 8
+kind-small [] = omega arith
+kind-small (root ∷ fields) = omega arith
+
+-- a field more leaves the kind, and is its own id
+pub kind-grown : (path : Path) (f : ℕ) → f < 65536 → rootKind (path ++ (f ∷ [])) ≡ rootKind path
+kind-grown [] f small = omega arith
+kind-grown (root ∷ fields) f small = refl
+
+pub ids-grown : (path : Path) (f : ℕ) → f < 65536 → map idOf (path ++ (f ∷ [])) ≡ map idOf path ++ (f ∷ [])
+ids-grown [] f small = let same : idOf f ≡ f = omega arith in rw same
+ids-grown (step ∷ path) f small = ap (λ (l : List ℕ). idOf step ∷ l) (ids-grown path f small)
+
+-- fields are their ids
+fields-same : (fields : List ℕ) → Each (λ f. f < 65536) fields → map idOf fields ≡ fields
+unfolding Each
+fields-same [] h = refl
+fields-same (f ∷ fields) h =
+    let same : idOf f ≡ f = omega (arith, h .0) in
+    rw (same, fields-same fields (h .1))
+
+-- a path is read back from the kind of its root and its ids
+pub path-back : (path : Path) → Stepped path → rooted (rootKind path) (map idOf path) ≡ path
+unfolding Stepped
+path-back [] h = absurd h
+path-back (root ∷ fields) h =
+    let small : kindOf root ≤ 5 = leb-true (kindOf root) 5 (and-eq-true-iff _ _ .0 (and-eq-true-iff (isStep root) _ .0 (h .0) .0) .0) in
+    let same : kindOf root % 8 * 65536 + idOf root ≡ root = omega arith in
+    rw (same, fields-same fields (h .1))
+
+-- ---- what a head says
+
+-- a word says the head that it is for
+pub head-word : (q : Paths) → headOf (headWord (headFor q)) ≡ headFor q
+head-word Empty = head-empty 0 refl
+head-word (AccessPath path) =
+    let w : ℕ = 1 + 8 * rootKind path + 64 * length path in
+    let kind : w / 8 % 8 ≡ rootKind path = omega (arith, kind-small path) in
+    let steps : w / 64 ≡ length path = omega (arith, kind-small path) in
+    head-path w (omega arith) ∙ rw (kind, steps)
+head-word (Union left right) = head-union 2 refl
+head-word (RecordLiteral fields) =
+    let w : ℕ = 4 + 64 * countIn fields in
+    let e : w % 8 ≡ 4 = omega arith in
+    head-record w (omega arith) (omega arith) (omega arith) (omega arith) ∙ ap RecordHead (omega arith)
+head-word (SetLiteral elements) = head-set 3 refl
+
+-- ---- counts and words
+
 pub names-many : (fields : Fields) → length (namesIn fields) ≡ countIn fields
 unfolding namesIn countIn
 names-many noField = refl
@@ -105,7 +150,7 @@ paths-within (field name paths fields) = ap suc (paths-within fields)
 
 pub payload-many : (q : Paths) → length (payload q) ≡ sizeOf (headFor q)
 payload-many Empty = refl
-payload-many (AccessPath path) = refl
+payload-many (AccessPath path) = length-map path idOf
 payload-many (Union left right) = refl
 payload-many (RecordLiteral fields) = names-many fields
 payload-many (SetLiteral elements) = refl
@@ -246,7 +291,7 @@ module _ {words rest : List ℕ} {q : Paths} {qs : List Paths} {from left : ℕ}
   next-head-word = first-word words from opened
 
   pub next-head : headOf (getD words from 0) ≡ headFor q
-  next-head = ap headOf next-head-word ∙ head-word (headFor q)
+  next-head = ap headOf next-head-word ∙ head-word q
 
   behind : drop (from + 1) words ≡ payload q ++ (codes (unwrapped q ++ qs) ++ rest)
   behind = behind-word words from opened
@@ -406,27 +451,32 @@ within-append words (p ∷ ps) qs h k = (h .0, within-append words ps qs (h .1) 
 
 pub places-few : (h : WrappedAccessPaths) (at : ℕ) → length (placesFor h at) ≤ 1
 places-few EmptyHead at = omega arith
-places-few (PathHead steps) at = omega arith
+places-few (PathHead kind steps) at = omega arith
 places-few UnionHead at = omega arith
 places-few SetHead at = omega arith
 places-few (RecordHead fields) at = omega arith
 
 -- the path at the place of a head is its own
 module _ {words rest : List ℕ} {qs : List Paths} {from left : ℕ} where
-  own-path : (q : Paths) → Ahead words rest (q ∷ qs) from left → pathsAt words (placesFor (headFor q) from) ≡ ownPath q
-  unfolding pathsAt pathAt
-  own-path Empty a = refl
-  own-path (AccessPath path) a =
-      let steps : getD words from 0 / 8 ≡ length path = omega (arith, next-head-word a) in
-      rw (steps, next-payload a)
-  own-path (Union l r) a = refl
-  own-path (RecordLiteral fields) a = refl
-  own-path (SetLiteral elements) a = refl
+  pub path-there : (path : Path) → Stepped path → Ahead words rest (AccessPath path ∷ qs) from left → pathAt words from ≡ path
+  unfolding pathAt
+  path-there path stepped a =
+      let steps : getD words from 0 / 64 ≡ length path = omega (arith, next-head-word a, kind-small path) in
+      let kind : getD words from 0 / 8 % 8 ≡ rootKind path = omega (arith, next-head-word a, kind-small path) in
+      rw (steps, kind, next-payload a, path-back path stepped)
+
+  own-path : (q : Paths) → Each IsPath (ownPath q) → Ahead words rest (q ∷ qs) from left → pathsAt words (placesFor (headFor q) from) ≡ ownPath q
+  unfolding pathsAt Each
+  own-path Empty good a = refl
+  own-path (AccessPath path) good a = rw (path-there path (good .0 .steps) a)
+  own-path (Union l r) good a = refl
+  own-path (RecordLiteral fields) good a = refl
+  own-path (SetLiteral elements) good a = refl
 
   own-within : (q : Paths) → Ahead words rest (q ∷ qs) from left → AllWithin words (placesFor (headFor q) from)
   unfolding AllWithin
   own-within Empty a = tt
-  own-within (AccessPath path) a = (omega (arith, next-head-word a, next-room a), tt)
+  own-within (AccessPath path) a = (omega (arith, next-head-word a, next-room a, kind-small path), tt)
   own-within (Union l r) a = tt
   own-within (RecordLiteral fields) a = tt
   own-within (SetLiteral elements) a = tt
@@ -439,27 +489,32 @@ pub record Seen (words rest : List ℕ) (paths : Paths) (places : List ℕ) (fro
   pub in-places : found ≤ length places
   pub within : AllWithin words (take found places)
   pub there : pathsAt words (take found places) ++ pathsInAll qs ≡ pathsIn paths
+  pub good : AllPaths (pathsIn paths)
 
 -- whatever stands there
 abbrev pub Searching : List ℕ → ℕ → List ℕ → ℕ → ℕ → ℕ → Type 0
 Searching words at places from left found =
-    (paths : Paths) (rest : List ℕ) → drop at words ≡ code paths ++ rest → Seen words rest paths places from left found
+    (paths : Paths) (rest : List ℕ)
+    → drop at words ≡ code paths ++ rest
+    → AllPaths (pathsIn paths)
+    → Seen words rest paths places from left found
 
 pub searching-first : (words places : List ℕ) (at : ℕ) → Searching words at places at 1 0
 unfolding codes nodesOfAll pathsAt AllWithin pathsInAll
-searching-first words places at paths rest e = record {
+searching-first words places at paths rest e good = record {
   qs = paths ∷ [];
   ahead = record { as-many = refl; coded = rw append-nil e };
   few = omega arith;
   in-places = omega arith;
   within = tt;
   there = rw append-nil;
+  good = good;
 }
 
 pub name-searched : {words places : List ℕ} (at : ℕ) {from left found : ℕ} → Searching words at places from left found → left ≤ 0 → FoundAt words at places found
 unfolding pathsInAll
-name-searched {words} {places} at {from} {left} {found} m none-left paths rest e =
-    let s = m paths rest e in
+name-searched {words} {places} at {from} {left} {found} m none-left paths rest e good =
+    let s = m paths rest e good in
     record { in-places = s .in-places; within = s .within; there = go (s .qs) (s .ahead .as-many) (s .there) }
   where
     go : (qs : List Paths) → length qs ≡ left → pathsAt words (take found places) ++ pathsInAll qs ≡ pathsIn paths → pathsAt words (take found places) ≡ pathsIn paths
@@ -495,6 +550,8 @@ module _ {words rest places : List ℕ} {paths : Paths} {from left found : ℕ} 
           let (q, more, same) = upcoming in
           let a = upcoming-ahead in
           let head = said ∙ next-head a in
+          let ahead : AllPaths (pathsInAll (s .qs)) = each-split IsPath (pathsAt words (take found places)) (pathsInAll (s .qs)) (rw (s .there) (s .good)) .1 in
+          let own : Each IsPath (ownPath q) = each-split IsPath (ownPath q) (pathsInAll (unwrapped q ++ more)) (rw (same, paths-next q more) at ahead) .0 in
           let noted : take found′ places′ ≡ take found places ++ placesFor (headFor q) from = n .there ∙ ap (λ (h : WrappedAccessPaths). take found places ++ placesFor h from) head in
           record {
             qs = unwrapped q ++ more;
@@ -505,6 +562,7 @@ module _ {words rest places : List ℕ} {paths : Paths} {from left found : ℕ} 
             in-places = n .in-places;
             within = rw noted (within-append words (take found places) (placesFor (headFor q) from) (s .within) (own-within q a));
             there =
-                rw (noted, paths-at-append words (take found places) (placesFor (headFor q) from), own-path q a, append-assoc, ← paths-next q more, ← same)
+                rw (noted, paths-at-append words (take found places) (placesFor (headFor q) from), own-path q own a, append-assoc, ← paths-next q more, ← same)
                 (s .there);
+            good = s .good;
           }

@@ -16,7 +16,7 @@ use Rattle.rules.specs.Paths.{
   fieldOf,
   fieldOr,
 }
-use Rattle.rules.specs.StepLaws.{grownIn}
+use Rattle.rules.specs.StepLaws.{Each, Stepped, grownIn}
 use Rattle.words.specs.Runs.{Wrote}
 use Rattle.wrapped_paths.specs.declared.WrappedAccessPaths.{WrappedAccessPaths}
 use Rattle.wrapped_paths.specs.declared.WrappedAccessPaths.the-variants.{
@@ -29,12 +29,12 @@ use Rattle.wrapped_paths.specs.declared.WrappedAccessPaths.the-variants.
 use Rattle.wrapped_paths.specs.declared.Moved.{Moved}
 use Rattle.wrapped_paths.specs.declared.Turn.{Turn}
 use Rattle.wrapped_paths.specs.declared.Turn.the-variants.{Next, SetDereferenced}
-use Rattle.wrapped_paths.specs.Code.{headWord, countIn, code, ResultStands}
+use Rattle.wrapped_paths.specs.Code.{headWord, rootKind, countIn, code, ResultStands}
 
 -- the place of a head, if it is that of a path
 abbrev pub placesFor : WrappedAccessPaths → ℕ → List ℕ
 placesFor EmptyHead at = []
-placesFor (PathHead steps) at = at ∷ []
+placesFor (PathHead kind steps) at = at ∷ []
 placesFor UnionHead at = []
 placesFor SetHead at = []
 placesFor (RecordHead fields) at = []
@@ -47,7 +47,7 @@ pub record Noted (places : List ℕ) (count : ℕ) (more places′ : List ℕ) (
 -- how many wrapped paths behind a head are extended too
 abbrev pub sidesOf : WrappedAccessPaths → ℕ
 sidesOf EmptyHead = 0
-sidesOf (PathHead steps) = 0
+sidesOf (PathHead kind steps) = 0
 sidesOf UnionHead = 2
 sidesOf SetHead = 0
 sidesOf (RecordHead fields) = 0
@@ -57,10 +57,16 @@ pub record TurnTook (at : ℕ) (read : List ℕ) (out : List ℕ) (to : ℕ) (wr
   pub next : moved .from ≡ at + length read
   pub wrote : Wrote out to written out′ (moved .to)
 
+-- a path that has gained a field
+pub record IsGrown (path : Path) : Type 0 where
+  pub steps : Stepped path
+  pub short : length path ≤ 25
+
 -- a path gains the field f
-abbrev pub Gained : List ℕ → ℕ → ℕ → ℕ → List ℕ → ℕ → List ℕ → Moved → Type 0
-Gained words at steps f out to out′ moved =
+abbrev pub Gained : List ℕ → ℕ → ℕ → ℕ → ℕ → List ℕ → ℕ → List ℕ → Moved → Type 0
+Gained words at kind steps f out to out′ moved =
     (path : Path) (rest : List ℕ)
+    → rootKind path ≡ kind
     → length path ≡ steps
     → drop at words ≡ code (AccessPath path) ++ rest
     → TurnTook at (code (AccessPath path)) out to (code (AccessPath (path ++ (f ∷ [])))) out′ moved
@@ -112,6 +118,7 @@ pub record TurnRoom (words : List ℕ) (at f : ℕ) (out : List ℕ) (to : ℕ) 
   pub paths : Paths
   pub rest : List ℕ
   pub coded : drop at words ≡ code paths ++ rest
+  pub good : Each IsGrown (grownIn f paths)
   pub fits : to + (length (code paths) + length (grownIn f paths)) ≤ length out
 
 -- and they are those of a result

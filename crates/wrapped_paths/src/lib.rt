@@ -1,17 +1,18 @@
-// Wrapped paths as words: a head and what it wraps behind it, the right side of a union and the last field of a record first. So results that
-// are pushed stand in front of those below them, and wrapping them puts a head in front.
+// Wrapped paths as words of 16 bits: a head and what it wraps behind it, the right side of a union and the last field of a record first. So
+// results that are pushed stand in front of those below them, and wrapping them puts a head in front.
 ghost use mathlib.Core.Path.{_≡_};
 ghost use mathlib.Core.List.{[], _∷_};
 ghost use Prim.Native.Nat.{_+_, _^_, _<_, _≤_};
 ghost use lib.ListN.{length, getD};
-ghost use Rattle.wrapped_paths.specs.Code.{headOf, headWord, sizeOf, wrapsOf, namePlace, stepsAt, Standing, Measures, ResultStands, FoundAt, ExtendedAt};
+ghost use Rattle.wrapped_paths.specs.Code.{headOf, headWord, rootIn, sizeOf, wrapsOf, namePlace, stepsAt, Standing, Measures, ResultStands, FoundAt, ExtendedAt};
 ghost use Rattle.wrapped_paths.specs.Turns.{placesFor, Noted, sidesOf, TurnTook, Gained, Literal, FieldTaken, TurnRoom, Growing, Turned};
-use words::copy_words;
+use words::copy_short_words;
+use words::wide;
 
-// What a head says: a path has so many steps behind it, a record so many names and then as many fields.
+// What a head says: a path has a root of some kind and the ids of so many steps behind it, a record so many names and then as many fields.
 pub enum WrappedAccessPaths {
     Empty,
-    AccessPath(usize),
+    AccessPath(u16, usize),
     Union,
     RecordLiteral(usize),
     SetLiteral,
@@ -55,15 +56,15 @@ impl WrappedAccessPaths {
     pub const WORDS: usize = 6_656;
 
     // What a word says.
-    pub fn of(word: u64) -> WrappedAccessPaths
+    pub fn of(word: u16) -> WrappedAccessPaths
         ensures { λ r. ⌜ r ≡ headOf word ⌝ }
         ensures { λ r. ⌜ sizeOf r < 2 ^ 61 ⌝ }
     {
-        let kind = word % 8;
-        let count = (word / 8) as usize;
-        match kind {
+        let what = word % 8;
+        let count = (word / 64) as usize;
+        match what {
             0 => WrappedAccessPaths::Empty,
-            1 => WrappedAccessPaths::AccessPath(count),
+            1 => WrappedAccessPaths::AccessPath(word / 8 % 8, count),
             2 => WrappedAccessPaths::Union,
             3 => WrappedAccessPaths::SetLiteral,
             _ => WrappedAccessPaths::RecordLiteral(count),
@@ -71,16 +72,16 @@ impl WrappedAccessPaths {
     }
 
     // The word that says it.
-    pub fn word(self) -> u64
-        requires { ⌜ sizeOf self < 2 ^ 60 ⌝ }
+    pub fn word(self) -> u16
+        requires { ⌜ (rootIn self < 8) × (sizeOf self < 512) ⌝ }
         ensures { λ r. ⌜ r ≡ headWord self ⌝ }
     {
         match self {
             WrappedAccessPaths::Empty => 0,
-            WrappedAccessPaths::AccessPath(steps) => 1 + 8 * steps as u64,
+            WrappedAccessPaths::AccessPath(kind, steps) => 1 + 8 * kind + 64 * steps as u16,
             WrappedAccessPaths::Union => 2,
             WrappedAccessPaths::SetLiteral => 3,
-            WrappedAccessPaths::RecordLiteral(fields) => 4 + 8 * fields as u64,
+            WrappedAccessPaths::RecordLiteral(fields) => 4 + 64 * fields as u16,
         }
     }
 
@@ -91,7 +92,7 @@ impl WrappedAccessPaths {
     {
         match self {
             WrappedAccessPaths::Empty => 1,
-            WrappedAccessPaths::AccessPath(steps) => 1 + steps,
+            WrappedAccessPaths::AccessPath(_, steps) => 1 + steps,
             WrappedAccessPaths::Union => 1,
             WrappedAccessPaths::SetLiteral => 1,
             WrappedAccessPaths::RecordLiteral(fields) => 1 + fields,
@@ -104,7 +105,7 @@ impl WrappedAccessPaths {
     {
         match self {
             WrappedAccessPaths::Empty => 0,
-            WrappedAccessPaths::AccessPath(_) => 0,
+            WrappedAccessPaths::AccessPath(_, _) => 0,
             WrappedAccessPaths::Union => 2,
             WrappedAccessPaths::SetLiteral => 1,
             WrappedAccessPaths::RecordLiteral(fields) => fields,
@@ -117,7 +118,7 @@ impl WrappedAccessPaths {
     {
         match self {
             WrappedAccessPaths::Empty => 0,
-            WrappedAccessPaths::AccessPath(_) => 0,
+            WrappedAccessPaths::AccessPath(_, _) => 0,
             WrappedAccessPaths::Union => WrappedAccessPaths::SIDES,
             WrappedAccessPaths::SetLiteral => 0,
             WrappedAccessPaths::RecordLiteral(_) => 0,
@@ -126,15 +127,15 @@ impl WrappedAccessPaths {
 }
 
 // How many steps the path has whose head stands at a place.
-pub fn steps_at(code: &[u64], at: usize) -> u64
+pub fn steps_at(code: &[u16], at: usize) -> u64
     requires { ⌜ at < length (now code) ⌝ }
     ensures { λ r. ⌜ r ≡ stepsAt (now (code .entry)) at ⌝ }
 {
-    code[at] / 8
+    wide(code[at]) / 64
 }
 
 // How far so many wrapped paths go from a place on.
-pub fn measure(code: &[u64], at: usize, count: usize) -> Measured
+pub fn measure(code: &[u16], at: usize, count: usize) -> Measured
     requires { ⌜ Standing (now code) at count ⌝ }
     ensures { λ r. ⌜ Measures (now (code .entry)) at count (r .end) (r .nodes) ⌝ }
 {
@@ -157,7 +158,7 @@ fn note_path(head: WrappedAccessPaths, at: usize, places: &mut [u64], found: usi
 {
     match head {
         WrappedAccessPaths::Empty => found,
-        WrappedAccessPaths::AccessPath(_) => note_place(at, places, found),
+        WrappedAccessPaths::AccessPath(_, _) => note_place(at, places, found),
         WrappedAccessPaths::Union => found,
         WrappedAccessPaths::SetLiteral => found,
         WrappedAccessPaths::RecordLiteral(_) => found,
@@ -174,7 +175,7 @@ fn note_place(at: usize, places: &mut [u64], found: usize) -> usize
 }
 
 // The places of all paths among the wrapped paths at a place, and how many there are.
-pub fn paths_in(code: &[u64], at: usize, places: &mut [u64]) -> usize
+pub fn paths_in(code: &[u16], at: usize, places: &mut [u64]) -> usize
     requires { ⌜ ResultStands (now code) at × (length (now places) ≡ 256) ⌝ }
     ensures { λ r. ⌜ FoundAt (now (code .entry)) at (now (places .exit)) r ⌝ }
 {
@@ -191,12 +192,12 @@ pub fn paths_in(code: &[u64], at: usize, places: &mut [u64]) -> usize
 }
 
 // The place of a name among names, or their count.
-pub fn name_place(names: &[u64], name: u64) -> usize
+pub fn name_place(names: &[u16], name: u64) -> usize
     ensures { λ r. ⌜ r ≡ namePlace (now (names .entry)) name ⌝ }
 {
     let mut i = 0;
     while i < names.len() {
-        if names[i] == name {
+        if wide(names[i]) == name {
             return i;
         }
         i += 1;
@@ -206,11 +207,11 @@ pub fn name_place(names: &[u64], name: u64) -> usize
 
 // A record literal's field, or the literal itself where it has not that field.
 fn take_field(
-    code: &[u64],
+    code: &[u16],
     at: usize,
     fields: usize,
     name: u64,
-    out: &mut [u64],
+    out: &mut [u16],
     to: usize,
 ) -> Moved
     requires { ⌜ Literal (now code) at fields name (now out) to ⌝ }
@@ -223,26 +224,34 @@ fn take_field(
     if place == fields {
         return Moved {
             from: end,
-            to: copy_words(&code[at..end], out, to),
+            to: copy_short_words(&code[at..end], out, to),
         };
     }
     let field = measure(code, first, place).end;
     let field_end = measure(code, field, 1).end;
     Moved {
         from: end,
-        to: copy_words(&code[field..field_end], out, to),
+        to: copy_short_words(&code[field..field_end], out, to),
     }
 }
 
 // A path that gains a field.
-fn grow_path(code: &[u64], at: usize, steps: usize, name: u64, out: &mut [u64], to: usize) -> Moved
-    requires { ⌜ (at + 1 + steps ≤ length (now code)) × (to + 2 + steps ≤ length (now out)) ⌝ }
-    ensures { λ r. ⌜ Gained (now (code .entry)) at steps name (now (out .entry)) to (now (out .exit)) r ⌝ }
+fn grow_path(
+    code: &[u16],
+    at: usize,
+    kind: u16,
+    steps: usize,
+    name: u16,
+    out: &mut [u16],
+    to: usize,
+) -> Moved
+    requires { ⌜ (at + 1 + steps ≤ length (now code)) × ((to + 2 + steps ≤ length (now out)) × ((kind < 8) × (steps ≤ 24))) ⌝ }
+    ensures { λ r. ⌜ Gained (now (code .entry)) at kind steps name (now (out .entry)) to (now (out .exit)) r ⌝ }
 {
     let first = at + 1;
     let end = first + steps;
-    out[to] = WrappedAccessPaths::AccessPath(steps + 1).word();
-    let last = copy_words(&code[first..end], out, to + 1);
+    out[to] = WrappedAccessPaths::AccessPath(kind, steps + 1).word();
+    let last = copy_short_words(&code[first..end], out, to + 1);
     out[last] = name;
     Moved {
         from: end,
@@ -251,7 +260,7 @@ fn grow_path(code: &[u64], at: usize, steps: usize, name: u64, out: &mut [u64], 
 }
 
 // A head that stays as it is.
-fn keep_head(code: &[u64], at: usize, out: &mut [u64], to: usize) -> Moved
+fn keep_head(code: &[u16], at: usize, out: &mut [u16], to: usize) -> Moved
     requires { ⌜ (at < length (now code)) × (to < length (now out)) ⌝ }
     ensures { λ r. ⌜ TurnTook at (getD (now (code .entry)) at 0 ∷ []) (now (out .entry)) to (getD (now (code .entry)) at 0 ∷ []) (now (out .exit)) r ⌝ }
 {
@@ -264,11 +273,11 @@ fn keep_head(code: &[u64], at: usize, out: &mut [u64], to: usize) -> Moved
 
 // One head, extended by a field: it stays, a path gains the field, or a record literal gives it.
 fn extend(
-    code: &[u64],
+    code: &[u16],
     at: usize,
     head: WrappedAccessPaths,
-    name: u64,
-    out: &mut [u64],
+    name: u16,
+    out: &mut [u16],
     to: usize,
 ) -> Turn
     requires { ⌜ TurnRoom (now code) at name (now out) to × (head ≡ headOf (getD (now code) at 0)) ⌝ }
@@ -276,9 +285,10 @@ fn extend(
 {
     match head {
         WrappedAccessPaths::Empty => Turn::Next(keep_head(code, at, out, to)),
-        WrappedAccessPaths::AccessPath(steps) => Turn::Next(grow_path(
+        WrappedAccessPaths::AccessPath(kind, steps) => Turn::Next(grow_path(
             code,
             at,
+            kind,
             steps,
             name,
             out,
@@ -290,7 +300,7 @@ fn extend(
             code,
             at,
             fields,
-            name,
+            wide(name),
             out,
             to,
         )),
@@ -299,10 +309,10 @@ fn extend(
 
 // `get_or_has_attr`: the wrapped paths at a place, extended by a field, and the places of the paths that gained it.
 pub fn get_or_has_attr(
-    code: &[u64],
+    code: &[u16],
     at: usize,
-    name: u64,
-    out: &mut [u64],
+    name: u16,
+    out: &mut [u16],
     places: &mut [u64],
 ) -> Extended
     requires { ⌜ Growing (now code) at name (now out) × (length (now places) ≡ 256) ⌝ }

@@ -10,7 +10,7 @@ use Rattle.wrapped_paths.specs.Code.{codes, Grew}
 use Rattle.result_stack.specs.Stacks.{stackPaths, Held}
 use Rattle.attr_steps.specs.AttrStepLaws.{attr-grows, attr-few, attr-set, attr-room, attr-judging, attr-paths, attr-rows, attr-done}
 use Rattle.result_stack.specs.JudgingLaws.{judging-deep, copied-top}
-use Rattle.result_stack.specs.StackLaws.{top-code, top-standing, top-at, code-end, tries-end, held-top, tries-end-room}
+use Rattle.result_stack.specs.StackLaws.{top-code, top-good, top-standing, top-at, code-end, tries-end, held-top, tries-end-room}
 use borrow.Author.Needs.{needs}
 use Rattle.attr_steps.proofs.attr_step.Statement.{statement}
 use Rattle.attr_steps.proofs.attr_step.Tie as tie
@@ -33,12 +33,15 @@ grew :
     (c .before .before .before .before .before .get-or-has-attr .last .1 .1 .1 .1 .0)
     (c .words .given .0 .0)
     (c .words .given .0 .1 .0)
-grew c top rest held = (rw (c .words .given .1) at (c .before .before .before .before .before .get-or-has-attr .ensures)) (top .paths) (codes (stackPaths rest)) (top-code held)
+grew c top rest held = (rw (c .words .given .1) at (c .before .before .before .before .before .get-or-has-attr .ensures)) (top .paths) (codes (stackPaths rest)) (top-code held) (top-good held .good-paths)
 
 returns : tie.Need-returns
 returns c results held place =
     let start = c .before .before .before .before .before .before in
     attr-few (start .args .name) results held (c .if1 .taken) place
+
+cast-get-or-has-attr : tie.Need-cast-get-or-has-attr
+cast-get-or-has-attr c = omega (arith, c .before .before .before .before .before .before .before .pre .1 .0)
 
 slice-aggregate-get-or-has-attr : tie.Need-slice-aggregate-get-or-has-attr
 slice-aggregate-get-or-has-attr c = search needs
@@ -65,7 +68,7 @@ returns-2 : tie.Need-returns-2
 returns-2 c results held place =
     let start = c .before .before .before .before .before .before .before .before .before .before .before .before .before .before .before in
     let (top, rest, same, h) = topped (c .before .before .before .before .before .before .before .before .before) results held in
-    let none-there = (rw (c .enum-told .given .1) at (c .before .before .before .before .before .get-or-has-attr .ensures)) (top .paths) (codes (stackPaths rest)) (top-code h) in
+    let none-there = (rw (c .enum-told .given .1) at (c .before .before .before .before .before .get-or-has-attr .ensures)) (top .paths) (codes (stackPaths rest)) (top-code h) (top-good h .good-paths) in
     rw same (attr-set h (start .args .name) none-there place)
 
 array-share-prefix-places : tie.Need-array-share-prefix-places
@@ -224,6 +227,7 @@ attr-step-spec =
     tie.close
     (tie.spec
     returns
+    cast-get-or-has-attr
     slice-aggregate-get-or-has-attr
     get-or-has-attr-requires
     enum-known-words

@@ -15,7 +15,7 @@ use Rattle.full_types.specs.Required.{TypesTook}
 use Rattle.result_stack.specs.Stacks.{stackPaths, Held}
 use Rattle.full_steps.specs.FullStepLaws.{full-missing, full-few, full-mismatch, full-places, full-paths, full-judging, full-rows, full-done}
 use Rattle.result_stack.specs.JudgingLaws.{judging-deep, copied-top}
-use Rattle.result_stack.specs.StackLaws.{top-code, top-at, tries-end, top-stands, held-top, code-end-room, tries-end-room}
+use Rattle.result_stack.specs.StackLaws.{top-code, top-good, top-at, tries-end, top-stands, held-top, code-end-room, tries-end-room}
 use borrow.Author.Needs.{needs}
 use Rattle.full_steps.proofs.full_step.Statement.{statement}
 use Rattle.full_steps.proofs.full_step.Tie as tie
@@ -47,7 +47,7 @@ took :
     (c .before .before .before .full-type-required .last .1 .1 .1 .1 .1 .0)
     (c .code-end .given .0 .0)
     (c .code-end .given .0 .1 .0)
-took c top rest held = (rw (c .code-end .given .1) at (c .before .before .before .full-type-required .ensures)) (top .paths) (codes (stackPaths rest)) (top-code held)
+took c top rest held = (rw (c .code-end .given .1) at (c .before .before .before .full-type-required .ensures)) (top .paths) (codes (stackPaths rest)) (top-code held) (top-good held .good-paths)
 
 returns : tie.Need-returns
 returns c results held place =
@@ -89,7 +89,7 @@ returns-3 c results held place =
     let type-test = some-there .before .before in
     let start = type-test .before .before .before .before .before .before in
     let (top, rest, same, h) = topped some-there results held in
-    let none-there = (rw (c .enum-told .given .1) at (at-required .full-type-required .ensures)) (top .paths) (codes (stackPaths rest)) (top-code h) in
+    let none-there = (rw (c .enum-told .given .1) at (at-required .full-type-required .ensures)) (top .paths) (codes (stackPaths rest)) (top-code h) (top-good h .good-paths) in
     rw same (full-mismatch (start .args .words .now) (start .pre .0 .good-items) (start .args .t) (known type-test) h none-there place)
 
 array-share-prefix-pairs : tie.Need-array-share-prefix-pairs

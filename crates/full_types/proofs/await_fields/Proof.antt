@@ -25,33 +25,33 @@ loop-holds c = fielding-none _ _ _ _ (c .before .before .before .pre .1)
 sub-i : tie.Need-sub-i Inv-loop μ-loop
 sub-i c = search needs
 
-mul-field-type : tie.Need-mul-field-type Inv-loop μ-loop
-mul-field-type c = omega (arith, c .before .loop .inv .inside, c .before .before .before .before .before)
+mul-wide : tie.Need-mul-wide Inv-loop μ-loop
+mul-wide c = omega (arith, c .before .loop .inv .inside, c .before .before .before .before .before)
 
-shared-slice-read-field-type : tie.Need-shared-slice-read-field-type Inv-loop μ-loop
-shared-slice-read-field-type c = omega (arith, c .before .before .loop .inv .inside, c .before .loop-test .taken)
+shared-slice-read-wide : tie.Need-shared-slice-read-wide Inv-loop μ-loop
+shared-slice-read-wide c = omega (arith, c .before .before .loop .inv .inside, c .before .loop-test .taken)
+
+wide-requires : tie.Need-wide-requires Inv-loop μ-loop
+wide-requires c κs = search needs
 
 field-type-requires : tie.Need-field-type-requires Inv-loop μ-loop
-field-type-requires c κs = c .before .before .before .before .before .before .pre .0
+field-type-requires c κs = c .before .before .before .before .before .before .before .pre .0
 
 mul-waiting : tie.Need-mul-waiting Inv-loop μ-loop
-mul-waiting c =
-    omega (arith, room (c .before .before), c .before .before .before .loop .inv .same-length, c .before .before .before .before .before .before .before)
+mul-waiting c = omega (arith, room (c .before .before .before), c .before .before .before .before .loop .inv .same-length, c .before .before .before .before .before .before .before .before)
 
 slice-write-waiting : tie.Need-slice-write-waiting Inv-loop μ-loop
-slice-write-waiting c = room (c .before .before)
+slice-write-waiting c = room (c .before .before .before)
 
 add-more : tie.Need-add-more Inv-loop μ-loop
-add-more c =
-    omega (arith, room (c .before .before), c .before .before .before .loop .inv .same-length, c .before .before .before .before .before .before .before)
+add-more c = omega (arith, room (c .before .before .before), c .before .before .before .before .loop .inv .same-length, c .before .before .before .before .before .before .before .before)
 
 loop-less : tie.Need-loop-less Inv-loop μ-loop
-loop-less c = omega (arith, c .before .before .loop-test .taken)
+loop-less c = omega (arith, c .before .before .before .loop-test .taken)
 
 loop-again : tie.Need-loop-again Inv-loop μ-loop
 loop-again c =
-    let start = c .before .before .before .before .before .before .before in
-    fielding-next (c .before .before .before .loop .inv) (c .before .before .loop-test .taken) (start .pre .1) (c .field-type .ensures)
+    fielding-next (c .before .before .before .before .loop .inv) (c .before .before .before .loop-test .taken) (c .before .before .before .before .before .before .before .before .pre .1) (rw (c .before .wide .ensures .0) at (c .field-type .ensures))
 
 same-length : tie.Need-same-length Inv-loop μ-loop
 same-length c = c .before .loop .inv .same-length
@@ -67,8 +67,9 @@ await-fields-spec =
     μ-loop
     loop-holds
     sub-i
-    mul-field-type
-    shared-slice-read-field-type
+    mul-wide
+    shared-slice-read-wide
+    wide-requires
     field-type-requires
     mul-waiting
     slice-write-waiting

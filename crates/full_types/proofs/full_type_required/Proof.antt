@@ -28,7 +28,7 @@ waits :
     let start = begun c in
     let result = start .pre .1 .result in
     Waits (start .args .code .now) (result .rest) (itemsOf (start .args .words .now)) (result .paths) (start .args .t) (start .args .at) (c .loop .waiting) (c .loop .pairs) (c .loop .from) (c .loop .left) (c .loop .count)
-waits c = let result = begun c .pre .1 .result in c .loop .inv .all (result .paths) (result .rest) (result .coded)
+waits c = let result = begun c .pre .1 .result in c .loop .inv .all (result .paths) (result .rest) (result .coded) (result .good-paths)
 
 known : (c : tie.Else1 Inv-loop μ-loop) → KnownType (begun (c .before .before) .args .words .now) (begun (c .before .before) .args .table .now) (getD (c .before .before .loop .waiting) (c .before .before .loop .left - 1) 0)
 known c = record {
@@ -100,7 +100,7 @@ loop-again c =
     record {
       stack = inv .stack;
       places = inv .places;
-      all = λ paths rest e. waits-passed (inv .all paths rest e) (turn .loop-test .taken) (c .measure .ensures) (c .before .if1 .taken);
+      all = λ paths rest e good. waits-passed (inv .all paths rest e good) (turn .loop-test .taken) (c .measure .ensures) (c .before .if1 .taken);
     }
 
 mul-of : tie.Need-mul-of Inv-loop μ-loop
@@ -138,8 +138,8 @@ returns c =
     let at-wrapped = c .before .before .before in
     let at-type = at-wrapped .before .before .before .before in
     let at-loop = at-type .before .before in
-    λ paths rest e.
-    waits-none (at-loop .loop .inv .all paths rest e) (at-type .before .loop-test .taken) (at-type .if1 .left) (refers (known at-type))
+    λ paths rest e good.
+    waits-none (at-loop .loop .inv .all paths rest e good) (at-type .before .loop-test .taken) (at-type .if1 .left) (refers (known at-type))
     (at-wrapped .await-wrapped .last .1 .1 .1 .1 .1 .1 .0)
     (rw (c .enum-told .given .1) at (at-wrapped .await-wrapped .ensures))
 
@@ -174,9 +174,9 @@ loop-again-2 c =
       stack = at-wrapped .await-wrapped .kept .1 .1 .1 .1 .1 .1 .0 ∙ inv .stack;
       places = at-pair .note-pair .kept .1 .1 .1 .0 ∙ inv .places;
       all =
-          λ paths rest e.
+          λ paths rest e good.
           rw (c .words .ensures)
-          (waits-next (inv .all paths rest e) (at-type .before .loop-test .taken) (at-type .if1 .left) (refers (known at-type))
+          (waits-next (inv .all paths rest e good) (at-type .before .loop-test .taken) (at-type .if1 .left) (refers (known at-type))
           (at-wrapped .await-wrapped .last .1 .1 .1 .1 .1 .1 .0)
           (at-wrapped .before .before .of .ensures .0)
           (omega (arith, waits-few (waits (at-type .before .before)), inv .stack, begun (at-type .before .before) .pre .1 .result .few-nodes))
@@ -188,7 +188,7 @@ same-length-2 : tie.Need-same-length-2 Inv-loop μ-loop
 same-length-2 c = c .before .loop .inv .places ∙ sym (begun (c .before) .pre .1 .places)
 
 returns-2 : tie.Need-returns-2 Inv-loop μ-loop
-returns-2 c = λ paths rest e. waits-done (c .before .loop .inv .all paths rest e) (c .loop-test .left)
+returns-2 c = λ paths rest e good. waits-done (c .before .loop .inv .all paths rest e good) (c .loop-test .left)
 
 pub full-type-required-spec : {M : Type 1} → statement M
 full-type-required-spec =

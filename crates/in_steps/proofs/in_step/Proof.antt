@@ -33,14 +33,14 @@ found-right :
     (c : tie.After-paths-in) (right : Result) (rest : List Result)
     → Held (c .before .before .before .before .before .before .before .before .args .code .now) (c .before .before .before .before .before .before .before .before .args .tries .now) (c .before .before .before .before .before .before .before .before .args .stack) (right ∷ rest)
     → Found (c .before .before .before .before .before .before .before .before .args .code .now) (right .paths) (c .paths-in .last .1 .1 .0) (c .paths-in .result)
-found-right c right rest held = c .paths-in .ensures (right .paths) (codes (stackPaths rest)) (top-code held)
+found-right c right rest held = c .paths-in .ensures (right .paths) (codes (stackPaths rest)) (top-code held) (top-good held .good-paths)
 
 found-left :
     (c : tie.After-paths-in2) (right left : Result) (rest : List Result)
     → Held (c .before .before .before .before .before .before .before .before .before .before .before .before .before .before .args .code .now) (c .before .before .before .before .before .before .before .before .before .before .before .before .before .before .args .tries .now) (c .before .before .before .before .before .before .before .before .before .before .before .before .before .before .args .stack) (right ∷ left ∷ rest)
     → Found (c .before .before .before .before .before .before .before .before .before .before .before .before .before .before .args .code .now) (left .paths) (c .paths-in2 .last .1 .1 .0) (c .paths-in2 .result)
 found-left c right left rest held =
-    (rw (code-end held (c .before .before .before .measure .ensures)) at (c .paths-in2 .ensures)) (left .paths) (codes (stackPaths rest)) (top-code (below-held held))
+    (rw (code-end held (c .before .before .before .measure .ensures)) at (c .paths-in2 .ensures)) (left .paths) (codes (stackPaths rest)) (top-code (below-held held)) (top-good (below-held held) .good-paths)
 
 -- whether they are too deep
 deep-told :

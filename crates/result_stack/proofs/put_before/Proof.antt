@@ -8,8 +8,8 @@ use Rattle.result_stack.proofs.put_before.Tie as tie
 sub-start : tie.Need-sub-start
 sub-start c = search needs
 
-copy-words-requires : tie.Need-copy-words-requires
-copy-words-requires c κs = search needs
+copy-short-words-requires : tie.Need-copy-short-words-requires
+copy-short-words-requires c κs = search needs
 
 same-length : tie.Need-same-length
 same-length c = search needs
@@ -17,7 +17,7 @@ same-length c = search needs
 returns : tie.Need-returns
 returns c =
     let start = c .before .before .before .before .before .before in
-    placed (start .args .words .now) (start .args .out .now) (start .args .end) (start .pre .0) (start .pre .1) (c .before .before .copy-words .ensures)
+    placed (start .args .words .now) (start .args .out .now) (start .args .end) (start .pre .0) (start .pre .1) (c .before .before .copy-short-words .ensures)
 
 pub put-before-spec : {M : Type 1} → statement M
-put-before-spec = tie.close (tie.spec sub-start copy-words-requires same-length returns)
+put-before-spec = tie.close (tie.spec sub-start copy-short-words-requires same-length returns)

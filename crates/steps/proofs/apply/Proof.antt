@@ -66,7 +66,7 @@ enum-known-step-4 c = search needs
 rec-step-requires : tie.Need-rec-step-requires
 rec-step-requires c κs =
     let start = c .before .before .before .before .before .before .before .before .before .before .before .before .before in
-    (start .pre .1 .1 .0, (rw (c .before .before .before .before .step4 .given .1) at (start .pre .1 .0 .0), start .pre .1 .0 .1 .0))
+    (start .pre .1 .1 .0, (rw (c .before .before .before .before .step4 .given .1) at (start .pre .1 .0 .0), (start .pre .1 .0 .1 .0, rw (c .before .before .before .before .step4 .given .1) at (start .pre .1 .0 .1 .1))))
 
 enum-told-6 : tie.Need-enum-told-6
 enum-told-6 c = search needs

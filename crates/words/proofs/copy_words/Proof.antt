@@ -1,31 +1,21 @@
 -- `words::copy_words` meets its contract: the first i words are copied.
 -- Assumes nothing.
-use Prim.Native.Nat.{ℕ, _+_, _-_, _≤_}
+use Prim.Native.Nat.{_-_}
 use native.Mathlib.Omega.{arith}
-use mathlib.Core.Path.{_≡_, refl, ap, _∙_}
-use lib.ListN.{length, take}
-use lib.Seq.{sets, length-sets, take-length}
-use Rattle.words.specs.SeqLaws.{copied-next}
+use lib.ListN.{length}
+use Rattle.words.specs.RunLaws.{Copying, copying-first, copying-length, copying-next, copying-all}
 use borrow.Author.Needs.{needs}
 use Rattle.words.proofs.copy_words.Statement.{statement}
 use Rattle.words.proofs.copy_words.Tie as tie
 
 abbrev Inv-loop : tie.InvT-loop
-Inv-loop words out₀ to i₀ out i = (i ≤ length words) × (out ≡ sets out₀ to (take i words))
+Inv-loop words out₀ to i₀ out i = Copying words out₀ to out i
 
 abbrev μ-loop : tie.MeasureT-loop
 μ-loop words out₀ to i₀ out i = length words - i
 
--- the output keeps its length
-kept : (c : tie.At-loop Inv-loop μ-loop) → length (c .loop .out) ≡ length (c .before .args .out .now)
-kept c = ap length (c .loop .inv .1) ∙ length-sets (c .before .args .out .now) (c .before .args .to) (take (c .loop .i) (c .before .args .words .now))
-
--- all words are copied
-all : (c : tie.After-loop Inv-loop μ-loop) → c .before .loop .i ≡ length (c .before .before .args .words .now)
-all c = omega (arith, c .before .loop .inv .0, c .loop-test .left)
-
 loop-holds : tie.Need-loop-holds Inv-loop μ-loop
-loop-holds c = (omega arith, refl)
+loop-holds c = copying-first _ _ _
 
 mul-out : tie.Need-mul-out Inv-loop μ-loop
 mul-out c = search needs
@@ -34,13 +24,13 @@ shared-slice-read-out : tie.Need-shared-slice-read-out Inv-loop μ-loop
 shared-slice-read-out c = search needs
 
 add-out : tie.Need-add-out Inv-loop μ-loop
-add-out c = omega (arith, kept (c .before .before), c .before .before .before .pre)
+add-out c = omega (arith, copying-length (c .before .before .loop .inv), c .before .before .before .pre)
 
 mul-out-2 : tie.Need-mul-out-2 Inv-loop μ-loop
-mul-out-2 c = omega (arith, kept (c .before .before), c .before .before .before .pre)
+mul-out-2 c = omega (arith, copying-length (c .before .before .loop .inv), c .before .before .before .pre)
 
 slice-write-out : tie.Need-slice-write-out Inv-loop μ-loop
-slice-write-out c = omega (arith, kept (c .before .before), c .before .before .before .pre)
+slice-write-out c = omega (arith, copying-length (c .before .before .loop .inv), c .before .before .before .pre)
 
 add-i : tie.Need-add-i Inv-loop μ-loop
 add-i c = search needs
@@ -49,16 +39,16 @@ loop-less : tie.Need-loop-less Inv-loop μ-loop
 loop-less c = search needs
 
 loop-again : tie.Need-loop-again Inv-loop μ-loop
-loop-again c = let turn = c .before in let a = turn .before .before .args in (omega (arith, turn .loop-test .taken), rw (turn .before .loop .inv .1) (copied-next (a .words .now) (a .out .now) (a .to) (turn .before .loop .i) (turn .loop-test .taken)))
+loop-again c = copying-next (c .before .before .loop .inv) (c .before .loop-test .taken)
 
 add-result : tie.Need-add-result Inv-loop μ-loop
-add-result c = omega (arith, all c, c .before .before .pre, c .before .before)
+add-result c = omega (arith, c .before .loop .inv .so-many, c .before .before .pre, c .before .before)
 
 same-length : tie.Need-same-length Inv-loop μ-loop
-same-length c = kept (c .before)
+same-length c = copying-length (c .before .loop .inv)
 
 returns : tie.Need-returns Inv-loop μ-loop
-returns c = record { after = ap (λ (n : ℕ). c .before .before .args .to + n) (all c); text = c .before .loop .inv .1 ∙ rw (all c, take-length) }
+returns c = copying-all (c .before .loop .inv) (c .loop-test .left)
 
 pub copy-words-spec : {M : Type 1} → statement M
 copy-words-spec =

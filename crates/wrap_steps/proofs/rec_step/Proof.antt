@@ -25,11 +25,11 @@ part c = take-all (length (c .args .names .now) - (32 - c .args .count)) (named 
 
 -- the head is copied whole
 room :
-    (c : tie.After-copy-words)
-    → (c .copy-words .result ≤ length (c .copy-words .last .1 .0)) × (c .copy-words .result ≡ 1 + length (named (c .before .before .before .before .before .before .before .before .before .before .before)))
+    (c : tie.After-copy-names)
+    → (c .copy-names .result ≤ length (c .copy-names .last .1 .0)) × (c .copy-names .result ≡ 1 + length (named (c .before .before .before .before .before .before .before .before .before .before .before)))
 room c =
     let start = c .before .before .before .before .before .before .before .before .before .before .before in
-    head-room (c .before .before .before .word2 .result) (named start) (omega (arith, as-many start, start .pre .1)) (rw (part start) at (c .copy-words .ensures))
+    head-room (c .before .before .before .word2 .result) (named start) (omega (arith, as-many start, start .pre .1)) (rw (part start) at (c .copy-names .ensures))
 
 word-requires : tie.Need-word-requires
 word-requires c κs = search needs
@@ -69,30 +69,30 @@ array-write-head c = search needs
 sub-first : tie.Need-sub-first
 sub-first c = search needs
 
-mul-copy-words : tie.Need-mul-copy-words
-mul-copy-words c = search needs
+mul-copy-names : tie.Need-mul-copy-names
+mul-copy-names c = search needs
 
-sub-copy-words : tie.Need-sub-copy-words
-sub-copy-words c = search needs
+sub-copy-names : tie.Need-sub-copy-names
+sub-copy-names c = search needs
 
-part-copy-words-start : tie.Need-part-copy-words-start
-part-copy-words-start c = search needs
+part-copy-names-start : tie.Need-part-copy-names-start
+part-copy-names-start c = search needs
 
-part-copy-words-end : tie.Need-part-copy-words-end
-part-copy-words-end c = search needs
+part-copy-names-end : tie.Need-part-copy-names-end
+part-copy-names-end c = search needs
 
-slice-aggregate-copy-words : tie.Need-slice-aggregate-copy-words
-slice-aggregate-copy-words c = search needs
+slice-aggregate-copy-names : tie.Need-slice-aggregate-copy-names
+slice-aggregate-copy-names c = search needs
 
-copy-words-requires : tie.Need-copy-words-requires
-copy-words-requires c κs = search needs
+copy-names-requires : tie.Need-copy-names-requires
+copy-names-requires c κs = let start = c .before .before .before .before .before .before .before .before .before .before in rw (part start) (omega (arith, as-many start, start .pre .1), start .pre .1 .1 .1)
 
 array-share-prefix-head : tie.Need-array-share-prefix-head
 array-share-prefix-head c = search needs
 
 slice-aggregate-wrap : tie.Need-slice-aggregate-wrap
 slice-aggregate-wrap c =
-    sym (length-take-le (c .before .before .copy-words .result) (c .before .before .copy-words .last .1 .0) (room (c .before .before) .0))
+    sym (length-take-le (c .before .before .copy-names .result) (c .before .before .copy-names .last .1 .0) (room (c .before .before) .0))
 
 wrap-requires : tie.Need-wrap-requires
 wrap-requires c κs =
@@ -103,7 +103,7 @@ wrap-requires c κs =
         omega (arith, c .before .before .before .before .before .before .before .before .before .before .before .if1 .left),
         (
           omega (arith, c .before .before .before .before .before .before .before .before .before .if2 .left),
-          omega (arith, length-take (copied .copy-words .result) (copied .copy-words .last .1 .0), room copied, as-many start),
+          omega (arith, length-take (copied .copy-names .result) (copied .copy-names .last .1 .0), room copied, as-many start),
         ),
       ),
     )
@@ -121,8 +121,8 @@ returns-3 : tie.Need-returns-3
 returns-3 c results held =
     let start = c .before .before .before .before .before .before .before .before .before .before .before .before .before .before .before .before .before .before .before .before .before .before .before in
     let wrap = c .before .before .before .before .before .before .wrap in
-    let written = rw (part start) at (c .before .before .before .before .before .before .before .before .before .before .before .before .copy-words .ensures) in
-    let head : take (c .before .before .before .before .before .before .before .before .before .before .before .before .copy-words .result) (c .before .before .before .before .before .before .before .before .before .before .before .before .copy-words .last .1 .0) ≡ (4 + 8 * start .args .count) ∷ named start =
+    let written = rw (part start) at (c .before .before .before .before .before .before .before .before .before .before .before .before .copy-names .ensures) in
+    let head : take (c .before .before .before .before .before .before .before .before .before .before .before .before .copy-names .result) (c .before .before .before .before .before .before .before .before .before .before .before .before .copy-names .last .1 .0) ≡ (4 + 64 * start .args .count) ∷ named start =
     rec-head (c .before .before .before .before .before .before .before .before .before .before .before .before .before .before .before .word2 .result) (named start) (omega (arith, as-many start, start .pre .1)) written ∙ rw (c .before .before .before .before .before .before .before .before .before .before .before .before .before .before .before .word2 .ensures) in
     let by = rw head at (wrap .ensures) in
     rec-done results held (named start) (start .args .count) (wrap .last .1 .1 .0) (wrap .last .1 .1 .1 .0) (wrap .result) (as-many start) (omega (arith, c .before .before .before .before .before .before .before .before .before .before .before .before .before .before .before .before .if2 .left)) by
@@ -141,12 +141,12 @@ rec-step-spec =
     word-requires-2
     array-write-head
     sub-first
-    mul-copy-words
-    sub-copy-words
-    part-copy-words-start
-    part-copy-words-end
-    slice-aggregate-copy-words
-    copy-words-requires
+    mul-copy-names
+    sub-copy-names
+    part-copy-names-start
+    part-copy-names-end
+    slice-aggregate-copy-names
+    copy-names-requires
     array-share-prefix-head
     slice-aggregate-wrap
     wrap-requires

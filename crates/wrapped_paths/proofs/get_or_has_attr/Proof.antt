@@ -8,7 +8,7 @@ use Rattle.rules.specs.StepLaws.{grownIn}
 use Rattle.wrapped_paths.specs.Code.{code}
 use Rattle.wrapped_paths.specs.declared.Turn.the-variants.{Next}
 use Rattle.wrapped_paths.specs.Turns.{Turned, sidesOf}
-use Rattle.wrapped_paths.specs.AttrLaws.{ExtendingPaths, Extending, extending-first, going-few, extending-done, going-within, going-more, going-refused, going-room, going-fits, going-on, going-turn}
+use Rattle.wrapped_paths.specs.AttrLaws.{all-grown, ExtendingPaths, Extending, extending-first, going-few, extending-done, going-within, going-more, going-refused, going-room, going-fits, going-on, going-turn}
 use borrow.Author.Needs.{needs}
 use Rattle.wrapped_paths.proofs.get_or_has_attr.Statement.{statement}
 use Rattle.wrapped_paths.proofs.get_or_has_attr.Tie as tie
@@ -25,7 +25,7 @@ going :
     let start = c .before .before .before .before in
     let l = c .loop in
     ExtendingPaths (start .args .code .now) (start .pre .0 .result .rest) (start .args .name) (start .pre .0 .result .paths) (l .out) (l .places) (l .from) (l .to) (l .left) (l .grown)
-going c = let p = c .before .before .before .before .pre .0 .result in c .loop .inv .1 .1 (p .paths) (p .rest) (p .coded)
+going c = let start = c .before .before .before .before in let p = start .pre .0 .result in c .loop .inv .1 .1 (p .paths) (p .rest) (p .coded) (all-grown (start .args .name) (p .paths) (start .fits .name .fits) (p .good-paths))
 
 large :
     (c : tie.At-loop Inv-loop μ-loop) →
@@ -82,7 +82,7 @@ same-length-2 : tie.Need-same-length-2 Inv-loop μ-loop
 same-length-2 c = c .before .before .before .before .before .before .before .before .before .loop .inv .1 .0 ∙ sym (c .before .before .before .before .before .before .before .before .before .before .before .before .before .pre .1)
 
 returns : tie.Need-returns Inv-loop μ-loop
-returns c = λ paths rest e. going-refused (c .before .before .before .before .before .before .before .before .before .loop .inv .1 .1 paths rest e) (c .before .before .before .before .before .before .before .before .loop-test .taken) (c .before .before .before .before .extend .last .1 .1 .1 .1 .0) (rw (c .enum-told .given .1) at (c .before .before .before .before .extend .ensures))
+returns c = λ paths rest e good. going-refused (c .before .before .before .before .before .before .before .before .before .loop .inv .1 .1 paths rest e (all-grown _ paths (c .before .before .before .before .before .before .before .before .before .before .before .before .before .fits .name .fits) good)) (c .before .before .before .before .before .before .before .before .loop-test .taken) (c .before .before .before .before .extend .last .1 .1 .1 .1 .0) (rw (c .enum-told .given .1) at (c .before .before .before .before .extend .ensures))
 
 note-path-requires : tie.Need-note-path-requires Inv-loop μ-loop
 note-path-requires c κs = omega (arith, going-more (going (c .before .before .before .before .before .before .before .before .before .before .before)) (c .before .before .before .before .before .before .before .before .before .before .loop-test .taken), c .before .before .before .before .before .before .before .before .before .before .before .loop .inv .1 .0, c .before .before .before .before .before .before .before .before .before .before .before .before .before .before .before .pre .0 .result .few-nodes)
@@ -100,7 +100,7 @@ loop-less : tie.Need-loop-less Inv-loop μ-loop
 loop-less c = omega (arith, going-within (going (c .before .before .before .before .before .before .before .before .before .before .before .before .before .before .before)) (c .before .before .before .before .before .before .before .before .before .before .before .before .before .before .loop-test .taken), going-on (going (c .before .before .before .before .before .before .before .before .before .before .before .before .before .before .before)) (c .before .before .before .before .before .before .before .before .before .before .before .before .before .before .loop-test .taken) (turned (c .before .before .before .before .before .before)))
 
 loop-again : tie.Need-loop-again Inv-loop μ-loop
-loop-again c = (c .before .before .before .before .before .before .before .before .before .before .extend .kept .1 .1 .1 .1 .0 ∙ c .before .before .before .before .before .before .before .before .before .before .before .before .before .before .before .loop .inv .0, (c .before .before .before .note-path .kept .1 .1 .0 ∙ c .before .before .before .before .before .before .before .before .before .before .before .before .before .before .before .loop .inv .1 .0, λ paths rest e. rw (c .sides .ensures) (going-turn (c .before .before .before .before .before .before .before .before .before .before .before .before .before .before .before .loop .inv .1 .1 paths rest e) (c .before .before .before .before .before .before .before .before .before .before .before .before .before .before .loop-test .taken) (c .before .before .before .before .before .before .before .before .before .before .before .before .of .ensures .0) (turned (c .before .before .before .before .before .before)) (fits (c .before .before .before .before .before .before)) (c .before .before .before .note-path .ensures))))
+loop-again c = (c .before .before .before .before .before .before .before .before .before .before .extend .kept .1 .1 .1 .1 .0 ∙ c .before .before .before .before .before .before .before .before .before .before .before .before .before .before .before .loop .inv .0, (c .before .before .before .note-path .kept .1 .1 .0 ∙ c .before .before .before .before .before .before .before .before .before .before .before .before .before .before .before .loop .inv .1 .0, λ paths rest e good. rw (c .sides .ensures) (going-turn (c .before .before .before .before .before .before .before .before .before .before .before .before .before .before .before .loop .inv .1 .1 paths rest e good) (c .before .before .before .before .before .before .before .before .before .before .before .before .before .before .loop-test .taken) (c .before .before .before .before .before .before .before .before .before .before .before .before .of .ensures .0) (turned (c .before .before .before .before .before .before)) (fits (c .before .before .before .before .before .before)) (c .before .before .before .note-path .ensures))))
 
 same-length-3 : tie.Need-same-length-3 Inv-loop μ-loop
 same-length-3 c = c .before .loop .inv .0
@@ -109,7 +109,7 @@ same-length-4 : tie.Need-same-length-4 Inv-loop μ-loop
 same-length-4 c = c .before .loop .inv .1 .0 ∙ sym (c .before .before .before .before .before .pre .1)
 
 returns-2 : tie.Need-returns-2 Inv-loop μ-loop
-returns-2 c = λ paths rest e. extending-done (c .before .loop .inv .1 .1 paths rest e) (c .loop-test .left)
+returns-2 c = λ paths rest e good. extending-done (c .before .loop .inv .1 .1 paths rest e (all-grown _ paths (c .before .before .before .before .before .fits .name .fits) good)) (c .loop-test .left)
 
 pub get-or-has-attr-spec : {M : Type 1} → statement M
 get-or-has-attr-spec =

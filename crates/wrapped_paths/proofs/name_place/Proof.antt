@@ -1,6 +1,7 @@
 -- `wrapped_paths::name_place` meets its contract: the names that were passed are others.
 -- Assumes nothing.
 use Prim.Native.Nat.{_-_}
+use mathlib.Core.Path.{sym, _∙_}
 use lib.ListN.{length}
 use Rattle.wrapped_paths.specs.CodeLaws.{Others, others-none, others-found, others-next, others-all}
 use borrow.Author.Needs.{needs}
@@ -16,14 +17,17 @@ abbrev μ-loop : tie.MeasureT-loop
 loop-holds : tie.Need-loop-holds Inv-loop μ-loop
 loop-holds c = others-none _ _
 
-mul-if1 : tie.Need-mul-if1 Inv-loop μ-loop
-mul-if1 c = search needs
+mul-wide : tie.Need-mul-wide Inv-loop μ-loop
+mul-wide c = search needs
 
-shared-slice-read-if1 : tie.Need-shared-slice-read-if1 Inv-loop μ-loop
-shared-slice-read-if1 c = search needs
+shared-slice-read-wide : tie.Need-shared-slice-read-wide Inv-loop μ-loop
+shared-slice-read-wide c = search needs
+
+wide-requires : tie.Need-wide-requires Inv-loop μ-loop
+wide-requires c κs = search needs
 
 returns : tie.Need-returns Inv-loop μ-loop
-returns c = let turn = c .before .before in others-found (turn .before .loop .inv) (turn .loop-test .taken) (c .if1 .taken)
+returns c = let turn = c .before .before .before in others-found (turn .before .loop .inv) (turn .loop-test .taken) (sym (c .before .wide .ensures .0) ∙ c .if1 .taken)
 
 add-i : tie.Need-add-i Inv-loop μ-loop
 add-i c = search needs
@@ -32,7 +36,7 @@ loop-less : tie.Need-loop-less Inv-loop μ-loop
 loop-less c = search needs
 
 loop-again : tie.Need-loop-again Inv-loop μ-loop
-loop-again c = let turn = c .before .before in others-next (turn .before .loop .inv) (turn .loop-test .taken) (c .if1 .left)
+loop-again c = let turn = c .before .before .before in others-next (turn .before .loop .inv) (turn .loop-test .taken) (λ e. c .if1 .left (c .before .wide .ensures .0 ∙ e))
 
 returns-2 : tie.Need-returns-2 Inv-loop μ-loop
 returns-2 c = others-all (c .before .loop .inv) (c .loop-test .left)
@@ -44,8 +48,9 @@ name-place-spec =
     Inv-loop
     μ-loop
     loop-holds
-    mul-if1
-    shared-slice-read-if1
+    mul-wide
+    shared-slice-read-wide
+    wide-requires
     returns
     add-i
     loop-less

@@ -21,7 +21,7 @@ seen :
     (c : tie.At-loop Inv-loop μ-loop) →
     let start = c .before .before .before in
     Seen (start .args .code .now) (start .pre .0 .rest) (start .pre .0 .paths) (c .loop .places) (c .loop .from) (c .loop .left) (c .loop .found)
-seen c = let p = c .before .before .before .pre .0 in c .loop .inv .1 (p .paths) (p .rest) (p .coded)
+seen c = let p = c .before .before .before .pre .0 in c .loop .inv .1 (p .paths) (p .rest) (p .coded) (p .good-paths)
 
 -- the next head's words are there
 room : (c : tie.After-of Inv-loop μ-loop) → c .before .before .before .loop .from + (1 + sizeOf (c .of .result)) ≤ length (c .before .before .before .before .before .before .args .code .now)
@@ -71,7 +71,7 @@ loop-less : tie.Need-loop-less Inv-loop μ-loop
 loop-less c = omega (arith, room (c .before .before .before .before .before .before), c .before .words .ensures)
 
 loop-again : tie.Need-loop-again Inv-loop μ-loop
-loop-again c = (c .before .before .before .before .note-path .kept .1 .1 .0 ∙ c .before .before .before .before .before .before .before .before .before .loop .inv .0, λ paths rest e. rw (c .before .words .ensures, c .wraps .ensures) (seen-next (c .before .before .before .before .before .before .before .before .before .loop .inv .1 paths rest e) (c .before .before .before .before .before .before .before .before .loop-test .taken) (c .before .before .before .before .before .before .of .ensures .0) (c .before .before .before .before .note-path .ensures)))
+loop-again c = (c .before .before .before .before .note-path .kept .1 .1 .0 ∙ c .before .before .before .before .before .before .before .before .before .loop .inv .0, λ paths rest e good. rw (c .before .words .ensures, c .wraps .ensures) (seen-next (c .before .before .before .before .before .before .before .before .before .loop .inv .1 paths rest e good) (c .before .before .before .before .before .before .before .before .loop-test .taken) (c .before .before .before .before .before .before .of .ensures .0) (c .before .before .before .before .note-path .ensures)))
 
 same-length : tie.Need-same-length Inv-loop μ-loop
 same-length c = c .before .loop .inv .0 ∙ sym (c .before .before .before .before .pre .1)

@@ -50,26 +50,26 @@ part-name-place-end c = omega (arith, within (c .before .before .before))
 name-place-requires : tie.Need-name-place-requires
 name-place-requires c κs = search needs
 
-mul-copy-words : tie.Need-mul-copy-words
-mul-copy-words c = omega (arith, within (c .before .before .before .before .before .before), c .before .before .before .before .before .before)
+mul-copy-short-words : tie.Need-mul-copy-short-words
+mul-copy-short-words c = omega (arith, within (c .before .before .before .before .before .before), c .before .before .before .before .before .before)
 
-sub-copy-words : tie.Need-sub-copy-words
-sub-copy-words c = omega (arith, literal-end (literal (c .before .before .before .before .before .before)) (c .before .before .before .measure .ensures))
+sub-copy-short-words : tie.Need-sub-copy-short-words
+sub-copy-short-words c = omega (arith, literal-end (literal (c .before .before .before .before .before .before)) (c .before .before .before .measure .ensures))
 
-part-copy-words-start : tie.Need-part-copy-words-start
-part-copy-words-start c = omega (arith, literal-end (literal (c .before .before .before .before .before .before)) (c .before .before .before .measure .ensures))
+part-copy-short-words-start : tie.Need-part-copy-short-words-start
+part-copy-short-words-start c = omega (arith, literal-end (literal (c .before .before .before .before .before .before)) (c .before .before .before .measure .ensures))
 
-part-copy-words-end : tie.Need-part-copy-words-end
-part-copy-words-end c = omega (arith, literal-end (literal (c .before .before .before .before .before .before)) (c .before .before .before .measure .ensures), literal-within (literal (c .before .before .before .before .before .before)))
+part-copy-short-words-end : tie.Need-part-copy-short-words-end
+part-copy-short-words-end c = omega (arith, literal-end (literal (c .before .before .before .before .before .before)) (c .before .before .before .measure .ensures), literal-within (literal (c .before .before .before .before .before .before)))
 
-copy-words-requires : tie.Need-copy-words-requires
-copy-words-requires c κs = let start = c .before .before .before .before .before .before .before .before in rw (literal-copy (literal start) (c .before .before .before .before .before .measure .ensures) (start .args .name) (c .before .before .before .name-place .ensures) (c .before .before .if1 .taken)) (start .pre .room)
+copy-short-words-requires : tie.Need-copy-short-words-requires
+copy-short-words-requires c κs = let start = c .before .before .before .before .before .before .before .before in rw (literal-copy (literal start) (c .before .before .before .before .before .measure .ensures) (start .args .name) (c .before .before .before .name-place .ensures) (c .before .before .if1 .taken)) (start .pre .room)
 
 same-length : tie.Need-same-length
-same-length c = c .before .before .copy-words .kept .1 .0
+same-length c = c .before .before .copy-short-words .kept .1 .0
 
 returns : tie.Need-returns
-returns c = λ fields rest many e. let a = c .before .before .before .before .before .before .before .before .before .before .before .args in let l : LiteralAt (a .code .now) rest fields (a .at) (a .fields) = record { as-many = many; coded = e } in record { next = literal-end l (c .before .before .before .before .before .before .before .before .measure .ensures); wrote = rw (literal-copy l (c .before .before .before .before .before .before .before .before .measure .ensures) (c .before .before .before .before .before .before .before .before .before .before .before .args .name) (c .before .before .before .before .before .before .name-place .ensures) (c .before .before .before .before .before .if1 .taken)) at (c .before .before .copy-words .ensures) }
+returns c = λ fields rest many e. let a = c .before .before .before .before .before .before .before .before .before .before .before .args in let l : LiteralAt (a .code .now) rest fields (a .at) (a .fields) = record { as-many = many; coded = e } in record { next = literal-end l (c .before .before .before .before .before .before .before .before .measure .ensures); wrote = rw (literal-copy l (c .before .before .before .before .before .before .before .before .measure .ensures) (c .before .before .before .before .before .before .before .before .before .before .before .args .name) (c .before .before .before .before .before .before .name-place .ensures) (c .before .before .before .before .before .if1 .taken)) at (c .before .before .copy-short-words .ensures) }
 
 measure-requires-2 : tie.Need-measure-requires-2
 measure-requires-2 c κs = front-standing (literal (c .before .before .before .before .before .before)) (c .before .before .before .measure .ensures) (c .before .before .before .before .before .before .args .name) (c .before .name-place .ensures) (c .if1 .left)
@@ -77,26 +77,26 @@ measure-requires-2 c κs = front-standing (literal (c .before .before .before .b
 measure-requires-3 : tie.Need-measure-requires-3
 measure-requires-3 c κs = field-standing (literal (c .before .before .before .before .before .before .before)) (c .before .before .before .before .measure .ensures) (c .before .before .before .before .before .before .before .args .name) (c .before .before .name-place .ensures) (c .before .if1 .left) (c .measure2 .ensures)
 
-mul-copy-words-2 : tie.Need-mul-copy-words-2
-mul-copy-words-2 c = omega (arith, ends c, c .before .before .before .before .before .before .before .before)
+mul-copy-short-words-2 : tie.Need-mul-copy-short-words-2
+mul-copy-short-words-2 c = omega (arith, ends c, c .before .before .before .before .before .before .before .before)
 
-sub-copy-words-2 : tie.Need-sub-copy-words-2
-sub-copy-words-2 c = omega (arith, ends c)
+sub-copy-short-words-2 : tie.Need-sub-copy-short-words-2
+sub-copy-short-words-2 c = omega (arith, ends c)
 
-part-copy-words-start-2 : tie.Need-part-copy-words-start-2
-part-copy-words-start-2 c = omega (arith, ends c)
+part-copy-short-words-start-2 : tie.Need-part-copy-short-words-start-2
+part-copy-short-words-start-2 c = omega (arith, ends c)
 
-part-copy-words-end-2 : tie.Need-part-copy-words-end-2
-part-copy-words-end-2 c = omega (arith, ends c)
+part-copy-short-words-end-2 : tie.Need-part-copy-short-words-end-2
+part-copy-short-words-end-2 c = omega (arith, ends c)
 
-copy-words-requires-2 : tie.Need-copy-words-requires-2
-copy-words-requires-2 c κs = let start = c .before .before .before .before .before .before .before .before .before .before in rw (field-copy (literal start) (c .before .before .before .before .before .before .before .measure .ensures) (start .args .name) (c .before .before .before .before .before .name-place .ensures) (c .before .before .before .before .if1 .left) (c .before .before .before .measure2 .ensures) (c .before .before .measure3 .ensures)) (start .pre .room)
+copy-short-words-requires-2 : tie.Need-copy-short-words-requires-2
+copy-short-words-requires-2 c κs = let start = c .before .before .before .before .before .before .before .before .before .before in rw (field-copy (literal start) (c .before .before .before .before .before .before .before .measure .ensures) (start .args .name) (c .before .before .before .before .before .name-place .ensures) (c .before .before .before .before .if1 .left) (c .before .before .before .measure2 .ensures) (c .before .before .measure3 .ensures)) (start .pre .room)
 
 same-length-2 : tie.Need-same-length-2
-same-length-2 c = c .before .before .copy-words2 .kept .1 .0
+same-length-2 c = c .before .before .copy-short-words2 .kept .1 .0
 
 returns-2 : tie.Need-returns-2
-returns-2 c = λ fields rest many e. let a = c .before .before .before .before .before .before .before .before .before .before .before .before .before .args in let l : LiteralAt (a .code .now) rest fields (a .at) (a .fields) = record { as-many = many; coded = e } in record { next = literal-end l (c .before .before .before .before .before .before .before .before .before .before .measure .ensures); wrote = rw (field-copy l (c .before .before .before .before .before .before .before .before .before .before .measure .ensures) (c .before .before .before .before .before .before .before .before .before .before .before .before .before .args .name) (c .before .before .before .before .before .before .before .before .name-place .ensures) (c .before .before .before .before .before .before .before .if1 .left) (c .before .before .before .before .before .before .measure2 .ensures) (c .before .before .before .before .before .measure3 .ensures)) at (c .before .before .copy-words2 .ensures) }
+returns-2 c = λ fields rest many e. let a = c .before .before .before .before .before .before .before .before .before .before .before .before .before .args in let l : LiteralAt (a .code .now) rest fields (a .at) (a .fields) = record { as-many = many; coded = e } in record { next = literal-end l (c .before .before .before .before .before .before .before .before .before .before .measure .ensures); wrote = rw (field-copy l (c .before .before .before .before .before .before .before .before .before .before .measure .ensures) (c .before .before .before .before .before .before .before .before .before .before .before .before .before .args .name) (c .before .before .before .before .before .before .before .before .name-place .ensures) (c .before .before .before .before .before .before .before .if1 .left) (c .before .before .before .before .before .before .measure2 .ensures) (c .before .before .before .before .before .measure3 .ensures)) at (c .before .before .copy-short-words2 .ensures) }
 
 pub take-field-spec : {M : Type 1} → statement M
 take-field-spec =
@@ -110,19 +110,19 @@ take-field-spec =
     part-name-place-start
     part-name-place-end
     name-place-requires
-    mul-copy-words
-    sub-copy-words
-    part-copy-words-start
-    part-copy-words-end
-    copy-words-requires
+    mul-copy-short-words
+    sub-copy-short-words
+    part-copy-short-words-start
+    part-copy-short-words-end
+    copy-short-words-requires
     same-length
     returns
     measure-requires-2
     measure-requires-3
-    mul-copy-words-2
-    sub-copy-words-2
-    part-copy-words-start-2
-    part-copy-words-end-2
-    copy-words-requires-2
+    mul-copy-short-words-2
+    sub-copy-short-words-2
+    part-copy-short-words-start-2
+    part-copy-short-words-end-2
+    copy-short-words-requires-2
     same-length-2
     returns-2)

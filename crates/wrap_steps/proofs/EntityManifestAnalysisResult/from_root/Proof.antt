@@ -1,5 +1,6 @@
 -- `wrap_steps::EntityManifestAnalysisResult::from_root` meets its contract: a path that is its root is pushed, and its trie is empty.
 -- Assumes nothing.
+use native.Mathlib.Omega.{arith}
 use mathlib.Core.Path.{refl}
 use mathlib.Core.List.{[], _∷_}
 use Rattle.rules.specs.Paths.{AccessPath, nodesOf, toRootAccessTrieWithLeaf}
@@ -7,6 +8,12 @@ use Rattle.wrapped_paths.specs.Code.{code}
 use borrow.Author.Needs.{needs}
 use Rattle.wrap_steps.proofs.EntityManifestAnalysisResult.from_root.Statement.{statement}
 use Rattle.wrap_steps.proofs.EntityManifestAnalysisResult.from_root.Tie as tie
+
+cast-kind : tie.Need-cast-kind
+cast-kind c = omega arith
+
+cast-id : tie.Need-cast-id
+cast-id c = omega arith
 
 word-requires : tie.Need-word-requires
 word-requires c κs = search needs
@@ -30,4 +37,4 @@ returns c results held = c .before .before .before .before .push .ensures (Acces
 pub from-root-spec : {M : Type 1} → statement M
 from-root-spec =
     tie.close
-    (tie.spec word-requires slice-aggregate-push push-requires same-length same-length-2 returns)
+    (tie.spec cast-kind cast-id word-requires slice-aggregate-push push-requires same-length same-length-2 returns)
