@@ -11,6 +11,7 @@ ghost use Rattle.manifest.specs.Outcomes.{emptyIn, addIn, uniteIn};
 ghost use Rattle.schema_text.specs.Outcomes.{readSchemaIn};
 ghost use Rattle.analysis.specs.Outcomes.{analyseIn, addPolicyIn};
 ghost use Rattle.type_annotations.specs.Outcomes.{typedIn};
+pub use batch_rows::load_batch_rows;
 pub use listing::Written;
 pub use load_begin::load_begin;
 pub use load_ends::load_ancestors;
@@ -22,6 +23,7 @@ pub use loader::load_batch;
 use manifest::EntityManifest;
 pub use rows::Held;
 pub use rows::Kind;
+pub use values::EntityRequest;
 pub use words::Reply;
 
 // Makes a lent state the empty manifest.
