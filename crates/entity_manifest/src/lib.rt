@@ -5,6 +5,7 @@ mod loads;
 
 pub use analysis::add_policy;
 pub use analysis::analyse;
+pub use batch_rows::load_batch_rows;
 pub use listing::Written;
 pub use listing::read_listing;
 pub use listing::write_listing;
@@ -22,4 +23,5 @@ pub use rows::has;
 pub use schema_text::read_schema;
 pub use type_annotations::to_typed;
 pub use union::union;
+pub use values::EntityRequest;
 pub use words::Reply;

@@ -1,0 +1,3 @@
+-- What handing out a batch as rows answers and leaves, and the laws that the proofs cite.
+pub mod Rows
+pub mod RowLaws
