@@ -93,6 +93,7 @@ module _ {state rows places : List ℕ} {asked batches sum : ℕ} (read : ReadTo
         sets-heard = record { as-many = omega arith; fits = λ k less. absurd (omega arith); ids-ascend = λ k less. absurd (omega arith) };
         slice = read .load .slice;
         slice-of = read-slice;
+        few-rows = omega (arith, rows-many, read-few read);
         few = omega (arith, read-size, read .came .total, read .came .few);
         room = omega (arith, read-size, read .came .total, read .came .few);
         scratch-room = omega (arith, read-size, read .came .total, read .came .few);
@@ -164,6 +165,7 @@ module _ {state rows places : List ℕ} {asked batches sum : ℕ} (read : ReadTo
       sets-heard = sets-heard (take asked rows) (setWords state) first-places sets-lent sets-within (sets-many ∙ sym first-many) set-at;
       slice = read .load .slice;
       slice-of = read-slice read room;
+      few-rows = omega (arith, rows-many read room, read-few read);
       few = omega (arith, all-few);
       room = omega (arith, all-few);
       scratch-room = omega (arith, all-few);

@@ -8,7 +8,7 @@ use mathlib.Core.Bool.{cond}
 use mathlib.Core.List.{List, [], _∷_, _++_, map, append-assoc, append-nil}
 use mathlib.Core.Option.{Option, none, some, Option·none-ne-some, Option·some-ne-none, Option·some-injective}
 use lib.Dec.{ltb, eqb}
-use lib.ListN.{length, length-append}
+use lib.ListN.{length, getD, length-append}
 use lib.Seq.{append-snoc}
 use borrow.Author.Tests.{lt-ltb, le-ltb, eq-eqb, ne-eqb, eqb-true}
 use Rattle.rules.specs.Facts.{by-test, by-option, compared}
@@ -29,10 +29,23 @@ use Rattle.slices.specs.Slices.{
   wordsOfAll,
   SliceFit,
   WroteSlice,
+  Heard,
+  answersFor,
+  idsFor,
+}
+use Rattle.slices.specs.Keys.{placesOf, GroupEnds}
+use Rattle.slices.specs.GroupLaws.{
+  sortedKeys,
+  entities-ascend,
+  none-answers,
+  group,
+  behind-greater,
+  group-answers,
+  group-ids,
+  group-heard,
+  group-sets,
 }
 use Rattle.slices.specs.Writing.{entitySizes, wordsFor, EntityFit, EntityWritten}
-use Rattle.slices.specs.NextLaws.{NextFor}
-use Rattle.slices.specs.declared.NextEntity.the-variants.{Entity as Next}
 
 -- ---- entities from one on
 
@@ -204,10 +217,6 @@ id-small e (w ∷ rows) (some value ∷ answers) some-there =
     (λ t. omega (arith, eqb-true (w % 65536) e t))
     (λ t. id-small e rows answers (rw t at some-there))
 
-by-empty : {A : Type 0} (l : List A) → (l ≢ [] → ⊥) → l ≡ []
-by-empty [] h = refl
-by-empty (a ∷ l) h = absurd (h (λ e. let n = ap length e in omega arith))
-
 -- what there is of an entity, with its ancestors
 module _ (rows : List EntityRequest) (answers : List (Option Entity)) (sets : List (List ℕ)) (slice : List Loaded)
     (slice-of : SliceOf rows answers slice) where
@@ -233,6 +242,11 @@ unfolding sliceWords
 words-more [] l = append-nil (entityWords (l .id) (l .value))
 words-more (x ∷ a) l =
     rw (words-more a l) (sym (append-assoc (entityWords (x .id) (x .value)) (sliceWords a) (entityWords (l .id) (l .value))))
+
+-- e is the first, from `least` on, to which there is an answer
+abbrev pub NextFor : ℕ → List EntityRequest → List (Option Entity) → ℕ → Type 0
+NextFor least rows answers e =
+    (least ≤ e) × (answersTo e rows answers ≢ []) × ((x : ℕ) → least ≤ x → x < e → answersTo x rows answers ≡ [])
 
 -- the entities below one are written
 pub record Written (slice : List Loaded) (out : List ℕ) (to : ℕ) (out′ : List ℕ) (least end count : ℕ) : Type 0 where
@@ -295,19 +309,9 @@ module _ {words rows places sets setPlaces out : List ℕ} {to : ℕ} {scratch :
               inside = omega (arith, fit .room, sofar .few, words-all words rows places sets setPlaces least);
             })
 
-        pub built-end :
-            65536 ≤ least
-            → (slice : List Loaded)
-            → SliceOf (rowsAsked rows) (answersIn words places) slice
-            → WroteSlice (withAncestors (rowsAsked rows) (setsIn sets setPlaces) slice) out to out′ (record { count = count; end = end })
-        built-end past =
-            built-all (λ x from.
-            by-empty (answersTo x (rowsAsked rows) (answersIn words places))
-            (λ some-there. omega (arith, id-small x rows (answersIn words places) some-there)))
-
         -- the next entity
-        module _ (e : ℕ) (next : NextFor least (rowsAsked rows) (answersIn words places) (Next e)) where
-          pub next-small : e < 65536
+        module _ (e : ℕ) (next : NextFor least (rowsAsked rows) (answersIn words places) e) where
+          next-small : e < 65536
           next-small = id-small e rows (answersIn words places) (next .1)
 
           pub next-fit : EntityFit words rows places sets setPlaces e out′ end scratch′
@@ -368,3 +372,157 @@ module _ {words rows places sets setPlaces out : List ℕ} {to : ℕ} {scratch :
                     wrote = rw (words-more (here .before) one) (wrote-more (here .wrote) (entity .wrote value given));
                     counted = omega (arith, here .counted, length-append (here .before) (one ∷ []));
                   }
+
+-- ---- entity by entity, from the keys of its rows
+
+-- Of the entities that the keys before a place ask for, all below a bound, those with an answer are written. The others are from `least` on.
+pub record GroupsTo
+    (words rows places sets setPlaces out : List ℕ) (to : ℕ) (scratch out′ scratch′ : List ℕ) (from end count : ℕ)
+    : Type 0 where
+  pub least : ℕ
+  pub bound : ℕ
+  pub built : BuiltTo words rows places sets setPlaces out to scratch out′ scratch′ least end count
+  pub inside : from ≤ length (sortedKeys rows)
+  pub before : (i : ℕ) → i < from → getD (sortedKeys rows) i 0 % 65536 < bound
+  pub behind : (i : ℕ) → from ≤ i → i < length (sortedKeys rows) → bound ≤ getD (sortedKeys rows) i 0 % 65536
+  pub low : least ≤ bound
+  pub gap : (x : ℕ) → least ≤ x → x < bound → answersFor words rows places x ≡ []
+
+module _ {words rows places sets setPlaces out : List ℕ} {to : ℕ} {scratch : List ℕ}
+    (fit : SliceFit words rows places sets setPlaces out to scratch)
+  where
+    pub groups-none : GroupsTo words rows places sets setPlaces out to scratch out scratch 0 to 0
+    groups-none = record {
+      least = 0;
+      bound = 0;
+      built = built-none fit;
+      inside = omega arith;
+      before = λ i less. absurd (omega arith);
+      behind = λ i past less. omega arith;
+      low = omega arith;
+      gap = λ x at-least less. absurd (omega arith);
+    }
+
+    module _ {out′ scratch′ : List ℕ} {from end count : ℕ}
+        (sofar : GroupsTo words rows places sets setPlaces out to scratch out′ scratch′ from end count)
+      where
+        -- no key asks for an entity
+        none-there :
+            (x : ℕ)
+            → sofar .least ≤ x
+            → ((i : ℕ) → from ≤ i → i < length (sortedKeys rows) → getD (sortedKeys rows) i 0 % 65536 ≡ x → ⊥)
+            → answersFor words rows places x ≡ []
+        none-there x at-least not-behind =
+            compared x (sofar .bound)
+            (λ below. sofar .gap x at-least below)
+            (λ past.
+            none-answers rows (fit .few-rows) x
+            (λ i less same.
+            compared i from (λ early. omega (arith, sofar .before i early)) (λ late. not-behind i late less same))
+            words places)
+
+        -- no key is left
+        pub groups-all :
+            length (sortedKeys rows) ≤ from
+            → (slice : List Loaded)
+            → SliceOf (rowsAsked rows) (answersIn words places) slice
+            → WroteSlice (withAncestors (rowsAsked rows) (setsIn sets setPlaces) slice) out to out′ (record { count = count; end = end })
+        groups-all past =
+            built-all fit (sofar .built) (λ x at-least. none-there x at-least (λ i late less. absurd (omega arith)))
+
+        module _ {next : ℕ} (ends : GroupEnds (sortedKeys rows) from next) where
+          abbrev e : ℕ
+          e = getD (sortedKeys rows) from 0 % 65536
+
+          abbrev own : List ℕ
+          own = group rows (fit .few-rows) ends
+
+          started : sofar .bound ≤ e
+          started = sofar .behind from (omega arith) (omega (arith, ends .some, ends .inside))
+
+          earlier : (i : ℕ) → i < from → getD (sortedKeys rows) i 0 % 65536 < e
+          earlier i less = omega (arith, sofar .before i less, started)
+
+          first-none : (x : ℕ) → sofar .least ≤ x → x < e → answersFor words rows places x ≡ []
+          first-none x at-least less =
+              none-there x at-least
+              (λ i late inside same. omega (arith, entities-ascend rows (fit .few-rows) from i late inside))
+
+          own-answers : answersFor words own (placesOf places own) e ≡ answersFor words rows places e
+          own-answers = group-answers rows (fit .few-rows) ends earlier words places
+
+          own-ids : idsFor own sets (placesOf setPlaces own) e ≡ idsFor rows sets setPlaces e
+          own-ids = group-ids rows (fit .few-rows) ends earlier sets setPlaces
+
+          pub group-counts : count < 65536
+          group-counts = omega (arith, sofar .built .counts, sofar .low, started)
+
+          pub own-heard : Heard words own (placesOf places own)
+          own-heard = group-heard rows (fit .few-rows) ends (fit .heard)
+
+          passed : (i : ℕ) → i < next → getD (sortedKeys rows) i 0 % 65536 < e + 1
+          passed i less =
+              compared i from (λ early. omega (arith, earlier i early)) (λ late. omega (arith, ends .same i late less))
+
+          ahead : (i : ℕ) → next ≤ i → i < length (sortedKeys rows) → e + 1 ≤ getD (sortedKeys rows) i 0 % 65536
+          ahead i late less = omega (arith, behind-greater rows (fit .few-rows) ends i late less)
+
+          -- there is no answer
+          pub groups-passed :
+              answersFor words own (placesOf places own) e ≡ []
+              → GroupsTo words rows places sets setPlaces out to scratch out′ scratch′ next end count
+          groups-passed none-own = record {
+            least = sofar .least;
+            bound = e + 1;
+            built = sofar .built;
+            inside = ends .inside;
+            before = passed;
+            behind = ahead;
+            low = omega (arith, sofar .low, started);
+            gap = λ x at-least less.
+                compared x e (λ below. first-none x at-least below)
+                (λ not-below. let same : x ≡ e = omega arith in rw same (sym own-answers ∙ none-own));
+          }
+
+          -- there is one
+          module _ (some-own : answersFor words own (placesOf places own) e ≢ []) where
+            is-next : NextFor (sofar .least) (rowsAsked rows) (answersIn words places) e
+            is-next = (omega (arith, sofar .low, started), (λ none-here. some-own (own-answers ∙ none-here)), first-none)
+
+            pub group-fit : EntityFit words own (placesOf places own) sets (placesOf setPlaces own) e out′ end scratch′
+            group-fit =
+                let whole = next-fit fit (sofar .built) e is-next in
+                record {
+                  heard = own-heard;
+                  sets-heard = group-sets rows (fit .few-rows) ends (fit .sets-heard);
+                  id = whole .id;
+                  value = whole .value;
+                  merged = rw own-answers (whole .merged);
+                  few = rw (own-answers, own-ids) (whole .few);
+                  room = rw (own-answers, own-ids) (whole .room);
+                  scratch-room = rw (own-answers, own-ids) (whole .scratch-room);
+                }
+
+            pub groups-next :
+                (out″ scratch″ : List ℕ) (end′ : ℕ)
+                → length out″ ≡ length out′
+                → length scratch″ ≡ length scratch′
+                → EntityWritten words own (placesOf places own) sets (placesOf setPlaces own) e out′ end out″ end′
+                → GroupsTo words rows places sets setPlaces out to scratch out″ scratch″ next end′ (count + 1)
+            groups-next out″ scratch″ end′ kept scratch-kept written = record {
+              least = e + 1;
+              bound = e + 1;
+              built = built-next fit (sofar .built) e is-next out″ scratch″ end′ kept scratch-kept (record {
+                wrote = λ value given. rw own-ids at (written .wrote value (own-merged value given));
+                few = rw (own-answers, own-ids) at (written .few);
+              });
+              inside = ends .inside;
+              before = passed;
+              behind = ahead;
+              low = omega arith;
+              gap = λ x at-least less. absurd (omega arith);
+            }
+              where
+                own-merged : (value : Entity) → mergedOf (answersFor words rows places e) ≡ some value
+                    → mergedOf (answersFor words own (placesOf places own) e) ≡ some value
+                own-merged value given = rw own-answers given

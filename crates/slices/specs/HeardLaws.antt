@@ -2,7 +2,7 @@
 use Prim.Native.Nat.{ℕ, suc, _+_, _-_, _%_, _≤_, _<_}
 use native.Mathlib.Numerals.{add-one}
 use native.Mathlib.Omega.{arith}
-use mathlib.Core.Path.{_≡_, refl, _∙_}
+use mathlib.Core.Path.{_≡_, refl, sym, ap, _∙_}
 use mathlib.Core.Logic.{_≢_}
 use mathlib.Core.Bool.{true, false, cond, not}
 use mathlib.Core.List.{List, [], _∷_, _++_}
@@ -27,10 +27,10 @@ use Rattle.slices.specs.Writing.{asksFor, answersAfter, FirstAnswer}
 
 module _ {words rows places : List ℕ} (heard : Heard words rows places) {k : ℕ} (h : k < length rows) where
   -- in front of those behind them
-  pub asked-next : rowsAsked (drop k rows) ≡ rowAsked (getD rows k 0) ∷ rowsAsked (drop (k + 1) rows)
+  asked-next : rowsAsked (drop k rows) ≡ rowAsked (getD rows k 0) ∷ rowsAsked (drop (k + 1) rows)
   asked-next = rw (add-one k, drop-cons rows k 0 h)
 
-  pub answers-next : answersIn words (drop k places) ≡ answerIn words (getD places k 0) ∷ answersIn words (drop (k + 1) places)
+  answers-next : answersIn words (drop k places) ≡ answerIn words (getD places k 0) ∷ answersIn words (drop (k + 1) places)
   answers-next = rw (add-one k, drop-cons places k 0 (omega (arith, heard .as-many)))
 
   pub answers-split :
@@ -47,7 +47,7 @@ pub stands-good : {words : List ℕ} {place : ℕ} → EntityStands words place 
 stands-good {words} {place} stands =
     record { ids-ascend = set-ids 0 _ (stands .ids-ascend); fields-ascend = lawful-read _ (stands .lawful) .2 }
 
-each-at : {A : Type 0} (P : A → Type 0) (l : List A) (d : A) → ((k : ℕ) → k < length l → P (getD l k d)) → Each P l
+pub each-at : {A : Type 0} (P : A → Type 0) (l : List A) (d : A) → ((k : ℕ) → k < length l → P (getD l k d)) → Each P l
 unfolding Each
 each-at P [] d h = tt
 each-at P (a ∷ l) d h = (h 0 (omega arith), each-at P l d (λ k less. h (suc k) (omega arith)))
@@ -114,3 +114,7 @@ module _ {words rows places : List ℕ} {e from k : ℕ} (sofar : Passed words r
       present = asks-present (getD rows k 0) _ e (entityAt words (getD places k 0)) test;
       answers = sofar .left ∙ answers-split heard h e ∙ rw (asks-yes (getD rows k 0) _ e (entityAt words (getD places k 0)) test);
     }
+
+-- the first answer is one
+pub first-some : {words rows places : List ℕ} {e k : ℕ} → FirstAnswer words rows places e 0 k → answersFor words rows places e ≢ []
+first-some found none-there = let n = ap length (sym (found .answers) ∙ none-there) in omega arith

@@ -5,7 +5,7 @@ use mathlib.Core.Logic.{_≢_}
 use mathlib.Core.Bool.{true, cond}
 use mathlib.Core.List.{List, [], _∷_, _++_, map}
 use mathlib.Core.Option.{Option, none, some}
-use lib.Dec.{leb, ltb, eqb}
+use lib.Dec.{eqb}
 use lib.ListN.{length, take, drop, getD}
 use Rattle.rules.specs.Tries.{ids}
 use Rattle.rules.specs.StepLaws.{Each}
@@ -20,8 +20,6 @@ use Rattle.values.specs.ValueWords.{valueRowsOf, valueWord, rowAsked}
 use Rattle.merging.specs.MergeEntityLaws.{entityOf}
 use Rattle.answers.specs.Answers.{headIn, headWord, idSet}
 use Rattle.slices.specs.declared.Built.{Built}
-use Rattle.slices.specs.declared.NextEntity.{NextEntity}
-use Rattle.slices.specs.declared.NextEntity.the-variants.{Entity as Next, Ended}
 
 -- ---- rows and answers
 
@@ -87,22 +85,6 @@ pub record SetsHeard (rows sets places : List ℕ) : Type 0 where
 abbrev pub idsFor : List ℕ → List ℕ → List ℕ → ℕ → List ℕ
 idsFor rows sets places e = idsTo e (rowsAsked rows) (setsIn sets places)
 
--- ---- the next entity
-
--- the smallest entity, at least `least`, that a row with an answer asks for
-abbrev pub smaller : ℕ → NextEntity → NextEntity
-smaller id (Next e) = cond (ltb id e) (Next id) (Next e)
-smaller id Ended = Next id
-
-abbrev pub nearer : ℕ → ℕ → Option Entity → NextEntity → NextEntity
-nearer least id none best = best
-nearer least id (some value) best = cond (leb least id) (smaller id best) best
-
-unfoldable pub nextAsked : ℕ → List EntityRequest → List (Option Entity) → NextEntity
-nextAsked least [] answers = Ended
-nextAsked least (row ∷ rows) [] = Ended
-nextAsked least (row ∷ rows) (answer ∷ answers) = nearer least (row .id) answer (nextAsked least rows answers)
-
 -- ---- the slice as words
 
 abbrev pub rowWords : Entity → List ℕ
@@ -138,6 +120,7 @@ pub record SliceFit (words rows places sets setPlaces out : List ℕ) (to : ℕ)
   pub sets-heard : SetsHeard rows sets setPlaces
   pub slice : List Loaded
   pub slice-of : SliceOf (rowsAsked rows) (answersIn words places) slice
+  pub few-rows : length rows ≤ 4096
   pub few : wordsOfAll words places sets setPlaces < 2 ^ 16
   pub room : to + wordsOfAll words places sets setPlaces ≤ length out
   pub scratch-room : wordsOfAll words places sets setPlaces ≤ length scratch

@@ -1,4 +1,4 @@
-// An entity of a slice: its answers merged one after the other, and its ancestors among its parents.
+// An entity of a slice: its answers merged one after the other, and its ancestors among its parents. The rows are given by their keys.
 ghost use mathlib.Core.Path.{_≡_};
 ghost use mathlib.Core.List.{List, map};
 ghost use mathlib.Core.Option.{none, some};
@@ -11,8 +11,10 @@ ghost use Rattle.rules.specs.Loading.{withIds};
 ghost use Rattle.words.specs.Runs.{Wrote};
 ghost use Rattle.values.specs.ValueWords.{valueRowsOf, valueWord};
 ghost use Rattle.slices.specs.Slices.{parentCount, rowCount, rowsAt, answersFor, rowWords, EntityStands, Heard, idsFor};
+ghost use Rattle.slices.specs.Keys.{placesOf};
 ghost use Rattle.slices.specs.Writing.{asksFor, AnswerFound, MayMerge, RowsFit, rowsIn, ParentsFit, EntityFit, EntityWritten};
 use crate::ids::add_ancestors;
+use crate::keys::place_of;
 use answers::Head;
 use merging::Merged;
 use merging::merge_values;
@@ -20,7 +22,7 @@ use values::EntityRequest;
 use words::copy_words;
 
 // The next row that asks for an entity and has an answer, if there is one.
-enum NextAnswer {
+pub enum NextAnswer {
     Row(usize),
     Ended,
 }
@@ -36,14 +38,20 @@ fn asks_for(row: u64, head: u64, entity: u64) -> bool
 }
 
 // The first row from `from` on that asks for an entity and has an answer.
-fn next_answer(words: &[u64], rows: &[u64], places: &[u64], entity: u64, from: usize) -> NextAnswer
-    requires { ⌜ Heard (now words) (now rows) (now places) × (from ≤ length (now rows)) ⌝ }
-    ensures { λ r. ⌜ AnswerFound (now (words .entry)) (now (rows .entry)) (now (places .entry)) entity from r ⌝ }
+pub fn next_answer(
+    words: &[u64],
+    keys: &[u64],
+    places: &[u64],
+    entity: u64,
+    from: usize,
+) -> NextAnswer
+    requires { ⌜ Heard (now words) (now keys) (placesOf (now places) (now keys)) × (from ≤ length (now keys)) ⌝ }
+    ensures { λ r. ⌜ AnswerFound (now (words .entry)) (now (keys .entry)) (placesOf (now (places .entry)) (now (keys .entry))) entity from r ⌝ }
 {
     let mut k = from;
-    while k < rows.len() {
-        let place = places[k] as usize;
-        if asks_for(rows[k], words[place], entity) {
+    while k < keys.len() {
+        let place = place_of(keys, places, k);
+        if asks_for(keys[k], words[place], entity) {
             return NextAnswer::Row(k);
         }
         k += 1;
@@ -94,24 +102,24 @@ fn merge_more(
 // Merges the rows of the answers to an entity, writes them from a place on, and answers how many they are.
 fn write_rows(
     words: &[u64],
-    rows: &[u64],
+    keys: &[u64],
     places: &[u64],
     entity: u64,
     out: &mut [u64],
     from: usize,
     scratch: &mut [u64],
 ) -> usize
-    requires { ⌜ RowsFit (now words) (now rows) (now places) entity (now out) from (now scratch) ⌝ }
-    ensures { λ r. ⌜ ((value : Entity) → mergedOf (answersFor (now (words .entry)) (now (rows .entry)) (now (places .entry)) entity) ≡ some value → Wrote (now (out .entry)) from (rowWords value) (now (out .exit)) (from + r)) ⌝ }
-    ensures { λ r. ⌜ r ≤ rowsIn (answersFor (now (words .entry)) (now (rows .entry)) (now (places .entry)) entity) ⌝ }
+    requires { ⌜ RowsFit (now words) (now keys) (placesOf (now places) (now keys)) entity (now out) from (now scratch) ⌝ }
+    ensures { λ r. ⌜ ((value : Entity) → mergedOf (answersFor (now (words .entry)) (now (keys .entry)) (placesOf (now (places .entry)) (now (keys .entry))) entity) ≡ some value → Wrote (now (out .entry)) from (rowWords value) (now (out .exit)) (from + r)) ⌝ }
+    ensures { λ r. ⌜ r ≤ rowsIn (answersFor (now (words .entry)) (now (keys .entry)) (placesOf (now (places .entry)) (now (keys .entry))) entity) ⌝ }
 {
     let mut size: usize = 0;
     let mut k: usize = 0;
-    while k < rows.len() {
-        let NextAnswer::Row(next) = next_answer(words, rows, places, entity, k) else {
+    while k < keys.len() {
+        let NextAnswer::Row(next) = next_answer(words, keys, places, entity, k) else {
             return size;
         };
-        let place = places[next] as usize;
+        let place = place_of(keys, places, next);
         size = merge_more(words, place, out, from, size, scratch);
         k = next + 1;
     }
@@ -121,7 +129,7 @@ fn write_rows(
 // Writes an entity's parents, united with the ancestors answered for it, and answers how many they are.
 fn write_parents(
     words: &[u64],
-    rows: &[u64],
+    keys: &[u64],
     places: &[u64],
     sets: &[u64],
     set_places: &[u64],
@@ -130,18 +138,18 @@ fn write_parents(
     to: usize,
     scratch: &mut [u64],
 ) -> usize
-    requires { ⌜ ParentsFit (now words) (now rows) (now places) (now sets) (now «set_places») entity (now out) to (now scratch) ⌝ }
-    ensures { λ r. ⌜ ((value : Entity) → mergedOf (answersFor (now (words .entry)) (now (rows .entry)) (now (places .entry)) entity) ≡ some value → Wrote (now (out .entry)) to (withIds (idsFor (now (rows .entry)) (now (sets .entry)) (now («set_places» .entry)) entity) (value .parents)) (now (out .exit)) (to + r)) ⌝ }
+    requires { ⌜ ParentsFit (now words) (now keys) (placesOf (now places) (now keys)) (now sets) (placesOf (now «set_places») (now keys)) entity (now out) to (now scratch) ⌝ }
+    ensures { λ r. ⌜ ((value : Entity) → mergedOf (answersFor (now (words .entry)) (now (keys .entry)) (placesOf (now (places .entry)) (now (keys .entry))) entity) ≡ some value → Wrote (now (out .entry)) to (withIds (idsFor (now (keys .entry)) (now (sets .entry)) (placesOf (now («set_places» .entry)) (now (keys .entry))) entity) (value .parents)) (now (out .exit)) (to + r)) ⌝ }
 {
-    let NextAnswer::Row(first) = next_answer(words, rows, places, entity, 0) else {
+    let NextAnswer::Row(first) = next_answer(words, keys, places, entity, 0) else {
         return 0;
     };
-    let place = places[first] as usize;
+    let place = place_of(keys, places, first);
     let start = place + 1;
     let end = rows_start(words, place);
     copy_words(&words[start..end], out, to);
     add_ancestors(
-        rows,
+        keys,
         sets,
         set_places,
         entity,
@@ -155,7 +163,7 @@ fn write_parents(
 // Writes an entity with its answers merged and its ancestors among its parents, and answers the place after it.
 pub fn write_entity(
     words: &[u64],
-    rows: &[u64],
+    keys: &[u64],
     places: &[u64],
     sets: &[u64],
     set_places: &[u64],
@@ -164,13 +172,13 @@ pub fn write_entity(
     to: usize,
     scratch: &mut [u64],
 ) -> usize
-    requires { ⌜ EntityFit (now words) (now rows) (now places) (now sets) (now «set_places») entity (now out) to (now scratch) ⌝ }
-    ensures { λ r. ⌜ EntityWritten (now (words .entry)) (now (rows .entry)) (now (places .entry)) (now (sets .entry)) (now («set_places» .entry)) entity (now (out .entry)) to (now (out .exit)) r ⌝ }
+    requires { ⌜ EntityFit (now words) (now keys) (placesOf (now places) (now keys)) (now sets) (placesOf (now «set_places») (now keys)) entity (now out) to (now scratch) ⌝ }
+    ensures { λ r. ⌜ EntityWritten (now (words .entry)) (now (keys .entry)) (placesOf (now (places .entry)) (now (keys .entry))) (now (sets .entry)) (placesOf (now («set_places» .entry)) (now (keys .entry))) entity (now (out .entry)) to (now (out .exit)) r ⌝ }
 {
     let start = to + 1;
     let parents = write_parents(
         words,
-        rows,
+        keys,
         places,
         sets,
         set_places,
@@ -180,7 +188,7 @@ pub fn write_entity(
         scratch,
     );
     let from = start + parents;
-    let size = write_rows(words, rows, places, entity, out, from, scratch);
+    let size = write_rows(words, keys, places, entity, out, from, scratch);
     let head = Head {
         flag: entity,
         parents,

@@ -1,25 +1,21 @@
 // The slice of a load (docs/FORMS.md, 'Slice out'), built from the answers to its rows: its entities in order, each with its answers merged.
+// The rows are sorted by entity once, so that each entity is written from its own rows.
 mod entity;
 mod ids;
+mod keys;
 
-ghost use mathlib.Core.Path.{_≡_};
-ghost use mathlib.Core.Bool.{cond};
 ghost use mathlib.Core.List.{List};
-ghost use mathlib.Core.Option.{none, some};
-ghost use lib.Dec.{eqb};
-ghost use Rattle.rules.specs.Values.{Entity};
 ghost use Rattle.rules.specs.Loading.{Loaded, withAncestors};
 ghost use Rattle.rules.specs.SliceLaws.{SliceOf};
-ghost use Rattle.slices.specs.Slices.{rowsAsked, answersIn, nearer as nearerOf, nextAsked, Heard, setsIn, SliceFit, WroteSlice};
+ghost use Rattle.slices.specs.Slices.{rowsAsked, answersIn, setsIn, SliceFit, WroteSlice};
+use entity::NextAnswer;
+use entity::next_answer;
 use entity::write_entity;
 pub use ids::union_ids;
-use values::EntityRequest;
-
-// The next entity of a slice, if there is one.
-pub enum NextEntity {
-    Entity(u64),
-    Ended,
-}
+use keys::IDS;
+use keys::group_end;
+use keys::sort_keys;
+use keys::write_keys;
 
 // A slice that is written: how many entities it has, and the place after it.
 pub struct Built {
@@ -27,44 +23,8 @@ pub struct Built {
     pub end: usize,
 }
 
-// Ids are below this.
-const IDS: u64 = 0x1_0000;
-
-// The nearer of the entity of a row whose answer has this head, and the nearest so far.
-fn nearer(best: NextEntity, least: u64, id: u64, head: u64) -> NextEntity
-    ensures { λ r. ⌜ ((value : Entity) → r ≡ nearerOf least id (cond (eqb head 0) none (some value)) best) ⌝ }
-{
-    if head == 0 {
-        return best;
-    }
-    if id < least {
-        return best;
-    }
-    let NextEntity::Entity(e) = best else {
-        return NextEntity::Entity(id);
-    };
-    if id < e {
-        return NextEntity::Entity(id);
-    }
-    best
-}
-
-// The smallest entity, at least `least`, that a row with an answer asks for.
-pub fn next_entity(words: &[u64], rows: &[u64], places: &[u64], least: u64) -> NextEntity
-    requires { ⌜ Heard (now words) (now rows) (now places) ⌝ }
-    ensures { λ r. ⌜ r ≡ nextAsked least (rowsAsked (now (rows .entry))) (answersIn (now (words .entry)) (now (places .entry))) ⌝ }
-{
-    let mut best = NextEntity::Ended;
-    let mut k = rows.len();
-    while 0 < k {
-        k -= 1;
-        let place = places[k] as usize;
-        best = nearer(best, least, EntityRequest::of(rows[k]).id, words[place]);
-    }
-    best
-}
-
-// Writes the slice of rows and their answers, with the answered ancestors, from a place on.
+// Writes the slice of rows and their answers, with the answered ancestors, from a place on. An entity to which no row has an answer is
+// passed over.
 pub fn build_slice(
     words: &[u64],
     rows: &[u64],
@@ -78,26 +38,38 @@ pub fn build_slice(
     requires { ⌜ SliceFit (now words) (now rows) (now places) (now sets) (now «set_places») (now out) to (now scratch) ⌝ }
     ensures { λ r. ⌜ ((slice : List Loaded) → SliceOf (rowsAsked (now (rows .entry))) (answersIn (now (words .entry)) (now (places .entry))) slice → WroteSlice (withAncestors (rowsAsked (now (rows .entry))) (setsIn (now (sets .entry)) (now («set_places» .entry))) slice) (now (out .entry)) to (now (out .exit)) r) ⌝ }
 {
-    let mut least: u64 = 0;
+    let mut keys = [0u64; 4096];
+    let mut spare = [0u64; 4096];
+    let len = rows.len();
+    write_keys(rows, &mut keys[..]);
+    sort_keys(&mut keys[..], 0, len, &mut spare[..]);
+    let sorted = &keys[..len];
     let mut end = to;
     let mut count: u64 = 0;
-    while least < IDS {
-        let NextEntity::Entity(entity) = next_entity(words, rows, places, least) else {
-            return Built { count, end };
-        };
-        end = write_entity(
-            words,
-            rows,
-            places,
-            sets,
-            set_places,
-            entity,
-            out,
-            end,
-            scratch,
-        );
-        count += 1;
-        least = entity + 1;
+    let mut from = 0;
+    while from < len {
+        let entity = sorted[from] % IDS;
+        let behind = group_end(sorted, from);
+        let group = &sorted[from..behind];
+        let found = next_answer(words, group, places, entity, 0);
+        match found {
+            NextAnswer::Row(_) => {
+                end = write_entity(
+                    words,
+                    group,
+                    places,
+                    sets,
+                    set_places,
+                    entity,
+                    out,
+                    end,
+                    scratch,
+                );
+                count += 1;
+            }
+            NextAnswer::Ended => {}
+        }
+        from = behind;
     }
     Built { count, end }
 }

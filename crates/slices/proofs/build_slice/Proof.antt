@@ -1,87 +1,116 @@
--- `slices::build_slice` meets its contract: the entities below `least` are written.
+-- `slices::build_slice` meets its contract: of the entities that the keys before `from` ask for, those with an answer are written.
 -- Assumes nothing.
 use Prim.Native.Nat.{_-_}
 use native.Mathlib.Omega.{arith}
 use borrow.Author.Needs.{needs}
-use Rattle.slices.specs.Slices.{rowsAsked, answersIn}
-use Rattle.slices.specs.NextLaws.{NextFor, next-found}
-use Rattle.slices.specs.BuildLaws.{BuiltTo, built-none, built-all, built-end, next-small, next-fit, built-next}
-use Rattle.slices.specs.declared.NextEntity.the-variants.{Entity}
+use mathlib.Core.Path.{_≡_, refl, sym, ap}
+use lib.ListN.{length}
+use lib.Seq.{length-take-le}
+use Rattle.slices.specs.HeardLaws.{first-some}
+use Rattle.slices.specs.GroupLaws.{sortedKeys, sorted-many, keys-sort, keys-sorted}
+use Rattle.slices.specs.BuildLaws.{GroupsTo, groups-none, groups-all, own-heard, groups-passed, group-counts, group-fit, groups-next}
 use Rattle.slices.proofs.build_slice.Statement.{statement}
 use Rattle.slices.proofs.build_slice.Tie as tie
 
 abbrev Inv-loop : tie.InvT-loop
-Inv-loop words rows places sets set-places out₀ to scratch₀ least₀ end₀ count₀ out scratch least end count =
-    BuiltTo words rows places sets set-places out₀ to scratch₀ out scratch least end count
+Inv-loop words rows places sets set-places out₀ to scratch₀ len sorted end₀ count₀ from₀ out scratch end count from =
+    (sorted ≡ sortedKeys rows) × (len ≡ length rows)
+    × GroupsTo words rows places sets set-places out₀ to scratch₀ out scratch from end count
 
 abbrev μ-loop : tie.MeasureT-loop
-μ-loop words rows places sets set-places out₀ to scratch₀ least₀ end₀ count₀ out scratch least end count = 65536 - least
+μ-loop words rows places sets set-places out₀ to scratch₀ len sorted end₀ count₀ from₀ out scratch end count from =
+    len - from
 
--- the next entity is found
-found :
-    (c : tie.After-known-told Inv-loop μ-loop)
-    → let a = c .before .before .before .before .before .before .before .before .before .before .before .before .before .args in
-    NextFor (c .before .before .before .before .before .loop .least) (rowsAsked (a .rows .now)) (answersIn (a .words .now) (a .places .now))
-    (Entity (c .before .entity .given .0 .0))
-found c = rw (c .before .entity .given .1) at (next-found _ _ _ (c .before .before .before .next-entity .ensures))
+slice-aggregate-write-keys : tie.Need-slice-aggregate-write-keys Inv-loop μ-loop
+slice-aggregate-write-keys c = search needs
+
+write-keys-requires : tie.Need-write-keys-requires Inv-loop μ-loop
+write-keys-requires c κs = (omega (arith, (c .before .before .before .before .before .before .before .before .pre) .few-rows), (c .before .before .before .before .before .before .before .before .pre) .few-rows)
+
+slice-aggregate-sort-keys : tie.Need-slice-aggregate-sort-keys Inv-loop μ-loop
+slice-aggregate-sort-keys c = search needs
+
+slice-aggregate-sort-keys-2 : tie.Need-slice-aggregate-sort-keys-2 Inv-loop μ-loop
+slice-aggregate-sort-keys-2 c = search needs
+
+sort-keys-requires : tie.Need-sort-keys-requires Inv-loop μ-loop
+sort-keys-requires c κs = keys-sort _ (c .before .before .before .before .before .before .before .before .before .before .before .before .pre .few-rows) _ (c .before .before .before .write-keys .ensures) (omega (arith, (c .before .before .before .before .before .before .before .before .before .before .before .before .pre) .few-rows)) (omega (arith, (c .before .before .before .before .before .before .before .before .before .before .before .before .pre) .few-rows))
+
+array-share-prefix-keys : tie.Need-array-share-prefix-keys Inv-loop μ-loop
+array-share-prefix-keys c = search needs
+
+slice-aggregate-sorted : tie.Need-slice-aggregate-sorted Inv-loop μ-loop
+slice-aggregate-sorted c = sym (length-take-le _ _ (array-share-prefix-keys (c .before)))
 
 loop-holds : tie.Need-loop-holds Inv-loop μ-loop
-loop-holds c = built-none (c .before .before .before .before .before .before .before .pre)
+loop-holds c = (keys-sorted _ (c .before .before .before .before .before .before .before .before .before .before .before .before .before .before .before .before .pre .few-rows) _ (c .before .before .before .before .before .before .before .write-keys .ensures) (omega (arith, (c .before .before .before .before .before .before .before .before .before .before .before .before .before .before .before .before .pre) .few-rows)) (c .before .before .before .sort-keys .ensures), refl, groups-none (c .before .before .before .before .before .before .before .before .before .before .before .before .before .before .before .before .pre))
 
-next-entity-requires : tie.Need-next-entity-requires Inv-loop μ-loop
-next-entity-requires c κs = c .before .before .before .before .before .before .before .before .before .pre .heard
+mul-entity : tie.Need-mul-entity Inv-loop μ-loop
+mul-entity c = omega (arith, c .loop-test .taken, c .before .loop .inv .1, (c .before .before .before .before .before .before .before .before .before .before .before .before .before .before .before .before .before .before .pre) .few-rows)
 
-enum-known-entity : tie.Need-enum-known-entity Inv-loop μ-loop
-enum-known-entity c = search needs
+shared-slice-read-entity : tie.Need-shared-slice-read-entity Inv-loop μ-loop
+shared-slice-read-entity c = omega (arith, c .before .loop-test .taken, ap length (c .before .before .loop .inv .0), sorted-many (c .before .before .before .before .before .before .before .before .before .before .before .before .before .before .before .before .before .before .before .args .rows .now) (c .before .before .before .before .before .before .before .before .before .before .before .before .before .before .before .before .before .before .before .pre .few-rows), c .before .before .loop .inv .1)
+
+group-end-requires : tie.Need-group-end-requires Inv-loop μ-loop
+group-end-requires c κs = omega (arith, c .before .loop-test .taken, ap length (c .before .before .loop .inv .0), sorted-many (c .before .before .before .before .before .before .before .before .before .before .before .before .before .before .before .before .before .before .before .args .rows .now) (c .before .before .before .before .before .before .before .before .before .before .before .before .before .before .before .before .before .before .before .pre .few-rows), c .before .before .loop .inv .1)
+
+mul-group : tie.Need-mul-group Inv-loop μ-loop
+mul-group c = omega (arith, c .before .before .loop-test .taken, c .before .before .before .loop .inv .1, (c .before .before .before .before .before .before .before .before .before .before .before .before .before .before .before .before .before .before .before .before .pre) .few-rows)
+
+sub-group : tie.Need-sub-group Inv-loop μ-loop
+sub-group c = omega (arith, c .group-end .ensures .some)
+
+part-group-start : tie.Need-part-group-start Inv-loop μ-loop
+part-group-start c = omega (arith, c .group-end .ensures .some)
+
+part-group-end : tie.Need-part-group-end Inv-loop μ-loop
+part-group-end c = c .group-end .ensures .inside
+
+next-answer-requires : tie.Need-next-answer-requires Inv-loop μ-loop
+next-answer-requires c κs = (rw (c .before .before .before .before .loop .inv .0) (own-heard (c .before .before .before .before .before .before .before .before .before .before .before .before .before .before .before .before .before .before .before .before .before .pre) (c .before .before .before .before .loop .inv .2) (rw (c .before .before .before .before .loop .inv .0) at (c .before .group-end .ensures))), omega arith)
 
 enum-told : tie.Need-enum-told Inv-loop μ-loop
 enum-told c = search needs
 
+write-entity-requires : tie.Need-write-entity-requires Inv-loop μ-loop
+write-entity-requires c κs =
+    rw (c .before .before .before .before .before .before .before .before .before .loop .inv .0) (group-fit (c .before .before .before .before .before .before .before .before .before .before .before .before .before .before .before .before .before .before .before .before .before .before .before .before .before .before .pre) (c .before .before .before .before .before .before .before .before .before .loop .inv .2) (rw (c .before .before .before .before .before .before .before .before .before .loop .inv .0) at (c .before .before .before .before .before .before .group-end .ensures)) (first-some (rw (c .before .before .before .before .before .before .before .before .before .loop .inv .0, c .before .before .enum-told .given .1) at (c .before .before .before .before .next-answer .ensures))))
+
+add-count : tie.Need-add-count Inv-loop μ-loop
+add-count c = omega (arith, group-counts (c .before .before .before .before .before .before .before .before .before .before .before .before .before .before .before .before .before .before .before .before .before .before .before .before .before .before .before .before .before .before .before .pre) (c .before .before .before .before .before .before .before .before .before .before .before .before .before .before .loop .inv .2) (rw (c .before .before .before .before .before .before .before .before .before .before .before .before .before .before .loop .inv .0) at (c .before .before .before .before .before .before .before .before .before .before .before .group-end .ensures)))
+
+enum-told-2 : tie.Need-enum-told-2 Inv-loop μ-loop
+enum-told-2 c = search needs
+
+loop-less : tie.Need-loop-less Inv-loop μ-loop
+loop-less c = omega (arith, c .before .before .before .before .before .before .before .before .before .before .before .before .before .loop-test .taken, c .before .before .before .before .before .before .before .before .before .before .before .group-end .ensures .some)
+
+loop-again : tie.Need-loop-again Inv-loop μ-loop
+loop-again c = (
+  c .before .before .before .before .before .before .before .before .before .before .before .before .before .before .loop .inv .0,
+  c .before .before .before .before .before .before .before .before .before .before .before .before .before .before .loop .inv .1,
+  groups-next (c .before .before .before .before .before .before .before .before .before .before .before .before .before .before .before .before .before .before .before .before .before .before .before .before .before .before .before .before .before .before .before .pre) (c .before .before .before .before .before .before .before .before .before .before .before .before .before .before .loop .inv .2) (rw (c .before .before .before .before .before .before .before .before .before .before .before .before .before .before .loop .inv .0) at (c .before .before .before .before .before .before .before .before .before .before .before .group-end .ensures)) (first-some (rw (c .before .before .before .before .before .before .before .before .before .before .before .before .before .before .loop .inv .0, c .before .before .before .before .before .before .before .enum-told .given .1) at (c .before .before .before .before .before .before .before .before .before .next-answer .ensures))) _ _ _ (search needs) (search needs) (rw (c .before .before .before .before .before .before .before .before .before .before .before .before .before .before .loop .inv .0) at (c .before .before .before .before .write-entity .ensures)),
+)
+
+loop-less-2 : tie.Need-loop-less-2 Inv-loop μ-loop
+loop-less-2 c = omega (arith, c .before .before .before .before .before .before .loop-test .taken, c .before .before .before .before .group-end .ensures .some)
+
+loop-again-2 : tie.Need-loop-again-2 Inv-loop μ-loop
+loop-again-2 c = (
+  c .before .before .before .before .before .before .before .loop .inv .0,
+  c .before .before .before .before .before .before .before .loop .inv .1,
+  groups-passed (c .before .before .before .before .before .before .before .before .before .before .before .before .before .before .before .before .before .before .before .before .before .before .before .before .pre) (c .before .before .before .before .before .before .before .loop .inv .2) (rw (c .before .before .before .before .before .before .before .loop .inv .0) at (c .before .before .before .before .group-end .ensures)) (rw (c .before .before .before .before .before .before .before .loop .inv .0, c .enum-told2 .given .1) at (c .before .before .next-answer .ensures)),
+)
+
 same-length : tie.Need-same-length Inv-loop μ-loop
-same-length c = c .before .before .before .before .loop .inv .kept
+same-length c = c .before .loop .inv .2 .built .kept
 
 same-length-2 : tie.Need-same-length-2 Inv-loop μ-loop
-same-length-2 c = c .before .before .before .before .loop .inv .scratch-kept
+same-length-2 c = c .before .loop .inv .2 .built .scratch-kept
 
 returns : tie.Need-returns Inv-loop μ-loop
 returns c =
-    built-all (c .before .before .before .before .before .before .before .before .before .before .before .before .pre)
-    (c .before .before .before .before .loop .inv)
-    (rw (c .enum-told .given .1) at (next-found _ _ _ (c .before .before .next-entity .ensures)))
-
-write-entity-requires : tie.Need-write-entity-requires Inv-loop μ-loop
-write-entity-requires c κs =
-    next-fit (c .before .before .before .before .before .before .before .before .before .before .before .before .before .before .before .pre) (c .before .before .before .before .before .before .before .loop .inv) _ (found (c .before .before))
-
-add-count : tie.Need-add-count Inv-loop μ-loop
-add-count c =
-    omega (
-      arith,
-      c .before .before .before .before .before .before .before .before .before .before .before .before .loop .inv .counts,
-      c .before .before .before .before .before .before .before .before .before .before .before .loop-test .taken,
-    )
-
-add-least : tie.Need-add-least Inv-loop μ-loop
-add-least c =
-    omega (arith, next-small (c .before .before .before .before .before .before .before .before .before .before .before .before .before .before .before .before .before .before .before .before .pre) (c .before .before .before .before .before .before .before .before .before .before .before .before .loop .inv) _ (found (c .before .before .before .before .before .before .before)))
-
-loop-less : tie.Need-loop-less Inv-loop μ-loop
-loop-less c =
-    omega (arith, next-small (c .before .before .before .before .before .before .before .before .before .before .before .before .before .before .before .before .before .before .before .before .pre) (c .before .before .before .before .before .before .before .before .before .before .before .before .loop .inv) _ (found (c .before .before .before .before .before .before .before)), found (c .before .before .before .before .before .before .before) .0)
-
-loop-again : tie.Need-loop-again Inv-loop μ-loop
-loop-again c =
-    built-next (c .before .before .before .before .before .before .before .before .before .before .before .before .before .before .before .before .before .before .before .before .pre) (c .before .before .before .before .before .before .before .before .before .before .before .before .loop .inv) _ (found (c .before .before .before .before .before .before .before)) _ _ _ (search needs) (search needs) (c .before .before .before .before .write-entity .ensures)
-
-same-length-3 : tie.Need-same-length-3 Inv-loop μ-loop
-same-length-3 c = c .before .loop .inv .kept
-
-same-length-4 : tie.Need-same-length-4 Inv-loop μ-loop
-same-length-4 c = c .before .loop .inv .scratch-kept
-
-returns-2 : tie.Need-returns-2 Inv-loop μ-loop
-returns-2 c =
-    built-end (c .before .before .before .before .before .before .before .before .before .pre) (c .before .loop .inv) (c .loop-test .left)
+    groups-all (c .before .before .before .before .before .before .before .before .before .before .before .before .before .before .before .before .before .before .pre) (c .before .loop .inv .2) (omega (arith, sorted-many (c .before .before .before .before .before .before .before .before .before .before .before .before .before .before .before .before .before .before .args .rows .now) (c .before .before .before .before .before .before .before .before .before .before .before .before .before .before .before .before .before .before .pre .few-rows), c .before .loop .inv .1, c .loop-test .left))
 
 pub build-slice-spec : {M : Type 1} → statement M
 build-slice-spec =
@@ -89,18 +118,30 @@ build-slice-spec =
     (tie.spec
     Inv-loop
     μ-loop
+    slice-aggregate-write-keys
+    write-keys-requires
+    slice-aggregate-sort-keys
+    slice-aggregate-sort-keys-2
+    sort-keys-requires
+    array-share-prefix-keys
+    slice-aggregate-sorted
     loop-holds
-    next-entity-requires
-    enum-known-entity
+    mul-entity
+    shared-slice-read-entity
+    group-end-requires
+    mul-group
+    sub-group
+    part-group-start
+    part-group-end
+    next-answer-requires
     enum-told
-    same-length
-    same-length-2
-    returns
     write-entity-requires
     add-count
-    add-least
+    enum-told-2
     loop-less
     loop-again
-    same-length-3
-    same-length-4
-    returns-2)
+    loop-less-2
+    loop-again-2
+    same-length
+    same-length-2
+    returns)
