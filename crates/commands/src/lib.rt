@@ -152,6 +152,22 @@ fn merge(to: To, line: &[u8], count: usize) -> u64 {
     listing_jobs::merge(to, line, count)
 }
 
+// `tree FILE [NAMES]`
+fn tree(to: To, line: &[u8], count: usize) -> u64 {
+    if count < 3 || 4 < count {
+        return misused(to, b"tree takes a file, and a name table or none");
+    }
+    tree_jobs::tree(to, line, count)
+}
+
+// `page FILE [NAMES]`
+fn page(to: To, line: &[u8], count: usize) -> u64 {
+    if count < 3 || 4 < count {
+        return misused(to, b"page takes a file, and a name table or none");
+    }
+    page_jobs::page(to, line, count)
+}
+
 // The command that the first word names, with so many words.
 fn run_command(to: To, line: &[u8], count: usize, word: &[u8]) -> u64 {
     let command = Command::of(word);
@@ -162,6 +178,8 @@ fn run_command(to: To, line: &[u8], count: usize, word: &[u8]) -> u64 {
         Command::Merge => merge(to, line, count),
         Command::Type => type_listing(to, line, count),
         Command::Load => load(to, line, count),
+        Command::Tree => tree(to, line, count),
+        Command::Page => page(to, line, count),
         Command::Help => help(to, line, count),
         Command::Unknown => misused_word(to, b"there is no command ", word),
     }

@@ -10,6 +10,8 @@ pub enum Command {
     Merge,
     Type,
     Load,
+    Tree,
+    Page,
     Help,
     Unknown,
 }
@@ -33,6 +35,12 @@ impl Command {
         }
         if check::same(word, b"load") {
             return Command::Load;
+        }
+        if check::same(word, b"tree") {
+            return Command::Tree;
+        }
+        if check::same(word, b"page") {
+            return Command::Page;
         }
         if check::same(word, b"help") {
             return Command::Help;
@@ -89,11 +97,27 @@ fn say_load(to: To) -> u64 {
     )
 }
 
+fn say_tree(to: To) -> u64 {
+    write(
+        to.out,
+        to.err,
+        b"terbagyl tree FILE [NAMES]\n\nReads FILE, a listing, and draws it as a tree: each request type, and below it what a decision on such a request reads, a line each,\ntwo spaces deeper than what it belongs to. With NAMES, a name table, names stand for ids; where one is missing the id stands.\nBelow `ancestors named by` stands where the ids of those ancestors come from that are read of the entity above it, and a line with\n`(asked for as an ancestor)` is one of them.\n",
+    )
+}
+
+fn say_page(to: To) -> u64 {
+    write(
+        to.out,
+        to.err,
+        b"terbagyl page FILE [NAMES]\n\nReads FILE, a listing, and writes it as one HTML page for a browser: the request types as a list, and each as a tree that can be folded\nand searched, in the words of tree. The page needs nothing else and asks for nothing from a network.\n",
+    )
+}
+
 fn say_commands(to: To) -> u64 {
     write(
         to.out,
         to.err,
-        b"usage: terbagyl COMMAND ...\n\n  build SCHEMA FILE...      analyse policy texts, and write the listing of their manifest\n  build --typed SCHEMA FILE...\n                            the same, typed by the schema\n  steps P A R SCHEMA FILE   analyse a step text under a request type, and write the contribution\n  list FILE                 read a listing, and write it again\n  merge FILE...             add listings or contributions to each other, and write the listing\n  type SCHEMA FILE          type a listing by a schema, and write the listing of what stays\n  load MANIFEST REQUEST STORE...\n                            load what a manifest has a request read from a store, and write the log\n  help [COMMAND]            this text, or more of a command; also -h and --help\n  --version                 which version this is\n\n",
+        b"usage: terbagyl COMMAND ...\n\n  build SCHEMA FILE...      analyse policy texts, and write the listing of their manifest\n  build --typed SCHEMA FILE...\n                            the same, typed by the schema\n  steps P A R SCHEMA FILE   analyse a step text under a request type, and write the contribution\n  list FILE                 read a listing, and write it again\n  merge FILE...             add listings or contributions to each other, and write the listing\n  type SCHEMA FILE          type a listing by a schema, and write the listing of what stays\n  load MANIFEST REQUEST STORE...\n                            load what a manifest has a request read from a store, and write the log\n  tree FILE [NAMES]         draw a listing as a tree, with names from a name table\n  page FILE [NAMES]         write a listing as an HTML page, with names from a name table\n  help [COMMAND]            this text, or more of a command; also -h and --help\n  --version                 which version this is\n\n",
     )
 }
 
@@ -101,7 +125,7 @@ fn say_forms(to: To) -> u64 {
     write(
         to.out,
         to.err,
-        b"A FILE may be a pipe or /dev/stdin and is read once. A line ends in LF, and one tab parts two fields.\n\n  listing       A lines (request types), each with its N lines (what is read)\n  contribution  a listing with one A line\n  policy text   A lines, each with the step lines of a contribution\n  step text     step lines: var lit none attr union drop full in set rec\n  schema        T, E, F, L and C lines\n  request       a Q line (who asks), with the V lines of its context\n  store         E lines (entities), each with its P, U and V lines (parents, ancestors, attributes)\n\ndocs/FORMS.md has every form, and every number with which a text is refused.\n\n",
+        b"A FILE may be a pipe or /dev/stdin and is read once. A line ends in LF, and one tab parts two fields.\n\n  listing       A lines (request types), each with its N lines (what is read)\n  contribution  a listing with one A line\n  policy text   A lines, each with the step lines of a contribution\n  step text     step lines: var lit none attr union drop full in set rec\n  schema        T, E, F, L and C lines\n  request       a Q line (who asks), with the V lines of its context\n  store         E lines (entities), each with its P, U and V lines (parents, ancestors, attributes)\n  name table    t, e and f lines (entity types, entities, fields), each an id and its name\n\ndocs/FORMS.md has every form, and every number with which a text is refused.\n\n",
     )
 }
 
@@ -135,6 +159,8 @@ pub fn say_command(to: To, command: Command) -> u64 {
         Command::Merge => say_merge(to),
         Command::Type => say_type(to),
         Command::Load => say_load(to),
+        Command::Tree => say_tree(to),
+        Command::Page => say_page(to),
         Command::Help => say_all(to),
         Command::Unknown => NONE,
     }

@@ -1,8 +1,10 @@
-// What all jobs share: a refusal told, a schema and a listing read, a listing written, also of a manifest that is typed first. Each answers a status.
+// What all jobs share: a refusal told, a schema, a listing and a name table read, a listing written, also of a manifest that is typed first. Each answers a status.
+ghost use Rattle.io.specs.Counts.{Counts};
 use entity_manifest::Kind;
 use entity_manifest::Reply;
 use entity_manifest::Written;
 use files::DONE;
+use files::Loaded;
 use files::REFUSED;
 use files::To;
 use forms::Form;
@@ -71,6 +73,31 @@ pub fn load_listing(to: To, line: &[u8], i: usize, count: usize, manifest: &mut 
         return refuse(to, line, i, count, Form::Listing, number, place, &text[..n]);
     }
     DONE
+}
+
+// Reads the name table that word 3 names, where there is such a word; otherwise there are no names.
+pub fn load_names(to: To, line: &[u8], count: usize, text: &mut [u8], names: &mut [u64]) -> Loaded
+    ensures { λ r. ⌜ Counts (r .bytes) (now (text .exit)) ⌝ }
+{
+    if count < 4 {
+        return Loaded {
+            status: DONE,
+            bytes: 0,
+        };
+    }
+    let loaded = files::load(to.err, line, 3, text);
+    if loaded.status != DONE {
+        return loaded;
+    }
+    let n = loaded.bytes;
+    let reply = name_table::read_names(&text[..n], names);
+    if let Reply::Refused(number, place) = reply {
+        return Loaded {
+            status: refuse(to, line, 3, count, Form::Names, number, place, &text[..n]),
+            bytes: 0,
+        };
+    }
+    loaded
 }
 
 // Writes the listing of a manifest, or of a contribution.

@@ -1,4 +1,4 @@
-// Replays the vectors of data/cases: texts of schemas that are read, with the words that they give.
+// Replays the vectors of data/cases: texts of schemas and name tables that are read, with the words that they give.
 ghost use Prim.Native.Nat.{_≤_};
 ghost use lib.ListN.{length};
 use cases::print;
@@ -17,7 +17,7 @@ fn text_of(line: &[u8], out: &mut [u8]) -> usize
     ensures { λ r. ⌜ r ≤ length (now (out .exit)) ⌝ }
 {
     let to = cases::say_part(out, 0, line, 1);
-    if cases::is_word(line, 0, b"many") {
+    if cases::is_word(line, 0, b"many") || cases::is_word(line, 0, b"manynames") {
         return cases::say_many(out, to, line, 2, 3, 4);
     }
     to
@@ -62,13 +62,34 @@ fn ask_text(line: &[u8]) {
     }
 }
 
+// Reads a name table.
+fn ask_names(line: &[u8]) {
+    let mut text = [0u8; TEXT];
+    let n = text_of(line, &mut text);
+    let mut state = [0u64; name_table::WORDS];
+    let reply = name_table::read_names(&text[..n], &mut state);
+    match reply {
+        Reply::Refused(number, place) => print_refused(number, place),
+        Reply::Done => print_words(&state),
+    }
+}
+
+// Asks what a case asks for.
+fn ask(line: &[u8]) {
+    if cases::is_word(line, 0, b"names") || cases::is_word(line, 0, b"manynames") {
+        ask_names(line);
+        return;
+    }
+    ask_text(line);
+}
+
 // One line of the data file: a comment, or a case and what comes of it.
 fn replay(line: &[u8]) {
     if cases::is_comment(line) {
         return;
     }
     cases::print_case(line);
-    ask_text(line);
+    ask(line);
     print(b"\n");
 }
 

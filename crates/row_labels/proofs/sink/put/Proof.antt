@@ -1,11 +1,11 @@
--- `tree_jobs::sink::put` is safe and ends: there is room from byte to byte, and the bytes left fall.
+-- `row_labels::sink::put` is safe and ends: there is room from byte to byte, and the bytes left fall.
 use Prim.Native.Nat.{_-_, _<_}
 use native.Mathlib.Omega.{arith}
 use mathlib.Core.Path.{_≡_}
 use lib.ListN.{length}
 use borrow.Author.Needs.{needs}
-use Rattle.tree_jobs.proofs.sink.put.Statement.{statement}
-use Rattle.tree_jobs.proofs.sink.put.Tie as tie
+use Rattle.row_labels.proofs.sink.put.Statement.{statement}
+use Rattle.row_labels.proofs.sink.put.Tie as tie
 
 abbrev Inv-loop : tie.InvT-loop
 Inv-loop buffer₀ bytes next₀ i₀ buffer next i = (next .waiting < length buffer) × (length buffer ≡ length buffer₀)

@@ -1,11 +1,11 @@
--- `tree_jobs::drawing::put_rows` is safe and ends: there is room from row to row, and the rows left fall.
+-- `tree_jobs::put_rows` is safe and ends: there is room from row to row, and the rows left fall.
 use Prim.Native.Nat.{_-_, _<_, _≤_}
 use native.Mathlib.Omega.{arith}
 use mathlib.Core.Path.{_≡_}
 use lib.ListN.{length}
 use borrow.Author.Needs.{needs}
-use Rattle.tree_jobs.proofs.drawing.put_rows.Statement.{statement}
-use Rattle.tree_jobs.proofs.drawing.put_rows.Tie as tie
+use Rattle.tree_jobs.proofs.put_rows.Statement.{statement}
+use Rattle.tree_jobs.proofs.put_rows.Tie as tie
 
 abbrev Inv-loop : tie.InvT-loop
 Inv-loop buffer₀ text names rows sofar₀ request₀ i₀ buffer sofar request i = (sofar .waiting < length buffer) × (length buffer ≡ length buffer₀)

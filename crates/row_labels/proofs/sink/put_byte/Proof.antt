@@ -1,9 +1,9 @@
--- `tree_jobs::sink::put_byte` is safe: there is room for the byte, and where there is none for another the buffer is emptied.
+-- `row_labels::sink::put_byte` is safe: there is room for the byte, and where there is none for another the buffer is emptied.
 use native.Mathlib.Omega.{arith}
 use lib.ListN.{length-set}
 use borrow.Author.Needs.{needs}
-use Rattle.tree_jobs.proofs.sink.put_byte.Statement.{statement}
-use Rattle.tree_jobs.proofs.sink.put_byte.Tie as tie
+use Rattle.row_labels.proofs.sink.put_byte.Statement.{statement}
+use Rattle.row_labels.proofs.sink.put_byte.Tie as tie
 
 slice-write-buffer : tie.Need-slice-write-buffer
 slice-write-buffer c = search needs

@@ -1,11 +1,11 @@
--- `tree_jobs::sink::put_text` is safe and ends, as `put` is and does.
+-- `row_labels::sink::put_text` is safe and ends, as `put` is and does.
 use Prim.Native.Nat.{_-_, _<_}
 use native.Mathlib.Omega.{arith}
 use mathlib.Core.Path.{_≡_}
 use lib.ListN.{length}
 use borrow.Author.Needs.{needs}
-use Rattle.tree_jobs.proofs.sink.put_text.Statement.{statement}
-use Rattle.tree_jobs.proofs.sink.put_text.Tie as tie
+use Rattle.row_labels.proofs.sink.put_text.Statement.{statement}
+use Rattle.row_labels.proofs.sink.put_text.Tie as tie
 
 abbrev Inv-loop : tie.InvT-loop
 Inv-loop buffer₀ name next₀ i₀ buffer next i = (next .waiting < length buffer) × (length buffer ≡ length buffer₀)

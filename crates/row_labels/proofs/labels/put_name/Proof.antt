@@ -1,10 +1,10 @@
--- `tree_jobs::labels::put_name` is safe: a name that is found stands in the text.
+-- `row_labels::labels::put_name` is safe: a name that is found stands in the text.
 use Prim.Native.Nat.{_≤_}
 use native.Mathlib.Omega.{arith}
 use lib.ListN.{length}
 use borrow.Author.Needs.{needs}
-use Rattle.tree_jobs.proofs.labels.put_name.Statement.{statement}
-use Rattle.tree_jobs.proofs.labels.put_name.Tie as tie
+use Rattle.row_labels.proofs.labels.put_name.Statement.{statement}
+use Rattle.row_labels.proofs.labels.put_name.Tie as tie
 
 inside : (c : tie.After-put-text-arg) →
     (c .before .before .from .given .0 .0 ≤ c .before .before .from .given .0 .1 .0)

@@ -1,9 +1,9 @@
--- `tree_jobs::sink::flush` is safe: no more is written than waits.
+-- `row_labels::sink::flush` is safe: no more is written than waits.
 use mathlib.Core.Path.{sym}
 use lib.Seq.{length-take-le}
 use borrow.Author.Needs.{needs}
-use Rattle.tree_jobs.proofs.sink.flush.Statement.{statement}
-use Rattle.tree_jobs.proofs.sink.flush.Tie as tie
+use Rattle.row_labels.proofs.sink.flush.Statement.{statement}
+use Rattle.row_labels.proofs.sink.flush.Tie as tie
 
 slice-aggregate-write-more : tie.Need-slice-aggregate-write-more
 slice-aggregate-write-more c = sym (length-take-le _ _ (search needs))

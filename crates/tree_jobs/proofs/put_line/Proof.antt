@@ -1,9 +1,9 @@
--- `tree_jobs::drawing::put_line` is safe: no node is so deep that the spaces do not do.
+-- `tree_jobs::put_line` is safe: no node is so deep that the spaces do not do.
 use mathlib.Core.Path.{sym}
 use lib.Seq.{length-take-le}
 use borrow.Author.Needs.{needs}
-use Rattle.tree_jobs.proofs.drawing.put_line.Statement.{statement}
-use Rattle.tree_jobs.proofs.drawing.put_line.Tie as tie
+use Rattle.tree_jobs.proofs.put_line.Statement.{statement}
+use Rattle.tree_jobs.proofs.put_line.Tie as tie
 
 mul-n : tie.Need-mul-n
 mul-n c = search needs
