@@ -7,7 +7,7 @@ use load_state::LoadReply;
 use values::EntityRequest;
 
 // The one length of a batch's rows.
-const BATCH: usize = 4_096;
+pub const BATCH: usize = 4_096;
 
 // A batch: what its call answers, and how many rows it has, in front of the others.
 pub struct Batch {

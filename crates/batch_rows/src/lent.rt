@@ -4,6 +4,7 @@ ghost use mathlib.Core.Path.{_≡_};
 ghost use Prim.Native.Nat.{_≤_};
 ghost use lib.ListN.{length, take};
 ghost use Rattle.batch_rows.specs.Rows.{begins, batchRowsIn, RowsAs};
+use crate::handing::BATCH;
 use crate::handing::Batch;
 use crate::handing::hand_out;
 use load_state::LoadReply;
@@ -30,4 +31,18 @@ pub fn load_batch_rows(state: &mut [u64], out: &mut [EntityRequest]) -> LoadRepl
 {
     let batch = hand_out(state, out.len());
     lend_rows(batch, out)
+}
+
+// A batch's reply, and an array that begins with its rows.
+pub struct AskedRows {
+    pub reply: LoadReply,
+    pub rows: [EntityRequest; BATCH],
+}
+
+// The same in an array: it is lent for the call, and given back.
+pub fn ask_rows(state: &mut [u64], mut rows: [EntityRequest; BATCH]) -> AskedRows
+    ensures { λ r. ⌜ RowsAs (batchRowsIn (now (state .entry)) rows) (r .reply) (now (state .exit)) (r .rows) ⌝ }
+{
+    let reply = load_batch_rows(state, &mut rows);
+    AskedRows { reply, rows }
 }

@@ -2,4 +2,6 @@
 mod handing;
 mod lent;
 
+pub use lent::AskedRows;
+pub use lent::ask_rows;
 pub use lent::load_batch_rows;

@@ -3,6 +3,7 @@
 ghost use mathlib.Core.Path.{_≡_};
 ghost use Prim.Native.Nat.{_+_, _≤_, _<_};
 ghost use lib.ListN.{length};
+use load_log::BATCH;
 use load_log::RequestPlace;
 use load_log::count_of;
 use store_text::Put;
@@ -85,8 +86,14 @@ fn behind(put: Put, out: &mut [u64], at: usize) -> usize
     next
 }
 
-// Puts a store's answer to a row, or nothing where enough was said.
-fn answer_row(store: &[u64], row: u64, is_full: bool, answers: &mut [u64], at: usize) -> usize
+// Puts a store's answer to a row, whose entity is below 65,536, or nothing where enough was said.
+fn answer_row(
+    store: &[u64],
+    row: EntityRequest,
+    is_full: bool,
+    answers: &mut [u64],
+    at: usize,
+) -> usize
     requires { ⌜ (length (now store) ≡ 16385) × (at ≤ length (now answers)) ⌝ }
     ensures { λ r. ⌜ r ≤ length (now (answers .exit)) ⌝ }
 {
@@ -94,18 +101,24 @@ fn answer_row(store: &[u64], row: u64, is_full: bool, answers: &mut [u64], at: u
         return put_nothing(answers, at);
     }
     let end = lines_end(store);
-    let asked = EntityRequest::of(row);
-    let put = store_text::answer_row(&store[1..end], asked.id, answers, at);
+    let id = row.id % 0x1_0000;
+    let put = store_text::answer_row(&store[1..end], id, answers, at);
     behind(put, answers, at)
 }
 
 // Answers the rows of a batch, before which `first` were asked for, behind their count.
-pub fn answer_rows(stores: &[u64], first: u64, rows: &[u64], answers: &mut [u64])
-    requires { ⌜ (length (now stores) ≡ 131081) × (1 ≤ length (now answers)) ⌝ }
+pub fn answer_rows(
+    stores: &[u64],
+    first: u64,
+    rows: [EntityRequest; BATCH],
+    count: usize,
+    answers: &mut [u64],
+)
+    requires { ⌜ (length (now stores) ≡ 131081) × (count ≤ 4096) × (1 ≤ length (now answers)) ⌝ }
 {
     let mut at = 1;
     let mut i = 0;
-    while i < rows.len() {
+    while i < count {
         let from = start_of(turn_of(stores, first, i as u64));
         let end = from + STORE;
         let is_full = is_enough(i, at);

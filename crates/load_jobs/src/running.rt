@@ -6,21 +6,22 @@ use crate::telling::Ran;
 use crate::telling::called;
 use crate::telling::wrote;
 use crate::texts::Asked;
+use batch_rows::ask_rows;
+use entity_manifest::EntityRequest;
 use entity_manifest::LoadReply;
 use files::REFUSED;
 use files::To;
 use load_answers::answer_requests;
 use load_answers::answer_rows;
 use load_answers::turn_of;
+use load_log::BATCH;
 use load_log::write_batch;
 use load_log::write_line;
 use load_log::write_requests;
 use load_log::write_slice;
 
-// The words of a load's state, of a batch, of answers, of ancestors requests and of a slice.
+// The words of a load's state, of answers, of ancestors requests and of a slice.
 const STATE: usize = 36_874;
-
-const ROWS: usize = 4_096;
 
 const ANSWERS: usize = 24_577;
 
@@ -47,12 +48,18 @@ fn word_of(reply: LoadReply, stores: &[u64], first: u64) -> usize
 }
 
 // Has the rows of a batch answered by the stores, and takes the answers.
-fn answer_batch(stores: &[u64], first: u64, rows: &[u64], state: &mut [u64]) -> Ran
-    requires { ⌜ length (now stores) ≡ 131081 ⌝ }
+fn answer_batch(
+    stores: &[u64],
+    first: u64,
+    rows: [EntityRequest; BATCH],
+    count: usize,
+    state: &mut [u64],
+) -> Ran
+    requires { ⌜ (length (now stores) ≡ 131081) × (count ≤ 4096) ⌝ }
 {
     let mut answers = [0u64; ANSWERS];
-    answers[0] = rows.len() as u64;
-    answer_rows(stores, first, rows, &mut answers);
+    answers[0] = count as u64;
+    answer_rows(stores, first, rows, count, &mut answers);
     let reply = entity_manifest::load_answer(state, &answers);
     called(word_of(reply, stores, first), reply)
 }
@@ -61,8 +68,10 @@ fn answer_batch(stores: &[u64], first: u64, rows: &[u64], state: &mut [u64]) -> 
 fn run_batch(to: To, number: u64, stores: &[u64], state: &mut [u64]) -> Ran
     requires { ⌜ length (now stores) ≡ 131081 ⌝ }
 {
-    let mut rows = [0u64; ROWS];
-    let reply = entity_manifest::load_batch(state, &mut rows);
+    let blank = EntityRequest { id: 0, node: 0 };
+    let batch = ask_rows(state, [blank; BATCH]);
+    let reply = batch.reply;
+    let rows = batch.rows;
     let LoadReply::Done(count, _, asked) = reply else {
         return Ran::Refused(FIRST_STORE, false, reply);
     };
@@ -70,12 +79,12 @@ fn run_batch(to: To, number: u64, stores: &[u64], state: &mut [u64]) -> Ran
         return Ran::Ended(REFUSED);
     }
     let end = count as usize;
-    let ran = wrote(write_batch(to, number, &rows[..end]));
+    let ran = wrote(write_batch(to, number, rows, end));
     let Ran::Done = ran else {
         return ran;
     };
     let first = std::num::wrapping_sub_u64(asked, count);
-    answer_batch(stores, first, &rows[..end], state)
+    answer_batch(stores, first, rows, end, state)
 }
 
 // Runs batches as long as one waits.

@@ -8,5 +8,6 @@ pub use crate::line::write_line;
 pub use crate::requests::RequestPlace;
 pub use crate::requests::count_of;
 pub use crate::requests::write_requests;
+pub use crate::rows::BATCH;
 pub use crate::rows::write_batch;
 pub use crate::slice::write_slice;

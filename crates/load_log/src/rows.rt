@@ -1,4 +1,5 @@
-// Words of which each is a line: the rows of a batch, the parents of an entity, the rows of a value.
+// What is a line each: the rows of a batch; in words, the parents of an entity and the rows of a value.
+ghost use Prim.Native.Nat.{_≤_};
 use crate::line::write_line;
 use crate::line::write_value_row;
 use files::DONE;
@@ -6,9 +7,11 @@ use files::To;
 use values::EntityRequest;
 use values::ValueRow;
 
+// How many rows a batch may have.
+pub const BATCH: usize = 4_096;
+
 // What each word is.
 pub enum Each {
-    Asked,
     Parent,
     Value,
 }
@@ -16,10 +19,6 @@ pub enum Each {
 // Writes a word.
 fn write_word(to: To, each: Each, word: u64) -> u64 {
     match each {
-        Each::Asked => {
-            let asked = EntityRequest::of(word);
-            write_line(to, b'Q', &[asked.id, asked.node])
-        }
         Each::Parent => write_line(to, b'P', &[word]),
         Each::Value => write_value_row(to, ValueRow { word }),
     }
@@ -38,11 +37,29 @@ pub fn write_words(to: To, each: Each, words: &[u64]) -> u64 {
     DONE
 }
 
-// Writes a batch: its number, how many rows it has, and each row's entity and node.
-pub fn write_batch(to: To, number: u64, rows: &[u64]) -> u64 {
-    let begun = write_line(to, b'B', &[number, rows.len() as u64]);
+// Writes the first rows of an array, each row's entity and node.
+fn write_rows(to: To, rows: [EntityRequest; BATCH], count: usize) -> u64
+    requires { ⌜ count ≤ 4096 ⌝ }
+{
+    let mut i = 0;
+    while i < count {
+        let row = rows[i];
+        let status = write_line(to, b'Q', &[row.id, row.node]);
+        if status != DONE {
+            return status;
+        }
+        i += 1;
+    }
+    DONE
+}
+
+// Writes a batch: its number, how many rows it has, and the rows.
+pub fn write_batch(to: To, number: u64, rows: [EntityRequest; BATCH], count: usize) -> u64
+    requires { ⌜ count ≤ 4096 ⌝ }
+{
+    let begun = write_line(to, b'B', &[number, count as u64]);
     if begun != DONE {
         return begun;
     }
-    write_words(to, Each::Asked, rows)
+    write_rows(to, rows, count)
 }

@@ -7,10 +7,10 @@ use Rattle.load_answers.proofs.answer_rows.Statement.{statement}
 use Rattle.load_answers.proofs.answer_rows.Tie as tie
 
 abbrev Inv-loop : tie.InvT-loop
-Inv-loop stores first rows answers₀ at₀ i₀ answers at i = (i ≤ length rows) × ((at ≤ length answers) × (length answers ≡ length answers₀))
+Inv-loop stores first count answers₀ rows at₀ i₀ answers at i = (i ≤ count) × ((at ≤ length answers) × (length answers ≡ length answers₀))
 
 abbrev μ-loop : tie.MeasureT-loop
-μ-loop stores first rows answers₀ at₀ i₀ answers at i = length rows - i
+μ-loop stores first count answers₀ rows at₀ i₀ answers at i = count - i
 
 loop-holds : tie.Need-loop-holds Inv-loop μ-loop
 loop-holds c = search needs
@@ -42,8 +42,8 @@ part-answer-row-end c = search needs
 mul-answer-row-2 : tie.Need-mul-answer-row-2 Inv-loop μ-loop
 mul-answer-row-2 c = search needs
 
-shared-slice-read-answer-row : tie.Need-shared-slice-read-answer-row Inv-loop μ-loop
-shared-slice-read-answer-row c = search needs
+array-copy-out-answer-row : tie.Need-array-copy-out-answer-row Inv-loop μ-loop
+array-copy-out-answer-row c = search needs
 
 answer-row-requires : tie.Need-answer-row-requires Inv-loop μ-loop
 answer-row-requires c κs = search needs
@@ -79,7 +79,7 @@ answer-rows-spec =
     part-answer-row-start
     part-answer-row-end
     mul-answer-row-2
-    shared-slice-read-answer-row
+    array-copy-out-answer-row
     answer-row-requires
     add-i
     loop-less

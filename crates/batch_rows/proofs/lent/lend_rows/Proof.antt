@@ -60,6 +60,7 @@ use Rattle.load_state.proofs.LoadReply.Laws as L′
 use Rattle.batch_rows.specs.declared.handing.Batch.{Batch}
 use Rattle.batch_rows.specs.Rows.{begins}
 use Rattle.batch_rows.specs.RowLaws.{copy-next, copy-begins}
+use Rattle.batch_rows.proofs.Arrays.{R, array, array-is, row-makes, opens-array, shuts-array}
 use Rattle.batch_rows.proofs.handing.Batch as B
 use Rattle.batch_rows.proofs.handing.Batch.Laws as B′
 use Rattle.batch_rows.proofs.lent.lend_rows.Key.{name as #lend-rows}
@@ -67,10 +68,6 @@ use Rattle.batch_rows.proofs.lent.lend_rows as lend-rows
 use Rattle.batch_rows.proofs.lent.lend_rows.Statement as stated
 use Rattle.batch_rows.proofs.lent.lend_rows.Code as code
 use Rattle.batch_rows.proofs.lent.lend_rows.Code.Mir as body
-
--- the type of a row
-abbrev R : RattleType
-R = E.the-row
 
 abbrev blank : EntityRequest
 blank = record { id = 0; node = 0 }
@@ -84,9 +81,6 @@ word = tyInt w64
 
 abbrev slice : Ty
 slice = sliceTy (tyRef (named 0) mut (pointee (R .written)))
-
-abbrev array : Ty
-array = tyArray E′.mir 4096
 
 -- the function, with its locals' types by their names
 abbrev written : Fn
@@ -115,33 +109,6 @@ behind (call f xs d) = skip
 
 abbrev copies : Body
 copies = behind (behind body.turn-1)
-
--- ---- the rows of an array, by the struct in place of its fields
-rows-are : (rows : List EntityRequest) (us : List Val) → shadow (each (E.the-field .row .Denot) (E.the-field .row .own) (map (E.the-field .into) rows) us) → shadow (each EntityRequest (R .own) rows us)
-rows-are [] [] are = are
-rows-are [] (u ∷ us) are = are
-rows-are (x ∷ rows) [] are = are
-rows-are (x ∷ rows) (u ∷ us) are = (are .0, rows-are rows us (are .1))
-
-array-is : (rows : List EntityRequest) (vs : List Val) → Is (Array (E.the-field .row) 4096) (map (E.the-field .into) rows) vs → Is (Array R 4096) rows vs
-array-is rows vs is = (is .0, ((is .1 .0 .0, sym (length-map rows (E.the-field .into)) ∙ is .1 .0 .1), rows-are rows (is .0) (is .1 .1)))
-
-module _ {M : Type 1} (𝓤 : URA M) (H : Heap 𝓤) (A : Atoms 𝓤) (W : Given 𝓤 H A) where
-  row-makes : Makes 𝓤 H A R (Is R)
-  row-makes = LL.makes E.the-type E′.the-plain 𝓤 H A
-
-  -- a local array is its rows, side by side, and back
-  opens-array : (rows : List EntityRequest) (v : Val) (l : ℕ) → Is (Array R 4096) rows (v ∷ []) → ent 𝓤 (sem 𝓤 H A (fat fullShare array l 0 v)) (sem 𝓤 H A (row R fullShare rows l 0))
-  opens-array rows v l is =
-      qed W (‵ (fat fullShare array l 0 v) ∷ []) ∵ owned ! (Array R 4096) (Is (Array R 4096)) (array-makes 𝓤 H A W R row-makes 4096) rows (v ∷ []) is $ move ! (1 ∷ 0 ∷ []) $
-      use2 W (‵ (partAt (Array R 4096) fullShare rows l 0)) (part-in 𝓤 H A W (Array R 4096) refl fullShare rows l 0 v) $
-      use1 W (‵ (arr-parts (shares R) 4096 .part fullShare rows l 0)) (array-apart 𝓤 H A W R fullShare tt 4096 rows l 0) $ fsplit ! $ drop ! $ done !
-
-  shuts-array : (rows : List EntityRequest) (l : ℕ) → length rows ≡ 4096 → ent 𝓤 (sem 𝓤 H A (row R fullShare rows l 0)) (sem 𝓤 H A (froom array l 0))
-  shuts-array rows l all =
-      qed W (‵ (row R fullShare rows l 0) ∷ []) ∵ feqI ! ℕ (length rows) 4096 all $ fjoin ! $
-      use1 W (‵ (partAt (Array R 4096) fullShare rows l 0)) (array-whole 𝓤 H A W R fullShare 4096 rows l 0) $
-      use1 W (some (λ (v : Val). ‵ (fat fullShare array l 0 v) ⊛ ‵ (Array R 4096 .own rows (v ∷ [])))) (part-out 𝓤 H A W (Array R 4096) refl fullShare rows l 0) $ pick ! (λ v. split ! $ forget ! 0 refl $ move ! (1 ∷ []) $ drop ! $ done !)
 
 module _ {M : Type 1} (𝓤 : URA M) (H : Heap 𝓤) (A : Atoms 𝓤) (W : Given 𝓤 H A) (at-mem : Memory → SProp 𝓤) (run : Routine → Fun 𝓤) (κ : Lft) (q : Share) (batch : Batch) (b o : ℕ) (γ : GName) (ys : List EntityRequest)
     (is-batch : Is B.the-row batch (LL.vals B.the-type B′.the-laws batch)) (room : Room R (length ys)) (some-rows : batch .count ≤ length (batch .rows)) (fits-out : batch .count ≤ length ys) where
