@@ -53,12 +53,12 @@ module _ (request : Request) (nodes : List Row) (slice : List Loaded) (asked : L
   requestsFrom i = ancestorsRequests request nodes slice i (rowsAsked (drop i asked))
 
   -- The requests of the rows up to a place are done, with these ids.
-  pub record Judging (i : ℕ) : Type 0 where
+  pub record RequestsJudged (i : ℕ) : Type 0 where
     pub front : List (List ℕ)
     pub as-many : length front ≡ i
     pub sofar : requestsFrom 0 ≡ requestsFrom i then (λ more. done (front ++ more))
 
-  pub judging-none : Judging 0
+  pub judging-none : RequestsJudged 0
   judging-none = record { front = []; as-many = refl; sofar = go (requestsFrom 0) }
     where
       go : (o : LoadAnswer (List (List ℕ))) → o ≡ o then (λ more. done ([] ++ more))
@@ -66,7 +66,7 @@ module _ (request : Request) (nodes : List Row) (slice : List Loaded) (asked : L
       go (refusedAt m n) = refl
       go (counted m n) = refl
 
-  module _ {i : ℕ} (judging : Judging i) where
+  module _ {i : ℕ} (judging : RequestsJudged i) where
     -- no row is left
     pub judged-lists : length asked ≤ i → requestsFrom 0 ≡ done (judging .front)
     unfolding ancestorsRequests
@@ -97,7 +97,7 @@ module _ (request : Request) (nodes : List Row) (slice : List Loaded) (asked : L
 
       -- it is done
       pub judging-next :
-          {wanted : List ℕ} → ancestorsRequest request nodes slice i (rowAsked (getD asked i 0)) ≡ done wanted → Judging (i + 1)
+          {wanted : List ℕ} → ancestorsRequest request nodes slice i (rowAsked (getD asked i 0)) ≡ done wanted → RequestsJudged (i + 1)
       judging-next {wanted} e = record {
         front = judging .front ++ (wanted ∷ []);
         as-many = omega (arith, length-append (judging .front) (wanted ∷ []), judging .as-many);
@@ -113,7 +113,7 @@ module _ (request : Request) (nodes : List Row) (slice : List Loaded) (asked : L
           go (counted m n) = refl
 
       -- its node has no ancestors trie
-      pub judging-empty : rootsBelow (drop (rowAsked (getD asked i 0) .node) nodes) ≡ false → Judging (i + 1)
+      pub judging-empty : rootsBelow (drop (rowAsked (getD asked i 0) .node) nodes) ≡ false → RequestsJudged (i + 1)
       judging-empty none = judging-next (none-asked request nodes slice i (rowAsked (getD asked i 0)) none)
 
 -- ---- as words
@@ -182,7 +182,7 @@ module _ (request : Request) (nodes : List Row) (slice : List Loaded) (asked : L
 
   -- The requests of the rows up to a place are written: their heads, and behind all heads their ids.
   pub record Writing (out₀ out : List ℕ) (at i : ℕ) : Type 0 where
-    pub judging : Judging request nodes slice asked i
+    pub judging : RequestsJudged request nodes slice asked i
     pub within : i ≤ length asked
     pub after : at ≡ length asked + 1 + length (flatten (judging .front))
     pub text : out ≡ sets (sets out₀ 1 (heads (rowsAsked (take i asked)) (judging .front))) (length asked + 1) (flatten (judging .front))
@@ -192,7 +192,7 @@ module _ (request : Request) (nodes : List Row) (slice : List Loaded) (asked : L
   writing-none out = record { judging = judging-none request nodes slice asked; within = omega arith; after = omega arith; text = refl }
 
   -- what is done begins with what was done so far
-  front-of : {i : ℕ} (judging : Judging request nodes slice asked i) (lists : List (List ℕ)) → whole ≡ done lists →
+  front-of : {i : ℕ} (judging : RequestsJudged request nodes slice asked i) (lists : List (List ℕ)) → whole ≡ done lists →
       (more : List (List ℕ)) × (lists ≡ judging .front ++ more)
   front-of {i} judging lists is = go (requestsFrom request nodes slice asked i) (sym is ∙ judging .sofar)
     where
@@ -244,7 +244,7 @@ module _ (request : Request) (nodes : List Row) (slice : List Loaded) (asked : L
               omega arith)
 
       module _ {wanted : List ℕ} (is : ancestorsRequest request nodes slice i (rowAsked (getD asked i 0)) ≡ done wanted) where
-        next : Judging request nodes slice asked (i + 1)
+        next : RequestsJudged request nodes slice asked (i + 1)
         next = judging-next request nodes slice asked (writing .judging) inside is
 
         next-front : next .front ≡ front ++ (wanted ∷ [])

@@ -31,15 +31,15 @@ abbrev pub answerAt : ℕ → AncestorSet → List ℕ → Next → LoadAnswer W
 answerAt place set out (To len) = done (wantedIn set out len)
 answerAt place set out (Refused number) = refusedAt number place
 
-abbrev pub Within : ℕ → Next → Type 0
-Within room (To len) = len ≤ room
-Within room (Refused number) = Unit
+abbrev pub RoomKept : ℕ → Next → Type 0
+RoomKept room (To len) = len ≤ room
+RoomKept room (Refused number) = Unit
 
 -- What is taken at any place is answered, and what is wanted then stands in the set and in the run.
 pub record Takes (answer : ℕ → LoadAnswer Wanted) (out : List ℕ) (r : Taken) : Type 0 where
   pub answers : (place : ℕ) → answer place ≡ answerAt place (r .set) out (r .next)
   pub is-set : IsSet (r .set)
-  pub within : Within (length out) (r .next)
+  pub within : RoomKept (length out) (r .next)
 
 -- the ids that a request asks for, or a refusal
 abbrev pub idsAsked : ℕ → AncestorSet → Next → LoadAnswer (List ℕ)

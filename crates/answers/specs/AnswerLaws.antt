@@ -259,7 +259,7 @@ pub passed-none : (lent : Lending) (words : List ℕ) (count : ℕ) → AllRead 
 passed-none lent words count h = record { few = omega arith; fine = rw sub-zero h; items = rw sub-zero }
 
 -- the next of them, with its head, and those behind it
-pub record Next (lent : Lending) (words : List ℕ) (count k at : ℕ) : Type 0 where
+pub record NextItem (lent : Lending) (words : List ℕ) (count k at : ℕ) : Type 0 where
   pub item : ItemOf lent
   pub stands : StandsAt lent words at item
   pub inside : at < length words
@@ -269,12 +269,12 @@ pub record Next (lent : Lending) (words : List ℕ) (count k at : ℕ) : Type 0 
   pub passed : PassedTo lent words count (k + 1) (at + (1 + wordsBehind lent (getD words at 0)))
 
 module _ (lent : Lending) (words : List ℕ) (count k at : ℕ) (passed : PassedTo lent words count k at) where
-  pub passed-next : k < count → Next lent words count k at
+  pub passed-next : k < count → NextItem lent words count k at
   passed-next more =
       let left : count - k ≡ suc (count - (k + 1)) = omega arith in
       onward left (ahead (itemAt lent) k (count - (k + 1)) (drop at words) (rw left at (passed .fine)))
     where
-      onward : count - k ≡ suc (count - (k + 1)) → Ahead (itemAt lent) k (count - (k + 1)) (drop at words) → Next lent words count k at
+      onward : count - k ≡ suc (count - (k + 1)) → Ahead (itemAt lent) k (count - (k + 1)) (drop at words) → NextItem lent words count k at
       onward left found =
           let all = lentItems lent count words in
           let next = found .next in
@@ -396,7 +396,7 @@ module _ {lent : Lending} {words : List ℕ} {count sum k at total : ℕ} (sofar
   unfolding summed
   sum-all h = sofar .left ∙ rw (passed-all lent words count k at (sofar .passed) h)
 
-  module _ (next : Next lent words count k at) where
+  module _ (next : NextItem lent words count k at) where
     -- the next passes the limit, or does not
     pub sum-over :
         8192 < total + wordsBehind lent (getD words at 0)
@@ -436,7 +436,7 @@ module _
     pub places-next :
         to + count ≤ length places
         → k < count
-        → (next : Next lent words count k at)
+        → (next : NextItem lent words count k at)
         → PlacesTo lent words count to places (k + 1) (at + (1 + wordsBehind lent (getD words at 0))) (set stored (to + k) at)
     places-next room more next = record {
       passed = next .passed;

@@ -465,7 +465,7 @@ noted-many {places} {more} {places′} {n} {n′} inside noted =
     omega (arith, length-take-le n′ places′ (noted .in-places), ap length (noted .there), length-append (take n places) more, length-take-le n places inside)
 
 -- the pairs so far, and the types that wait for what is ahead
-pub record Waits (words rest : List ℕ) (items : List Item) (paths : Paths) (t at : ℕ) (waiting pairs : List ℕ) (from left count : ℕ) : Type 0 where
+pub record TypesWait (words rest : List ℕ) (items : List Item) (paths : Paths) (t at : ℕ) (waiting pairs : List ℕ) (from left count : ℕ) : Type 0 where
   pub qs : List Paths
   pub ts : List ℕ
   pub ahead : Ahead words rest qs from left
@@ -487,7 +487,7 @@ pub record Walking (words : List ℕ) (items : List Item) (t at : ℕ) (waiting 
       (paths : Paths) (rest : List ℕ)
       → drop at words ≡ code paths ++ rest
       → AllPaths (pathsIn paths)
-      → Waits words rest items paths t at waiting pairs from left count
+      → TypesWait words rest items paths t at waiting pairs from left count
 
 pub walking-first :
     (words schema pairs : List ℕ) {table : List ℕ} {t : ℕ} (at : ℕ)
@@ -523,7 +523,7 @@ module _
     {t at : ℕ}
     {waiting pairs : List ℕ}
     {from left count : ℕ}
-    (w : Waits words rest items paths t at waiting pairs from left count)
+    (w : TypesWait words rest items paths t at waiting pairs from left count)
   where
     -- none is left
     pub waits-done : left ≤ 0 → RequiredBy words items paths t at pairs (Next from count)
@@ -637,7 +637,7 @@ module _
         pub waits-on : from < end
         waits-on = omega (arith, past, nodes-words (next-paths .0), nodes-turn (next-paths .0))
 
-        pub waits-passed : getD waiting (left - 1) 0 ≡ passedOver → Waits words rest items paths t at waiting pairs end (left - 1) count
+        pub waits-passed : getD waiting (left - 1) 0 ≡ passedOver → TypesWait words rest items paths t at waiting pairs end (left - 1) count
         unfolding codes pathsInAll Each
         waits-passed over = record {
           qs = next-paths .1;
@@ -718,7 +718,7 @@ module _
                   ∙ map-append (takenAt words) (take count pairs) (pairsFor (headFor (next-paths .0)) from (next-type .0))
                   ∙ rw (own-taken (next-type .0) (typesIn items) (omega (arith, typed .known, typed .few)) (typed .known) (next-paths .0) (good-here .0) here)
 
-              pub waits-next : Waits words rest items paths t at waiting′ pairs′ (from + (1 + sizeOf h)) more count′
+              pub waits-next : TypesWait words rest items paths t at waiting′ pairs′ (from + (1 + sizeOf h)) more count′
               unfolding Each
               waits-next = record {
                 qs = unwrapped (next-paths .0) ++ next-paths .1;

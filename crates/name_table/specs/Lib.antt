@@ -1,6 +1,4 @@
 -- The name table as a definition, a line of it as a word, and what reading it and finding a name answer and leave.
-pub mod Names
-pub mod NameExamples
 pub mod Words
 pub mod Lines
 pub mod Outcomes

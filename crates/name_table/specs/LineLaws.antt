@@ -9,7 +9,7 @@ use lib.ListN.{length, take, drop, length-drop}
 use lib.Seq.{length-take-le}
 use Rattle.rules.specs.Text.{fieldsOf}
 use Rattle.text.proofs.FieldLaws.{Ends}
-use Rattle.name_table.specs.Names.{keyFrom, namedOf}
+use Rattle.rules.specs.Names.{keyFrom, namedOf}
 use Rattle.name_table.specs.Lines.{NameParsed}
 use Rattle.name_table.specs.NameLaws.{key-parts}
 

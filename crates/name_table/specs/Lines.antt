@@ -5,7 +5,7 @@ use mathlib.Core.Option.{Option, none, some}
 use mathlib.Core.Path.{_≡_}
 use lib.ListN.{length}
 use Rattle.rules.specs.Text.{fieldsOf}
-use Rattle.name_table.specs.Names.{named, namedOf}
+use Rattle.rules.specs.Names.{named, namedOf}
 use Rattle.name_table.specs.declared.line.NameKind.{NameKind}
 use Rattle.name_table.specs.declared.line.NameKind.the-variants.{Of as OfKind, Other}
 use Rattle.name_table.specs.declared.line.Key.{Key}

@@ -16,7 +16,7 @@ use Rattle.rules.specs.Tries.{stepOf, sameList}
 use Rattle.rules.specs.PlaceLaws.{same-list}
 use Rattle.rules.specs.Listing.{placeIn}
 use Rattle.rules.specs.ListingLaws.{bind-some, place-read}
-use Rattle.name_table.specs.Names.{Named, nameKinds, nameIn, isNameByte, allNameBytes, isName, keyFrom, sameName, isTaken}
+use Rattle.rules.specs.Names.{Named, nameKinds, nameIn, isNameByte, allNameBytes, isName, keyFrom, sameName, isTaken}
 use Rattle.name_table.specs.Words.{nameWord, namedIn}
 
 -- ---- names

@@ -12,7 +12,7 @@ use Rattle.words.specs.Runs.{Outcome, refusing, stored, wordsIn}
 use Rattle.words.specs.declared.Reply.the-variants.{Done}
 use Rattle.words.specs.declared.Search.{Search}
 use Rattle.words.specs.declared.Search.the-variants.{Found as FoundAt, Missing as MissingAt}
-use Rattle.name_table.specs.Names.{Named, Naming, naming, readNames}
+use Rattle.rules.specs.Names.{Named, Naming, naming, readNames}
 use Rattle.name_table.specs.Words.{nameWord, namedIn}
 use Rattle.name_table.specs.declared.reading.Took.{Took}
 use Rattle.name_table.specs.declared.reading.Took.the-variants.{Name, Refused as Stopped}

@@ -24,7 +24,7 @@ use Rattle.words.specs.RunLaws.{stored-next}
 use Rattle.words.specs.declared.Reply.the-variants.{Done}
 use Rattle.words.specs.declared.Search.{Search}
 use Rattle.words.specs.declared.Search.the-variants.{Found as FoundAt, Missing as MissingAt}
-use Rattle.name_table.specs.Names.{Named, named, Naming, naming, namedOf, isTaken, nameTaken, nameLine, readNames}
+use Rattle.rules.specs.Names.{Named, named, Naming, naming, namedOf, isTaken, nameTaken, nameLine, readNames}
 use Rattle.name_table.specs.Words.{nameWord, namedIn}
 use Rattle.name_table.specs.Lines.{NameParsed}
 use Rattle.name_table.specs.Outcomes.{tookNaming, namesGot, readNamesIn, placeOf, nameFound}
@@ -80,15 +80,15 @@ module _ (text : List ℕ) (at end least : ℕ) (names : List Named) (behind : a
 -- ---- reading from line to line
 
 -- the lines that were passed came to the names whose words are stored
-pub record Reading (text words : List ℕ) (least count at : ℕ) : Type 0 where
+pub record NamesReading (text words : List ℕ) (least count at : ℕ) : Type 0 where
   pub words-length : length words ≡ 10923
   pub room : 6 * count ≤ at
   pub came : CameTo (nameLine text) (naming 0 0 []) text at count (naming at least (map namedIn (stored count words)))
 
-pub reading-none : (text words : List ℕ) → length words ≡ 10923 → Reading text words 0 0 0
+pub reading-none : (text words : List ℕ) → length words ≡ 10923 → NamesReading text words 0 0 0
 reading-none text words w = record { words-length = w; room = omega arith; came = came-start (nameLine text) (naming 0 0 []) text }
 
-module _ {text words : List ℕ} {least count at : ℕ} (reading : Reading text words least count at) where
+module _ {text words : List ℕ} {least count at : ℕ} (reading : NamesReading text words least count at) where
   -- what the text gives, by what its lines come to
   given : {answer : Answer (Folded Naming)} → foldLines (nameLine text) 0 (linesOf (drop 0 text)) (naming 0 0 []) ≡ answer →
       readNames text ≡ andThen answer (λ all. accepted (all .state .names))
@@ -111,7 +111,7 @@ module _ {text words : List ℕ} {least count at : ℕ} (reading : Reading text 
     reading-stopped not-taken = sym (given (came-refused (reading .came) (whole-line text at end r ensured e) (rw (sym not-taken))))
 
     pub reading-next : (word : ℕ) → length text ≤ 65536 → at + 5 ≤ end → tookNaming end (map namedIn (stored count words)) (Name word) ≡ next →
-        Reading text (set words (count + 1) word) (namedIn word .key + 1) (count + 1) (end + 1)
+        NamesReading text (set words (count + 1) word) (namedIn word .key + 1) (count + 1) (end + 1)
     reading-next word short long taken =
         let to = whole-line text at end r ensured e in
         let more : map namedIn (stored (count + 1) (set words (count + 1) word)) ≡ map namedIn (stored count words) ++ (namedIn word ∷ []) =

@@ -1,7 +1,7 @@
 -- docs/FORMS.md, 'Words': a line of a name table as one word.
 use Prim.Native.Nat.{ℕ, _+_, _*_, _/_, _%_, _^_}
 use Rattle.words.specs.Keys.{keyIn}
-use Rattle.name_table.specs.Names.{Named, named}
+use Rattle.rules.specs.Names.{Named, named}
 
 abbrev pub nameWord : Named → ℕ
 nameWord n = n .from + n .size * 2 ^ 16 + n .key * 2 ^ 40

@@ -1,7 +1,7 @@
 // A line of a name table: its key, a kind and an id as one number, and its name.
 ghost use mathlib.Core.Path.{_≡_};
 ghost use Rattle.rules.specs.Listing.{placeIn};
-ghost use Rattle.name_table.specs.Names.{nameKinds, isNameByte, isName, keyFrom};
+ghost use Rattle.rules.specs.Names.{nameKinds, isNameByte, isName, keyFrom};
 ghost use Rattle.name_table.specs.Lines.{kindRead, keyRead, LineParsed};
 use text::Decimal;
 use text::Field;

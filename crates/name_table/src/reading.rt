@@ -3,7 +3,7 @@ ghost use mathlib.Core.Path.{_≡_};
 ghost use mathlib.Core.List.{map};
 ghost use Prim.Native.Nat.{_-_, _≤_, _<_};
 ghost use lib.ListN.{length, take, drop};
-ghost use Rattle.name_table.specs.Names.{naming, nameTaken, sameName, isTaken, readNames};
+ghost use Rattle.rules.specs.Names.{naming, nameTaken, sameName, isTaken, readNames};
 ghost use Rattle.name_table.specs.Words.{namedIn};
 ghost use Rattle.name_table.specs.Outcomes.{tookNaming, Long, namesGot, lineCount, readNamesIn};
 use crate::line::ParsedName;

@@ -520,15 +520,15 @@ module _ (code : List ℕ) (at : ℕ) (h : at + 1 + getD code at 0 / 64 ≤ leng
   path-later i past less = rooted-later (getD code at 0 / 8 % 8) ids i past ∙ ids-there i less
 
 -- the first i steps of a path are read
-pub record Reading (path out : List ℕ) (i : ℕ) : Type 0 where
+pub record PathReading (path out : List ℕ) (i : ℕ) : Type 0 where
   pub so-many : i ≤ length path
   pub there : take i out ≡ take i path
 
-pub reading-first : (path out : List ℕ) → Reading path out 0
+pub reading-first : (path out : List ℕ) → PathReading path out 0
 reading-first path out = record { so-many = omega arith; there = refl }
 
-module _ {path out : List ℕ} {i : ℕ} (reading : Reading path out i) where
-  pub reading-next : {step : ℕ} → i < length path → i < length out → getD path i 0 ≡ step → Reading path (set out i step) (i + 1)
+module _ {path out : List ℕ} {i : ℕ} (reading : PathReading path out i) where
+  pub reading-next : {step : ℕ} → i < length path → i < length out → getD path i 0 ≡ step → PathReading path (set out i step) (i + 1)
   reading-next {step} more room e = record {
     so-many = omega arith;
     there = rw (add-one, take-suc-set out i step room, take-suc path i 0 more, reading .there, e);
@@ -599,11 +599,11 @@ module _ {code places below : List ℕ} {mark : Bool} {start trie : List ℕ} {i
 -- ---- how deep and how long paths are
 
 -- what is left to be looked at
-pub record Looking (code places : List ℕ) (below i : ℕ) : Type 0 where
+pub record DepthsPassed (code places : List ℕ) (below i : ℕ) : Type 0 where
   pub within : AllWithin code (drop i places)
   pub left : anyDeep (pathsAt code (drop i places)) below ≡ anyDeep (pathsAt code places) below
 
-module _ {code places : List ℕ} {below i : ℕ} (looking : Looking code places below i) where
+module _ {code places : List ℕ} {below i : ℕ} (looking : DepthsPassed code places below i) where
   module _ (h : i < length places) where
     pub looking-within : getD places i 0 + 1 + getD code (getD places i 0) 0 / 64 ≤ length code
     looking-within = next-within code places i h (looking .within) .0
@@ -615,7 +615,7 @@ module _ {code places : List ℕ} {below i : ℕ} (looking : Looking code places
     pub looking-deep : 24 < getD code (getD places i 0) 0 / 64 + below → true ≡ anyDeep (pathsAt code places) below
     looking-deep deep = rw (lt-ltb 24 (getD code (getD places i 0) 0 / 64 + below) deep) at next-looked
 
-    pub looking-next : getD code (getD places i 0) 0 / 64 + below ≤ 24 → Looking code places below (i + 1)
+    pub looking-next : getD code (getD places i 0) 0 / 64 + below ≤ 24 → DepthsPassed code places below (i + 1)
     looking-next flat = record {
       within = rw add-one (next-within code places i h (looking .within) .1);
       left = rw add-one (rw (le-ltb 24 (getD code (getD places i 0) 0 / 64 + below) flat) at next-looked);

@@ -26,7 +26,7 @@ use Rattle.wrapped_paths.specs.CodeLaws.{first-word, behind-word}
 use Rattle.wrapped_paths.specs.AttrLaws.{words-most}
 use Rattle.path_tries.specs.Nodes.{nodeWord, allNodes, IsState, Became}
 use Rattle.path_tries.specs.NodeLaws.{plain-node, all-nodes-plain, held-words}
-use Rattle.result_stack.specs.Stacks.{stackPaths, stackTries, trieWords, stacked, Layout, Held, Reached, Placed, TrieAt, TriesAt, CopiedFrom, Merges, MergedFrom}
+use Rattle.result_stack.specs.Stacks.{stackPaths, stackTries, trieWords, stacked, Layout, Held, Reached, Placed, TrieAt, TriesAt, CopiedFrom, TriesMerge, TriesMergedFrom}
 use Rattle.result_stack.specs.declared.Stack.{Stack}
 
 -- ---- what is judged of a result
@@ -604,7 +604,7 @@ module _ {words state : List ℕ} {place count end i : ℕ} (going : MergingTrie
       {words′ state′ : List ℕ} {start : ℕ}
       → start ≡ length words
       → Became (union (rowsIn state) (rowsOf (take (getD words end 0) (drop (end + 1) words)))) state′ false
-      → MergedFrom words place count words′ start
+      → TriesMergedFrom words place count words′ start
   going-over all b tries rest many good there = inl (all, left-over (going .merging tries rest many good there) some-left b)
 
 -- all were merged
@@ -613,7 +613,7 @@ pub merging-done :
     → MergingTries words place count state end i
     → count ≤ i
     → Placed (trieWords (rowsIn state)) words end words′ start
-    → MergedFrom words place count words′ start
+    → TriesMergedFrom words place count words′ start
 unfolding unionAll stacked
 merging-done {words} {state} {words′} {place} {count} {end} {i} {start} going all p tries rest many good there =
     let l = going .merging tries rest many good there in
@@ -624,7 +624,7 @@ merging-done {words} {state} {words′} {place} {count} {end} {i} {start} going 
         → length ahead ≡ count - i
         → drop end words ≡ stacked ahead ++ rest
         → unionAll (rowsIn state) ahead ≡ unionAll [] tries
-        → ((start ≡ length words) × (1024 < length (unionAll [] tries))) ⊎ Merges tries rest words words′ start
+        → ((start ≡ length words) × (1024 < length (unionAll [] tries))) ⊎ TriesMerge tries rest words words′ start
     go [] many there same = inr (record {
       fits = omega (arith, ap length same, trie-state-count (going .is), going .is .few-rows);
       inside = omega (arith, p .starts, going .inside);

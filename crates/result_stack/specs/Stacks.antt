@@ -113,19 +113,19 @@ pub record TriesAt (words : List ℕ) (at count : ℕ) : Type 0 where
   pub good-tries : Each IsTrie tries
 
 -- they were merged into one that ends where they ended, or it has too many nodes
-pub record Merges (tries : List (List Row)) (rest words words′ : List ℕ) (start : ℕ) : Type 0 where
+pub record TriesMerge (tries : List (List Row)) (rest words words′ : List ℕ) (start : ℕ) : Type 0 where
   pub fits : length (unionAll [] tries) ≤ 1024
   pub inside : start < length words
   pub same-length : length words′ ≡ length words
   pub there : drop start words′ ≡ trieWords (unionAll [] tries) ++ rest
 
-abbrev pub MergedFrom : List ℕ → ℕ → ℕ → List ℕ → ℕ → Type 0
-MergedFrom words at count words′ start =
+abbrev pub TriesMergedFrom : List ℕ → ℕ → ℕ → List ℕ → ℕ → Type 0
+TriesMergedFrom words at count words′ start =
     (tries : List (List Row)) (rest : List ℕ)
     → length tries ≡ count
     → Each IsTrie tries
     → drop at words ≡ stacked tries ++ rest
-    → ((start ≡ length words) × (1024 < length (unionAll [] tries))) ⊎ Merges tries rest words words′ start
+    → ((start ≡ length words) × (1024 < length (unionAll [] tries))) ⊎ TriesMerge tries rest words words′ start
 
 -- the top results were wrapped under a head
 pub record Wraps (head : List ℕ) (taken : List Result) (wrapping : Result) : Type 0 where

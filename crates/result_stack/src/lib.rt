@@ -4,7 +4,7 @@ ghost use Prim.Native.Nat.{_+_, _≤_, _<_};
 ghost use lib.ListN.{length, getD};
 ghost use Rattle.rows.specs.States.{rowsIn};
 ghost use Rattle.path_tries.specs.Nodes.{IsState};
-ghost use Rattle.result_stack.specs.Stacks.{Holding, Placed, TrieAt, CopiedFrom, trieWords, Pushed, TriesAt, MergedFrom, ReplacedBy};
+ghost use Rattle.result_stack.specs.Stacks.{Holding, Placed, TrieAt, CopiedFrom, trieWords, Pushed, TriesAt, TriesMergedFrom, ReplacedBy};
 use path_tries::union_into;
 use words::copy_short_words;
 use words::copy_words;
@@ -109,11 +109,11 @@ pub fn push(paths: &[u16], code: &mut [u16], tries: &mut [u64], stack: Stack) ->
     })
 }
 
-// Merges the tries of the top results into one, and answers where it begins, or the length of `tries` where it has too many nodes.
+// TriesMerge the tries of the top results into one, and answers where it begins, or the length of `tries` where it has too many nodes.
 // `merged` is scratch.
 pub fn merge_tries(tries: &mut [u64], at: usize, count: u64, merged: &mut [u64]) -> usize
     requires { ⌜ TriesAt (now tries) at count × (length (now merged) ≡ 1026) ⌝ }
-    ensures { λ r. ⌜ MergedFrom (now (tries .entry)) at count (now (tries .exit)) r ⌝ }
+    ensures { λ r. ⌜ TriesMergedFrom (now (tries .entry)) at count (now (tries .exit)) r ⌝ }
 {
     merged[0] = 0;
     let mut end = at;

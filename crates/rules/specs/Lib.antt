@@ -71,5 +71,7 @@ pub mod MergeLaws
 pub mod SliceLaws
 pub mod TakeLaws
 pub mod ValueTexts
+pub mod Names
 pub mod ValueTextLaws
 pub mod ValueTextExamples
+pub mod NameExamples

@@ -126,32 +126,32 @@ ancestor-may own parents (u ∷ ancestors) [] id own-id ps vs h =
 -- ---- where the reading has come to
 
 -- Before the first line, or behind a line of the last entity.
-pub data Reached : Type 0 where
-  start : Reached
-  behind : List EntityRead → EntityRead → Reached
+pub data StoreReached : Type 0 where
+  start : StoreReached
+  behind : List EntityRead → EntityRead → StoreReached
 
-abbrev pub storeOf : Reached → StoreRead
+abbrev pub storeOf : StoreReached → StoreRead
 storeOf start = storeRead [] none
 storeOf (behind es e) = storeRead es (some e)
 
-abbrev pub entities : Reached → List EntityRead
+abbrev pub entities : StoreReached → List EntityRead
 entities start = []
 entities (behind es e) = es ++ (e ∷ [])
 
-abbrev pub standingOf : Reached → StoreSofar
+abbrev pub standingOf : StoreReached → StoreSofar
 standingOf start = atStart
 standingOf (behind es e) = standing (lastWord (e .id) (e .parents) (e .ancestors) (e .value .rows)) (e .id + 1) (e .value .levels)
 
 -- a line may come: the rules and what is kept of the words go on alike
-pub record Went (s : Reached) (said : StoreLine) (next : Reached) : Type 0 where
+pub record Went (s : StoreReached) (said : StoreLine) (next : StoreReached) : Type 0 where
   pub of : ofStore said (storeOf s) ≡ some (storeOf next)
   pub stands : standingAfter (standingOf s) said ≡ some (standingOf next)
   pub words : storeWords (entities next) ≡ storeWords (entities s) ++ (standingOf next .last ∷ [])
   pub kept : All EntityKept (entities next)
 
-pub data Step (s : Reached) (said : StoreLine) : Type 0 where
-  stopped : ofStore said (storeOf s) ≡ none → standingAfter (standingOf s) said ≡ none → Step s said
-  went : (next : Reached) → Went s said next → Step s said
+pub data StoreStep (s : StoreReached) (said : StoreLine) : Type 0 where
+  stopped : ofStore said (storeOf s) ≡ none → standingAfter (standingOf s) said ≡ none → StoreStep s said
+  went : (next : StoreReached) → Went s said next → StoreStep s said
 
 words-append : (a b : List EntityRead) → storeWords (a ++ b) ≡ storeWords a ++ storeWords b
 unfolding storeWords
@@ -166,7 +166,7 @@ unfolding All IdsFrom begun
 begun-kept id h = record { own = h; parents = tt; ancestors = tt; parents-ascend = tt; ancestors-ascend = tt; rows = tt; came = came-none }
 
 -- an entity
-step-entity : (s : Reached) (id : ℕ) → All EntityKept (entities s) → IsId id → Step s (entityLine id)
+step-entity : (s : StoreReached) (id : ℕ) → All EntityKept (entities s) → IsId id → StoreStep s (entityLine id)
 unfolding isAbove begun lastWord lastOr storeWords All
 step-entity start id kept h = went (behind [] (begun id)) (record {
   of = refl;
@@ -206,7 +206,7 @@ no-rows : {A : Type 0} (xs : List A) → eqb (length xs) 0 ≡ true → xs ≡ [
 no-rows [] e = refl
 no-rows (x ∷ xs) e = absurd (omega (arith, eqb-true (length (x ∷ xs)) 0 e))
 
-step-parent : (s : Reached) (id : ℕ) → All EntityKept (entities s) → IsId id → Step s (parentLine id)
+step-parent : (s : StoreReached) (id : ℕ) → All EntityKept (entities s) → IsId id → StoreStep s (parentLine id)
 step-parent start id kept h = stopped refl (rw (le-ltb (2 ^ 35) (parentWord id) (omega arith)))
 step-parent (behind es e) id kept h =
     let (all, here) = last-kept es e kept in
@@ -235,7 +235,7 @@ step-parent (behind es e) id kept h =
     }))
     (λ t. stopped (rw (may, t)) (rw t))
 
-step-ancestor : (s : Reached) (id : ℕ) → All EntityKept (entities s) → IsId id → Step s (ancestorLine id)
+step-ancestor : (s : StoreReached) (id : ℕ) → All EntityKept (entities s) → IsId id → StoreStep s (ancestorLine id)
 step-ancestor start id kept h = stopped refl (rw (le-ltb (2 ^ 35) (ancestorWord id) (omega arith)))
 step-ancestor (behind es e) id kept h =
     let (all, here) = last-kept es e kept in
@@ -267,7 +267,7 @@ step-ancestor (behind es e) id kept h =
 none-open : (x : ValueRow) → mayCome [] x ≡ false
 none-open x = by-test (leb 1 (x .depth)) (λ t. rw (t, le-ltb (x .depth - 1) 0 (omega arith))) (λ t. rw t)
 
-step-attribute : (s : Reached) (x : ValueRow) → All EntityKept (entities s) → isValueRow x ≡ true → Step s (attributeLine x)
+step-attribute : (s : StoreReached) (x : ValueRow) → All EntityKept (entities s) → isValueRow x ≡ true → StoreStep s (attributeLine x)
 step-attribute start x kept formed = stopped refl (rw (none-open x))
 step-attribute (behind es e) x kept formed =
     let (all, here) = last-kept es e kept in
@@ -294,7 +294,7 @@ step-attribute (behind es e) x kept formed =
     }))
     (λ t. stopped (rw t) (rw t))
 
-pub step : (s : Reached) (said : StoreLine) → All EntityKept (entities s) → Formed said → Step s said
+pub step : (s : StoreReached) (said : StoreLine) → All EntityKept (entities s) → Formed said → StoreStep s said
 step s (entityLine id) kept formed = step-entity s id kept formed
 step s (parentLine id) kept formed = step-parent s id kept formed
 step s (ancestorLine id) kept formed = step-ancestor s id kept formed

@@ -24,17 +24,17 @@ use Rattle.store_text.specs.LineLaws.{line-formed}
 use Rattle.store_text.specs.Words.{storeWords}
 use Rattle.store_text.specs.Entities.{All, EntityKept, OrderFound}
 use Rattle.store_text.specs.Standings.{StoreSofar, standing, standingBehind}
-use Rattle.store_text.specs.ReachedLaws.{Reached, start, behind, storeOf, entities, standingOf, Step, stopped, went, step}
+use Rattle.store_text.specs.ReachedLaws.{StoreReached, start, behind, storeOf, entities, standingOf, StoreStep, stopped, went, step}
 use Rattle.store_text.specs.Outcomes.{TextJudged, storeGiven, storingStore, readStoreIn}
 
 -- ---- a line
 
 -- a line that is not taken is 1
-line-stopped : (place : ℕ) (line : List ℕ) (s : Reached) → All EntityKept (entities s) → none ≡ standingBehind (standingOf s) (storeLineOf (fieldsOf line)) →
+line-stopped : (place : ℕ) (line : List ℕ) (s : StoreReached) → All EntityKept (entities s) → none ≡ standingBehind (standingOf s) (storeLineOf (fieldsOf line)) →
     storeLine place line (storeOf s) ≡ refused 1 place
 line-stopped place line s kept e = go (storeLineOf (fieldsOf line)) refl e
   where
-    by : (said : StoreLine) → none ≡ standingBehind (standingOf s) (some said) → Step s said → ofStore said (storeOf s) ≡ none
+    by : (said : StoreLine) → none ≡ standingBehind (standingOf s) (some said) → StoreStep s said → ofStore said (storeOf s) ≡ none
     by said e (stopped not-taken q) = not-taken
     by said e (went next taken) = absurd (Option·none-ne-some (standingOf next) (e ∙ taken .stands))
 
@@ -43,19 +43,19 @@ line-stopped place line s kept e = go (storeLineOf (fieldsOf line)) refl e
     go (some said) q e = rw (q, by said e (step s said kept (line-formed line q .1)))
 
 -- a line that is taken
-pub record LineEntered (place : ℕ) (line : List ℕ) (s : Reached) (after : StoreSofar) : Type 0 where
-  pub next : Reached
+pub record LineEntered (place : ℕ) (line : List ℕ) (s : StoreReached) (after : StoreSofar) : Type 0 where
+  pub next : StoreReached
   pub of : storeLine place line (storeOf s) ≡ accepted (storeOf next)
   pub stands : standingOf next ≡ after
   pub words : storeWords (entities next) ≡ storeWords (entities s) ++ (after .last ∷ [])
   pub kept : All EntityKept (entities next)
   pub long : 3 ≤ length line
 
-line-taken : (place : ℕ) (line : List ℕ) (s : Reached) (after : StoreSofar) → All EntityKept (entities s) →
+line-taken : (place : ℕ) (line : List ℕ) (s : StoreReached) (after : StoreSofar) → All EntityKept (entities s) →
     some after ≡ standingBehind (standingOf s) (storeLineOf (fieldsOf line)) → LineEntered place line s after
 line-taken place line s after kept e = go (storeLineOf (fieldsOf line)) refl e
   where
-    by : (said : StoreLine) → storeLineOf (fieldsOf line) ≡ some said → some after ≡ standingBehind (standingOf s) (some said) → Step s said → LineEntered place line s after
+    by : (said : StoreLine) → storeLineOf (fieldsOf line) ≡ some said → some after ≡ standingBehind (standingOf s) (some said) → StoreStep s said → LineEntered place line s after
     by said q e (stopped not-taken none-there) = absurd (Option·none-ne-some after (sym none-there ∙ sym e))
     by said q e (went next taken) =
         let same : standingOf next ≡ after = Option·some-injective (standingOf next) after (sym (taken .stands) ∙ sym e) in
@@ -80,7 +80,7 @@ pub record ReadingStore (text words levels : List ℕ) (last next len count at :
   pub levels-length : length levels ≡ 16385
   pub few : len ≤ count
   pub room : 4 * count ≤ at
-  pub sofar : Reached
+  pub sofar : StoreReached
   pub came : CameTo storeLine (storeRead [] none) text at count (storeOf sofar)
   pub stands : standing last next (levelsIn (take len levels)) ≡ standingOf sofar
   pub words-stored : stored count words ≡ storeWords (entities sofar)
@@ -100,7 +100,7 @@ reading-none text words levels w l = record {
   kept = tt;
 }
 
-pub all-entities : (s : Reached) → entitiesIn (storeOf s) ≡ entities s
+pub all-entities : (s : StoreReached) → entitiesIn (storeOf s) ≡ entities s
 all-entities start = refl
 all-entities (behind es e) = refl
 

@@ -20,22 +20,22 @@ use Rattle.words.specs.declared.Reply.the-variants.{Done, Refused}
 use Rattle.store_text.specs.LineLaws.{line-formed}
 use Rattle.store_text.specs.Words.{storeWords}
 use Rattle.store_text.specs.Entities.{All, EntityKept, HoldsEntities}
-use Rattle.store_text.specs.ReachedLaws.{Reached, start, storeOf, entities, Step, stopped, went, step}
+use Rattle.store_text.specs.ReachedLaws.{StoreReached, start, storeOf, entities, StoreStep, stopped, went, step}
 use Rattle.store_text.specs.ReadLaws.{all-entities, store-short, store-long, by-text}
 use Rattle.store_text.specs.Outcomes.{readStoreIn}
 
 -- what lines come to, and how many bytes they have
-record Come (s : Reached) (bytes : ℕ) (after : StoreRead) : Type 0 where
-  next : Reached
+record Come (s : StoreReached) (bytes : ℕ) (after : StoreRead) : Type 0 where
+  next : StoreReached
   same : after ≡ storeOf next
   kept : All EntityKept (entities next)
   long : 4 * length (storeWords (entities next)) ≤ 4 * length (storeWords (entities s)) + bytes
 
-line-comes : (place : ℕ) (line : List ℕ) (s : Reached) (after : StoreRead) → All EntityKept (entities s) → storeLine place line (storeOf s) ≡ accepted after →
+line-comes : (place : ℕ) (line : List ℕ) (s : StoreReached) (after : StoreRead) → All EntityKept (entities s) → storeLine place line (storeOf s) ≡ accepted after →
     Come s (length line + 1) after
 line-comes place line s after kept e = go (storeLineOf (fieldsOf line)) refl
   where
-    by : (said : StoreLine) → storeLineOf (fieldsOf line) ≡ some said → Step s said → Come s (length line + 1) after
+    by : (said : StoreLine) → storeLineOf (fieldsOf line) ≡ some said → StoreStep s said → Come s (length line + 1) after
     by said q (stopped not-taken other) = refused-not 1 place after (sym (rw (q, not-taken)) ∙ e)
     by said q (went next taken) = record {
       next = next;
@@ -49,7 +49,7 @@ line-comes place line s after kept e = go (storeLineOf (fieldsOf line)) refl
     go (some said) q = by said q (step s said kept (line-formed line q .1))
 
 -- no line is left
-ended : (place : ℕ) (s : Reached) (all : Folded StoreRead) (bytes : ℕ) → All EntityKept (entities s) → accepted (folded place (storeOf s)) ≡ accepted all →
+ended : (place : ℕ) (s : StoreReached) (all : Folded StoreRead) (bytes : ℕ) → All EntityKept (entities s) → accepted (folded place (storeOf s)) ≡ accepted all →
     Come s bytes (all .state)
 ended place s all bytes kept e = record {
   next = s;
@@ -59,7 +59,7 @@ ended place s all bytes kept e = record {
 }
 
 -- all lines of a text
-lines-come : (lines : List (List ℕ)) (place : ℕ) (s : Reached) {all : Folded StoreRead} → All EntityKept (entities s) →
+lines-come : (lines : List (List ℕ)) (place : ℕ) (s : StoreReached) {all : Folded StoreRead} → All EntityKept (entities s) →
     foldLines storeLine place lines (storeOf s) ≡ accepted all → Come s (length (joinedBy LF lines)) (all .state)
 unfolding foldLines joinedBy
 lines-come [] place s {all} kept e = ended place s all 0 kept e

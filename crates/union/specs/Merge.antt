@@ -24,7 +24,7 @@ unfoldable pub left : List ℕ → List ℕ → ℕ → ℕ → List ℕ
 left a b i j = unionWords (drop i a) (drop j b)
 
 -- the word w is next, and i′ and j′ rows are passed then
-pub record Turn (a b : List ℕ) (i j w i′ j′ : ℕ) : Type 0 where
+pub record UnionTurn (a b : List ℕ) (i j w i′ j′ : ℕ) : Type 0 where
   pub taken : left a b i j ≡ w ∷ left a b i′ j′
   pub in-a : i′ ≤ length a
   pub in-b : j′ ≤ length b

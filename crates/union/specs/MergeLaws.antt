@@ -18,7 +18,7 @@ use Rattle.rows.specs.WordLaws.{key-below, word-at}
 use Rattle.union.specs.UnionLaws.{union-words-nil, union-words-first, union-words-second, union-words-same}
 use Rattle.rows.specs.CountLaws.{counted-none, counted-entry, counted-node}
 use Rattle.rows.specs.States.{allWords, Counted}
-use Rattle.union.specs.Merge.{keyAt, nextKey, left, Turn, MergeRoom, Merged, belowAt, CopiedBelow, Copied}
+use Rattle.union.specs.Merge.{keyAt, nextKey, left, UnionTurn, MergeRoom, Merged, belowAt, CopiedBelow, Copied}
 
 -- ---- the key at a place of a run
 
@@ -66,7 +66,7 @@ rest-of : (a : List ℕ) (i : ℕ) → i < length a → drop i a ≡ getD a i 0 
 rest-of a i h = rw (add-one, drop-cons a i 0 h)
 
 module _ (a b : List ℕ) (i j : ℕ) (in-a : i ≤ length a) (in-b : j ≤ length b) where
-  pub turn-first : i < length a → keyAt a i < keyAt b j → Turn a b i j (getD a i 0) (i + 1) j
+  pub turn-first : i < length a → keyAt a i < keyAt b j → UnionTurn a b i j (getD a i 0) (i + 1) j
   unfolding left
   turn-first ia h = record { taken = compared j (length b) inside past; in-a = omega arith; in-b = in-b; more = omega arith }
     where
@@ -78,7 +78,7 @@ module _ (a b : List ℕ) (i j : ℕ) (in-a : i ≤ length a) (in-b : j ≤ leng
           let smaller : rankIn (getD a i 0) < rankIn (getD b j 0) = omega (arith, key-in a i ia, key-in b j q) in
           rw (rest-of a i ia, rest-of b j q, union-words-first (getD a i 0) (getD b j 0) (drop (i + 1) a) (drop (j + 1) b) smaller)
 
-  pub turn-second : j < length b → keyAt b j < keyAt a i → Turn a b i j (getD b j 0) i (j + 1)
+  pub turn-second : j < length b → keyAt b j < keyAt a i → UnionTurn a b i j (getD b j 0) i (j + 1)
   unfolding unionWords left
   turn-second jb h = record { taken = compared i (length a) inside past; in-a = in-a; in-b = omega arith; more = omega arith }
     where
@@ -91,7 +91,7 @@ module _ (a b : List ℕ) (i j : ℕ) (in-a : i ≤ length a) (in-b : j ≤ leng
           rw (rest-of a i q, rest-of b j jb, union-words-second (getD a i 0) (getD b j 0) (drop (i + 1) a) (drop (j + 1) b) smaller)
 
   pub turn-same : i < length a → j < length b → keyAt a i ≡ keyAt b j →
-      Turn a b i j (joinedWord (getD a i 0) (getD b j 0)) (i + 1) (j + 1)
+      UnionTurn a b i j (joinedWord (getD a i 0) (getD b j 0)) (i + 1) (j + 1)
   unfolding left
   turn-same ia jb h =
       let equal : rankIn (getD a i 0) ≡ rankIn (getD b j 0) = sym (key-in a i ia) ∙ h ∙ key-in b j jb in
@@ -105,11 +105,11 @@ module _ (a b : List ℕ) (i j : ℕ) (in-a : i ≤ length a) (in-b : j ≤ leng
 -- ---- storing what is left
 
 -- there is room for the next row
-pub turn-fits : {a b out : List ℕ} {i j k w i′ j′ : ℕ} → MergeRoom a b out i j k → Turn a b i j w i′ j′ → k < length out
+pub turn-fits : {a b out : List ℕ} {i j k w i′ j′ : ℕ} → MergeRoom a b out i j k → UnionTurn a b i j w i′ j′ → k < length out
 turn-fits room turn = omega (arith, room .fits, ap length (turn .taken))
 
 -- one row is stored
-pub stored-row : {a b out : List ℕ} {i j k w i′ j′ : ℕ} → MergeRoom a b out i j k → Turn a b i j w i′ j′ →
+pub stored-row : {a b out : List ℕ} {i j k w i′ j′ : ℕ} → MergeRoom a b out i j k → UnionTurn a b i j w i′ j′ →
     Merged a b out i j k (set out k w) i′ j′ (k + 1)
 stored-row {out = out} {k = k} {w = w} room turn =
     record {
@@ -137,7 +137,7 @@ stored-more once again = record {
 pub stored-run :
     (rows : List ℕ) (at : ℕ) {a b out : List ℕ} {k : ℕ} (f g : ℕ → ℕ) (n : ℕ)
     → at + n ≤ length rows
-    → ((m : ℕ) → m < n → Turn a b (f m) (g m) (getD rows (at + m) 0) (f (m + 1)) (g (m + 1)))
+    → ((m : ℕ) → m < n → UnionTurn a b (f m) (g m) (getD rows (at + m) 0) (f (m + 1)) (g (m + 1)))
     → MergeRoom a b out (f 0) (g 0) k
     → Merged a b out (f 0) (g 0) k (sets out k (take n (drop at rows))) (f n) (g n) (k + n)
 stored-run rows at f g zero h turns room = rw add-zero (stored-none _ _ _ _ _ _ room)
@@ -229,7 +229,7 @@ module _ {a b out out′ : List ℕ} {i j k end : ℕ} (room : MergeRoom a b out
   pub stored-left : keyAt a i < keyAt b j → Copied a i out k out′ end → Merged a b out i j k out′ end j (k + (end - i))
   stored-left less copied =
       let last : i + (end - i) ≡ end = omega (arith, copied .some-row) in
-      let turns : (m : ℕ) → m < end - i → Turn a b (i + m) j (getD a (i + m) 0) (i + (m + 1)) j = λ m inside.
+      let turns : (m : ℕ) → m < end - i → UnionTurn a b (i + m) j (getD a (i + m) 0) (i + (m + 1)) j = λ m inside.
       rw (← add-assoc i m 1) (turn-first a b (i + m) j (omega (arith, copied .inside)) (room .in-b) (omega (arith, copied .inside)) (copied-keys (keyAt b j) copied less m (omega arith))) in
       let stored = stored-run a i {out = out} {k = k} (λ m. i + m) (λ m. j) (end - i) (omega (arith, copied .inside)) turns (rw add-zero room) in
       rw (copied .copied) (rw (add-zero, last) at stored)
@@ -238,7 +238,7 @@ module _ {a b out out′ : List ℕ} {i j k end : ℕ} (room : MergeRoom a b out
   pub stored-right : keyAt b j < keyAt a i → Copied b j out k out′ end → Merged a b out i j k out′ i end (k + (end - j))
   stored-right less copied =
       let last : j + (end - j) ≡ end = omega (arith, copied .some-row) in
-      let turns : (m : ℕ) → m < end - j → Turn a b i (j + m) (getD b (j + m) 0) i (j + (m + 1)) = λ m inside.
+      let turns : (m : ℕ) → m < end - j → UnionTurn a b i (j + m) (getD b (j + m) 0) i (j + (m + 1)) = λ m inside.
       rw (← add-assoc j m 1) (turn-second a b i (j + m) (room .in-a) (omega (arith, copied .inside)) (omega (arith, copied .inside)) (copied-keys (keyAt a i) copied less m (omega arith))) in
       let stored = stored-run b j {out = out} {k = k} (λ m. i) (λ m. j + m) (end - j) (omega (arith, copied .inside)) turns (rw add-zero room) in
       rw (copied .copied) (rw (add-zero, last) at stored)
@@ -296,10 +296,10 @@ size-none a b = counted-none (unionWords a b)
 
 -- the next row is counted as what it is
 module _ {words a b : List ℕ} {i j w i′ j′ entries nodes : ℕ} where
-  pub size-entry : Counted words (left a b i j) entries nodes → Turn a b i j w i′ j′ → depthIn w ≡ 0 → Counted words (left a b i′ j′) (entries + 1) nodes
+  pub size-entry : Counted words (left a b i j) entries nodes → UnionTurn a b i j w i′ j′ → depthIn w ≡ 0 → Counted words (left a b i′ j′) (entries + 1) nodes
   size-entry counted turn h = counted-entry (rw (turn .taken) at counted) h
 
-  pub size-node : Counted words (left a b i j) entries nodes → Turn a b i j w i′ j′ → (depthIn w ≡ 0 → ⊥) → Counted words (left a b i′ j′) entries (nodes + 1)
+  pub size-node : Counted words (left a b i j) entries nodes → UnionTurn a b i j w i′ j′ → (depthIn w ≡ 0 → ⊥) → Counted words (left a b i′ j′) entries (nodes + 1)
   size-node counted turn h = counted-node (rw (turn .taken) at counted) h
 
 -- ---- the whole union

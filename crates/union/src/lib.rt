@@ -8,7 +8,7 @@ ghost use Prim.Native.Nat.{_+_, _*_, _^_, _<_, _≤_};
 ghost use lib.ListN.{length};
 ghost use Rattle.union.specs.Unions.{unionWords, unionOf, unionInto, Roomy};
 ghost use Rattle.rows.specs.States.{allWords, Counted};
-ghost use Rattle.union.specs.Merge.{keyAt, nextKey, Turn, MergeRoom, Merged, belowAt, CopiedBelow, Copied, Decides};
+ghost use Rattle.union.specs.Merge.{keyAt, nextKey, UnionTurn, MergeRoom, Merged, belowAt, CopiedBelow, Copied, Decides};
 use rows::Kind;
 use rows::Limits;
 use rows::Row;
@@ -58,7 +58,7 @@ fn next_key(a: &[u64], b: &[u64], i: usize, j: usize) -> u64
 // The next row of either run, or of both where they have the same node, and how many rows of each are passed then.
 fn next_row(a: &[u64], b: &[u64], i: usize, j: usize) -> Taken
     requires { ⌜ (i ≤ length (now a)) × (j ≤ length (now b)) × (nextKey (now a) (now b) i j < 2 ^ 53) ⌝ }
-    ensures { λ r. ⌜ Turn (now (a .entry)) (now (b .entry)) i j (r .word) (r .a) (r .b) ⌝ }
+    ensures { λ r. ⌜ UnionTurn (now (a .entry)) (now (b .entry)) i j (r .word) (r .a) (r .b) ⌝ }
 {
     let x = key_at(a, i);
     let y = key_at(b, j);

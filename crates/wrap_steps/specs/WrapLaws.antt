@@ -17,7 +17,7 @@ use Rattle.rules.specs.StepLaws.{Each, IsTrie, GoodResult, AllGood, each-split,
 use Rattle.words.specs.Runs.{Wrote}
 use Rattle.wrapped_paths.specs.Code.{countIn, namesIn, code, codeFields, codes, nodesOfAll, Standing, Measures}
 use Rattle.wrapped_paths.specs.CodeLaws.{codes-append}
-use Rattle.result_stack.specs.Stacks.{stackPaths, stackTries, trieWords, stacked, Held, Reached, Outcomes, Placed, TriesAt, Merges, MergedFrom, Wraps, WrapsBy}
+use Rattle.result_stack.specs.Stacks.{stackPaths, stackTries, trieWords, stacked, Held, Reached, Outcomes, Placed, TriesAt, TriesMerge, TriesMergedFrom, Wraps, WrapsBy}
 use Rattle.result_stack.specs.declared.Stack.{Stack}
 use Rattle.result_stack.specs.declared.Stepped.{Stepped}
 use Rattle.result_stack.specs.StackLaws.{judged-nodes, judged-rows, judged-good, top-good, top-few, below, below-held, code-end}
@@ -95,7 +95,7 @@ module _ {codeRun tries : List ℕ} {stack : Stack} (taken left : List Result) {
           → judged place wrapping left ≡ refused 15 place
       wrap-over e many-nodes place = judged-nodes place wrapping left wrap-few (omega (arith, w .nodes))
 
-      module _ {tries′ : List ℕ} {start : ℕ} (few-nodes : nodesOfAll (stackPaths taken) < 256) (m : MergedFrom tries (stack .tries) count tries′ start) where
+      module _ {tries′ : List ℕ} {start : ℕ} (few-nodes : nodesOfAll (stackPaths taken) < 256) (m : TriesMergedFrom tries (stack .tries) count tries′ start) where
         wrapped-nodes : nodesOf (wrapping .paths) ≤ 256
         wrapped-nodes = omega (arith, w .nodes)
 
@@ -107,7 +107,7 @@ module _ {codeRun tries : List ℕ} {stack : Stack} (taken left : List Result) {
             go (m (stackTries taken) (stacked (stackTries left)) (length-map taken (λ r. r .trie) ∙ many) tries-good tries-there)
           where
             go :
-                ((start ≡ length tries) × (1024 < length (unionAll [] (stackTries taken)))) ⊎ Merges (stackTries taken) (stacked (stackTries left)) tries tries′ start
+                ((start ≡ length tries) × (1024 < length (unionAll [] (stackTries taken)))) ⊎ TriesMerge (stackTries taken) (stacked (stackTries left)) tries tries′ start
                 → judged place wrapping left ≡ refused 4 place
             go (inl h) = judged-rows place wrapping left wrap-few wrapped-nodes wrapped-shallow (omega (arith, h .1, ap length (w .tries)))
             go (inr h) = absurd (omega (arith, h .inside))
@@ -123,7 +123,7 @@ module _ {codeRun tries : List ℕ} {stack : Stack} (taken left : List Result) {
             go (m (stackTries taken) (stacked (stackTries left)) (length-map taken (λ r. r .trie) ∙ many) tries-good tries-there)
           where
             go :
-                ((start ≡ length tries) × (1024 < length (unionAll [] (stackTries taken)))) ⊎ Merges (stackTries taken) (stacked (stackTries left)) tries tries′ start
+                ((start ≡ length tries) × (1024 < length (unionAll [] (stackTries taken)))) ⊎ TriesMerge (stackTries taken) (stacked (stackTries left)) tries tries′ start
                 → Reached (λ place. judged place wrapping left) codeRun′ tries′
                 (record { code = first; tries = start; results = stack .results - count + 1 })
             go (inl h) = absurd (there (h .0))

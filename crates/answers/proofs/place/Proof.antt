@@ -4,7 +4,7 @@ use Prim.Native.Nat.{_-_}
 use native.Mathlib.Omega.{arith}
 use mathlib.Core.Path.{refl}
 use borrow.Author.Needs.{needs}
-use Rattle.answers.specs.AnswerLaws.{Next, passed-none, passed-next, PlacesTo, places-all, places-next}
+use Rattle.answers.specs.AnswerLaws.{NextItem, passed-none, passed-next, PlacesTo, places-all, places-next}
 use Rattle.answers.proofs.place.Statement.{statement}
 use Rattle.answers.proofs.place.Tie as tie
 
@@ -27,7 +27,7 @@ loop-holds c =
 next :
     (c : tie.In-loop Inv-loop μ-loop) →
     let args = c .before .before .before .before .args in
-    Next (args .lent) (args .words .now) (args .count) (c .before .loop .k) (c .before .loop .at)
+    NextItem (args .lent) (args .words .now) (args .count) (c .before .loop .k) (c .before .loop .at)
 next c = passed-next _ _ _ _ _ (c .before .loop .inv .passed) (c .loop-test .taken)
 
 add-places : tie.Need-add-places Inv-loop μ-loop

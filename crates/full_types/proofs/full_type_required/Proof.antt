@@ -8,7 +8,7 @@ use Rattle.schema.specs.Items.{itemsOf}
 use Rattle.type_table.specs.Tables.{KnownType}
 use Rattle.full_types.specs.Required.{PathsStacked}
 use Rattle.full_types.specs.declared.Awaited.the-variants.{Left}
-use Rattle.full_types.specs.RequiredLaws.{Waits, Walking, walking-first, waits-done, waits-few, waits-within, waits-room, waits-pairs, waits-standing, waits-meeting, waits-on, waits-passed, waits-known, waits-none, waits-next, refers}
+use Rattle.full_types.specs.RequiredLaws.{TypesWait, Walking, walking-first, waits-done, waits-few, waits-within, waits-room, waits-pairs, waits-standing, waits-meeting, waits-on, waits-passed, waits-known, waits-none, waits-next, refers}
 use borrow.Author.Needs.{needs}
 use Rattle.full_types.proofs.full_type_required.Statement.{statement}
 use Rattle.full_types.proofs.full_type_required.Tie as tie
@@ -27,7 +27,7 @@ waits :
     (c : tie.At-loop Inv-loop μ-loop) →
     let start = begun c in
     let result = start .pre .1 .result in
-    Waits (start .args .code .now) (result .rest) (itemsOf (start .args .words .now)) (result .paths) (start .args .t) (start .args .at) (c .loop .waiting) (c .loop .pairs) (c .loop .from) (c .loop .left) (c .loop .count)
+    TypesWait (start .args .code .now) (result .rest) (itemsOf (start .args .words .now)) (result .paths) (start .args .t) (start .args .at) (c .loop .waiting) (c .loop .pairs) (c .loop .from) (c .loop .left) (c .loop .count)
 waits c = let result = begun c .pre .1 .result in c .loop .inv .all (result .paths) (result .rest) (result .coded) (result .good-paths)
 
 known : (c : tie.Else1 Inv-loop μ-loop) → KnownType (begun (c .before .before) .args .words .now) (begun (c .before .before) .args .table .now) (getD (c .before .before .loop .waiting) (c .before .before .loop .left - 1) 0)

@@ -4,12 +4,12 @@ use Prim.Native.Nat.{_-_, _≤_}
 use native.Mathlib.Omega.{arith}
 use borrow.Author.Needs.{needs}
 use lib.ListN.{length}
-use Rattle.path_tries.specs.NodeLaws.{Looking, looking-within, looking-deep, looking-next, looking-all}
+use Rattle.path_tries.specs.NodeLaws.{DepthsPassed, looking-within, looking-deep, looking-next, looking-all}
 use Rattle.path_tries.proofs.is_too_deep.Statement.{statement}
 use Rattle.path_tries.proofs.is_too_deep.Tie as tie
 
 abbrev Inv-loop : tie.InvT-loop
-Inv-loop code places below i₀ i = (i ≤ length places) × Looking code places below i
+Inv-loop code places below i₀ i = (i ≤ length places) × DepthsPassed code places below i
 
 abbrev μ-loop : tie.MeasureT-loop
 μ-loop code places below i₀ i = length places - i

@@ -6,12 +6,12 @@ use mathlib.Core.Path.{_≡_, refl, sym, _∙_}
 use borrow.Author.Needs.{needs}
 use lib.ListN.{length, length-set}
 use Rattle.wrapped_paths.specs.Code.{stepsAt, AllWithin, pathAt}
-use Rattle.path_tries.specs.NodeLaws.{path-some, path-steps, path-first, path-later, Reading, reading-first, reading-next, reading-all}
+use Rattle.path_tries.specs.NodeLaws.{path-some, path-steps, path-first, path-later, PathReading, reading-first, reading-next, reading-all}
 use Rattle.path_tries.proofs.read_path.Statement.{statement}
 use Rattle.path_tries.proofs.read_path.Tie as tie
 
 abbrev Inv-loop : tie.InvT-loop
-Inv-loop code at path₀ first steps i₀ path i = (length path ≡ length path₀) × ((0 < i) × Reading (pathAt code at) path i)
+Inv-loop code at path₀ first steps i₀ path i = (length path ≡ length path₀) × ((0 < i) × PathReading (pathAt code at) path i)
 
 abbrev μ-loop : tie.MeasureT-loop
 μ-loop code at path₀ first steps i₀ path i = steps - i

@@ -4,7 +4,7 @@ use native.Mathlib.Omega.{arith}
 use borrow.Author.Needs.{needs}
 use lib.ListN.{getD}
 use Rattle.rows.specs.Words.{joinedWord}
-use Rattle.union.specs.Merge.{Turn}
+use Rattle.union.specs.Merge.{UnionTurn}
 use Rattle.union.specs.MergeLaws.{first-in, second-in, turn-first, turn-second, turn-same}
 use Rattle.union.proofs.next_row.Statement.{statement}
 use Rattle.union.proofs.next_row.Tie as tie
@@ -13,21 +13,21 @@ abbrev start : tie.After-key-at2 → tie.Start
 start c = c .before .before .before .before
 
 -- the row that is taken in each case
-first-turn : (c : tie.Then1) → let s = start (c .before) .args in Turn (s .a .now) (s .b .now) (s .i) (s .j) (getD (s .a .now) (s .i) 0) (s .i + 1) (s .j)
+first-turn : (c : tie.Then1) → let s = start (c .before) .args in UnionTurn (s .a .now) (s .b .now) (s .i) (s .j) (getD (s .a .now) (s .i) 0) (s .i + 1) (s .j)
 first-turn c =
     let x = c .before .before .key-at .ensures in
     let y = c .before .key-at2 .ensures in
     let pre = start (c .before) .pre in
     turn-first _ _ _ _ (pre .0) (pre .1) (first-in _ _ _ _ _ _ x y (omega (arith, c .if1 .taken)) (pre .2)) (omega (arith, x, y, c .if1 .taken))
 
-second-turn : (c : tie.Then2) → let s = start (c .before .before) .args in Turn (s .a .now) (s .b .now) (s .i) (s .j) (getD (s .b .now) (s .j) 0) (s .i) (s .j + 1)
+second-turn : (c : tie.Then2) → let s = start (c .before .before) .args in UnionTurn (s .a .now) (s .b .now) (s .i) (s .j) (getD (s .b .now) (s .j) 0) (s .i) (s .j + 1)
 second-turn c =
     let x = c .before .before .before .key-at .ensures in
     let y = c .before .before .key-at2 .ensures in
     let pre = start (c .before .before) .pre in
     turn-second _ _ _ _ (pre .0) (pre .1) (second-in _ _ _ _ _ _ x y (omega (arith, c .if2 .taken)) (pre .2)) (omega (arith, x, y, c .if2 .taken))
 
-same-turn : (c : tie.Else2) → let s = start (c .before .before) .args in Turn (s .a .now) (s .b .now) (s .i) (s .j) (joinedWord (getD (s .a .now) (s .i) 0) (getD (s .b .now) (s .j) 0)) (s .i + 1) (s .j + 1)
+same-turn : (c : tie.Else2) → let s = start (c .before .before) .args in UnionTurn (s .a .now) (s .b .now) (s .i) (s .j) (joinedWord (getD (s .a .now) (s .i) 0) (getD (s .b .now) (s .j) 0)) (s .i + 1) (s .j + 1)
 same-turn c =
     let x = c .before .before .before .key-at .ensures in
     let y = c .before .before .key-at2 .ensures in

@@ -5,7 +5,7 @@ use native.Mathlib.Omega.{arith}
 use borrow.Author.Needs.{needs}
 use lib.ListN.{length, getD}
 use Rattle.rows.specs.Words.{joinedWord}
-use Rattle.union.specs.Merge.{Turn}
+use Rattle.union.specs.Merge.{UnionTurn}
 use Rattle.union.specs.MergeLaws.{first-in, second-in, turn-same, turn-fits, stored-row}
 use Rattle.union.proofs.take_both.Statement.{statement}
 use Rattle.union.proofs.take_both.Tie as tie
@@ -17,7 +17,7 @@ left-in s = first-in (s .args .a .now) (s .args .b .now) (s .args .c .a) (s .arg
 right-in : (s : tie.Start) → s .args .c .b < length (s .args .b .now)
 right-in s = second-in (s .args .a .now) (s .args .b .now) (s .args .c .a) (s .args .c .b) _ _ refl refl (omega (arith, s .pre .1 .1)) (s .pre .1 .0)
 
-turn : (s : tie.Start) → let a = s .args in Turn (a .a .now) (a .b .now) (a .c .a) (a .c .b) (joinedWord (getD (a .a .now) (a .c .a) 0) (getD (a .b .now) (a .c .b) 0)) (a .c .a + 1) (a .c .b + 1)
+turn : (s : tie.Start) → let a = s .args in UnionTurn (a .a .now) (a .b .now) (a .c .a) (a .c .b) (joinedWord (getD (a .a .now) (a .c .a) 0) (getD (a .b .now) (a .c .b) 0)) (a .c .a + 1) (a .c .b + 1)
 turn s = turn-same _ _ _ _ (s .pre .0 .in-a) (s .pre .0 .in-b) (left-in s) (right-in s) (s .pre .1 .1)
 
 mul-t10 : tie.Need-mul-t10

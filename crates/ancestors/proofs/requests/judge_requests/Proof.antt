@@ -9,14 +9,14 @@ use lib.ListN.{length}
 use Rattle.rows.specs.States.{rowsOf}
 use Rattle.row_walk.specs.Initial.{requestWith as requestOf}
 use Rattle.ancestors.specs.SliceWords.{sliceIn}
-use Rattle.ancestors.specs.RequestLaws.{asked-done, Judging, judging-none, judged-all, judged-refused, judging-next, judging-empty}
+use Rattle.ancestors.specs.RequestLaws.{asked-done, RequestsJudged, judging-none, judged-all, judged-refused, judging-next, judging-empty}
 use Rattle.ancestors.proofs.requests.judge_requests.Statement.{statement}
 use Rattle.ancestors.proofs.requests.judge_requests.Tie as tie
 
 abbrev Inv-loop : tie.InvT-loop
 Inv-loop nodes slice request context asked rows₀ found₀ i₀ rows found i =
     (length rows ≡ length rows₀) × (length found ≡ length found₀)
-    × Judging (requestOf request context) (rowsOf nodes) (sliceIn slice) asked i
+    × RequestsJudged (requestOf request context) (rowsOf nodes) (sliceIn slice) asked i
 
 abbrev μ-loop : tie.MeasureT-loop
 μ-loop nodes slice request context asked rows₀ found₀ i₀ rows found i = length asked - i

@@ -5,7 +5,7 @@ use native.Mathlib.Omega.{arith}
 use mathlib.Core.Path.{_≡_, sym, _∙_}
 use borrow.Author.Tests.{lt-ltb, le-ltb, not-true, not-false}
 use lib.ListN.{length, drop, drop-of-length-le}
-use Rattle.name_table.specs.Names.{allNameBytes}
+use Rattle.rules.specs.Names.{allNameBytes}
 use Rattle.name_table.specs.NameLaws.{name-next, name-other}
 use borrow.Author.Needs.{needs}
 use Rattle.name_table.proofs.line.is_name.Statement.{statement}

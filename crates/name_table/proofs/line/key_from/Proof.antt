@@ -9,7 +9,7 @@ use Rattle.rules.specs.Listing.{placeIn}
 use Rattle.text.specs.Answers.{numberOf}
 use Rattle.text.proofs.Laws.{value-most}
 use Rattle.text.proofs.FieldLaws.{place-within}
-use Rattle.name_table.specs.Names.{nameKinds}
+use Rattle.rules.specs.Names.{nameKinds}
 use Rattle.name_table.specs.Lines.{kindRead}
 use borrow.Author.Needs.{needs}
 use Rattle.name_table.proofs.line.key_from.Statement.{statement}

@@ -5,7 +5,7 @@ use borrow.Author.Tests.{ne-eqb}
 use lib.ListN.{getD}
 use Rattle.rules.specs.Listing.{placeIn}
 use Rattle.text.proofs.FieldLaws.{place-none, place-one}
-use Rattle.name_table.specs.Names.{nameKinds}
+use Rattle.rules.specs.Names.{nameKinds}
 use borrow.Author.Needs.{needs}
 use Rattle.name_table.proofs.line.kind_of.Statement.{statement}
 use Rattle.name_table.proofs.line.kind_of.Tie as tie

@@ -10,7 +10,7 @@ use lib.Seq.{length-take-le}
 use Rattle.rules.specs.Text.{fieldsOf, TAB}
 use Rattle.rules.specs.TextLaws.{parted-some}
 use Rattle.text.proofs.FieldLaws.{Ends, field-ends, fields-last, fields-whole}
-use Rattle.name_table.specs.Names.{namedOf}
+use Rattle.rules.specs.Names.{namedOf}
 use Rattle.name_table.specs.Lines.{keyRead}
 use Rattle.name_table.specs.LineLaws.{not-named, name-parsed}
 use borrow.Author.Needs.{needs}

@@ -4,7 +4,7 @@ use Prim.Native.Nat.{_-_, _≤_}
 use mathlib.Core.List.{map}
 use mathlib.Core.Path.{_≡_, sym, _∙_}
 use lib.ListN.{length, drop, drop-of-length-le}
-use Rattle.name_table.specs.Names.{isTaken}
+use Rattle.rules.specs.Names.{isTaken}
 use Rattle.name_table.specs.Words.{namedIn}
 use Rattle.name_table.specs.NameLaws.{taken-found, taken-next}
 use borrow.Author.Needs.{needs}

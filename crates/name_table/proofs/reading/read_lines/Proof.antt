@@ -7,13 +7,13 @@ use mathlib.Core.Path.{_≡_, sym, _∙_}
 use lib.ListN.{length}
 use Rattle.text.specs.declared.Line.the-variants.{Whole}
 use Rattle.text.proofs.Laws.{whole-within}
-use Rattle.name_table.specs.ReadLaws.{Reading, reading-none, reading-all, reading-cut, reading-stopped, reading-next}
+use Rattle.name_table.specs.ReadLaws.{NamesReading, reading-none, reading-all, reading-cut, reading-stopped, reading-next}
 use borrow.Author.Needs.{needs}
 use Rattle.name_table.proofs.reading.read_lines.Statement.{statement}
 use Rattle.name_table.proofs.reading.read_lines.Tie as tie
 
 abbrev Inv-loop : tie.InvT-loop
-Inv-loop text words₀ least₀ count₀ at₀ words least count at = Reading text words least count at
+Inv-loop text words₀ least₀ count₀ at₀ words least count at = NamesReading text words least count at
 
 abbrev μ-loop : tie.MeasureT-loop
 μ-loop text words₀ least₀ count₀ at₀ words least count at = length text - at

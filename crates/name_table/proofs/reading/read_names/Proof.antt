@@ -9,7 +9,7 @@ use lib.Seq.{sets}
 use Rattle.rules.specs.Numbers.{accepted}
 use Rattle.words.specs.Runs.{stored}
 use Rattle.words.specs.RunLaws.{by-parts, counted, copied}
-use Rattle.name_table.specs.Names.{readNames}
+use Rattle.rules.specs.Names.{readNames}
 use Rattle.name_table.specs.Words.{namedIn}
 use Rattle.name_table.specs.ReadLaws.{names-short, names-long, names-refused, names-stored}
 use borrow.Author.Needs.{needs}

@@ -1,12 +1,12 @@
 -- Worked examples of name tables (Names), which the checker computes.
 use mathlib.Core.Path.{_≡_, refl}
 use mathlib.Core.List.{[], _∷_, map}
 use Rattle.rules.specs.Numbers.{accepted, refused}
 use Rattle.rules.specs.Text.{bytes, parted, numberFrom, decimalUpTo}
 use Rattle.rules.specs.Lines.{foldLines}
 use Rattle.rules.specs.Tries.{sameList}
 use Rattle.rules.specs.Listing.{placeIn}
-use Rattle.name_table.specs.Names.{named, allNameBytes, namedOf, isTaken, readNames}
+use Rattle.rules.specs.Names.{named, allNameBytes, namedOf, isTaken, readNames}
 
 -- docs/FORMS.md's example; no line; one name in three kinds, a space and the bytes 33 and 126
 read-names :
