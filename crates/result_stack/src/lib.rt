@@ -109,7 +109,7 @@ pub fn push(paths: &[u16], code: &mut [u16], tries: &mut [u64], stack: Stack) ->
     })
 }
 
-// TriesMerge the tries of the top results into one, and answers where it begins, or the length of `tries` where it has too many nodes.
+// Merges the tries of the top results into one, and answers where it begins, or the length of `tries` where it has too many nodes.
 // `merged` is scratch.
 pub fn merge_tries(tries: &mut [u64], at: usize, count: u64, merged: &mut [u64]) -> usize
     requires { ⌜ TriesAt (now tries) at count × (length (now merged) ≡ 1026) ⌝ }
