@@ -270,7 +270,7 @@ module _ {words table : List ℕ} {types at : ℕ} (filling : Filling words tabl
               let same : t ≡ types = omega arith in
               rw (same, getD-set-same table types w 0 (omega (arith, filling .tabled .0, filling-room))) sized)
 
--- TrieWriting the trie of a type.
+-- Writing the trie of a type.
 
 -- a word after a run, and then another run
 wrote-on :
