@@ -94,6 +94,7 @@ module _ {state rows places : List ℕ} {asked batches sum : ℕ} (read : ReadTo
         slice = read .load .slice;
         slice-of = read-slice;
         few-rows = omega (arith, rows-many, read-few read);
+        sort-room = omega (arith, rows-many, read-few read);
         few = omega (arith, read-size, read .came .total, read .came .few);
         room = omega (arith, read-size, read .came .total, read .came .few);
         scratch-room = omega (arith, read-size, read .came .total, read .came .few);
@@ -166,6 +167,7 @@ module _ {state rows places : List ℕ} {asked batches sum : ℕ} (read : ReadTo
       slice = read .load .slice;
       slice-of = read-slice read room;
       few-rows = omega (arith, rows-many read room, read-few read);
+      sort-room = omega (arith, rows-many read room, read-few read);
       few = omega (arith, all-few);
       room = omega (arith, all-few);
       scratch-room = omega (arith, all-few);

@@ -375,6 +375,24 @@ module _ {words rows places sets setPlaces out : List ℕ} {to : ℕ} {scratch :
 
 -- ---- entity by entity, from the keys of its rows
 
+-- what scratch holds does not matter
+pub fit-again :
+    {words rows places sets setPlaces out : List ℕ} {to : ℕ} {scratch scratch′ : List ℕ}
+    → SliceFit words rows places sets setPlaces out to scratch
+    → length scratch′ ≡ length scratch
+    → SliceFit words rows places sets setPlaces out to scratch′
+fit-again fit kept = record {
+  heard = fit .heard;
+  sets-heard = fit .sets-heard;
+  slice = fit .slice;
+  slice-of = fit .slice-of;
+  few-rows = fit .few-rows;
+  sort-room = omega (arith, fit .sort-room);
+  few = fit .few;
+  room = fit .room;
+  scratch-room = omega (arith, fit .scratch-room);
+}
+
 -- Of the entities that the keys before a place ask for, all below a bound, those with an answer are written. The others are from `least` on.
 pub record GroupsTo
     (words rows places sets setPlaces out : List ℕ) (to : ℕ) (scratch out′ scratch′ : List ℕ) (from end count : ℕ)

@@ -121,6 +121,7 @@ pub record SliceFit (words rows places sets setPlaces out : List ℕ) (to : ℕ)
   pub slice : List Loaded
   pub slice-of : SliceOf (rowsAsked rows) (answersIn words places) slice
   pub few-rows : length rows ≤ 4096
+  pub sort-room : length rows ≤ length scratch
   pub few : wordsOfAll words places sets setPlaces < 2 ^ 16
   pub room : to + wordsOfAll words places sets setPlaces ≤ length out
   pub scratch-room : wordsOfAll words places sets setPlaces ≤ length scratch

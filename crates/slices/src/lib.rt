@@ -39,10 +39,9 @@ pub fn build_slice(
     ensures { λ r. ⌜ ((slice : List Loaded) → SliceOf (rowsAsked (now (rows .entry))) (answersIn (now (words .entry)) (now (places .entry))) slice → WroteSlice (withAncestors (rowsAsked (now (rows .entry))) (setsIn (now (sets .entry)) (now («set_places» .entry))) slice) (now (out .entry)) to (now (out .exit)) r) ⌝ }
 {
     let mut keys = [0u64; 4096];
-    let mut spare = [0u64; 4096];
     let len = rows.len();
     write_keys(rows, &mut keys[..]);
-    sort_keys(&mut keys[..], 0, len, &mut spare[..]);
+    sort_keys(&mut keys[..], 0, len, scratch);
     let sorted = &keys[..len];
     let mut end = to;
     let mut count: u64 = 0;
