@@ -15,8 +15,8 @@
  * - The answer is 0 (TERBAGYL_DONE), or the number of a refusal. After a refusal every lent buffer is as it was.
  * - `*value` receives what the call says beside 0 (0 where it says nothing), or the place of the refusal. It is always written.
  *
- * Stack: 4 MiB is enough for every call, and 512 KiB for all but two: terbagyl_analyse and terbagyl_add_policy take up to about 2.2 MB, where
- * a text has very many paths; see docs/FORMS.md, 'Stack'. A thread that calls these two has to be made with more than 2 MiB.
+ * Stack: 1 MiB is enough for every call, and 512 KiB for all but two: terbagyl_analyse and terbagyl_add_policy take up to about 860 KB, where
+ * a text has very many paths; see docs/FORMS.md, 'Stack'.
  */
 #ifndef TERBAGYL_H
 #define TERBAGYL_H

@@ -25,22 +25,9 @@
 //!
 //! # Stack
 //!
-//! A thread of Rust has 2 MiB of stack by default, and so has each test. [`Manifest::add_policy`] and [`Contribution::analyse`] take up to about
-//! 2.2 MB where a text has very many paths, and less than 200 KB otherwise; every other call takes less than 512 KiB.
-//! Call these two on a thread that has 4 MiB, where texts come from elsewhere:
-//!
-//! ```
-//! use std::thread;
-//! use terbagyl::{Manifest, Schema};
-//!
-//! let built = thread::Builder::new().stack_size(4 << 20).spawn(|| {
-//!     let mut manifest = Manifest::new();
-//!     manifest.add_policy(&Schema::read("")?, "A\t10\t500\t20\nvar\tp\nattr\t7\n").map(|()| manifest)
-//! })?;
-//! let manifest = built.join().unwrap()?;
-//! # assert_eq!(manifest.entries().count(), 1);
-//! # Ok::<(), Box<dyn std::error::Error>>(())
-//! ```
+//! A thread of Rust has 2 MiB of stack by default, and so has each test. No call takes more than 1 MiB: [`Manifest::add_policy`] and
+//! [`Contribution::analyse`] take up to about 860 KB where a text has very many paths, and less than 200 KB otherwise; every other call takes
+//! less than 512 KiB.
 //!
 //! # Many questions
 //!

@@ -51,7 +51,7 @@ pub struct Contribution(Buffer<u64, { raw::CONTRIBUTION }>);
 impl Contribution {
     /// Analyses a step text under a request type.
     ///
-    /// Takes up to about 2.2 MB of stack, where a text has very many paths: call it on a thread of 4 MiB (see the crate's page).
+    /// Takes up to about 860 KB of stack, where a text has very many paths (see the crate's page).
     pub fn analyse(schema: &Schema, request_type: RequestType, steps: impl AsRef<[u8]>) -> Result<Contribution, Refusal> {
         let mut contribution = Buffer::new();
         raw::analyse(&schema.0, request_type.word(), steps.as_ref(), &mut contribution)?;
@@ -166,7 +166,7 @@ impl Manifest {
     /// # Ok::<(), Refusal>(())
     /// ```
     ///
-    /// Takes up to about 2.2 MB of stack, where a text has very many paths: call it on a thread of 4 MiB (see the crate's page).
+    /// Takes up to about 860 KB of stack, where a text has very many paths (see the crate's page).
     pub fn add_policy(&mut self, schema: &Schema, text: impl AsRef<[u8]>) -> Result<(), Refusal> {
         raw::add_policy(&schema.0, text.as_ref(), &mut self.0)
     }

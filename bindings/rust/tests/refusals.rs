@@ -156,11 +156,11 @@ fn damaged_policies() {
     }
 }
 
-/// A text that fills the library's small stack, on a thread of 4 MiB: 31 results of 201 path nodes each.
+/// A text that fills the library's small stack, on a thread of 1 MiB: 31 results of 201 path nodes each.
 #[test]
-fn a_text_of_many_paths_on_a_large_thread() {
+fn a_text_of_many_paths_on_a_small_thread() {
     let result = format!("var\tp\n{}", "var\tp\nunion\n".repeat(100));
     let steps = format!("{}{}", result.repeat(31), "drop\nunion\n".repeat(30));
-    let contribution = thread::Builder::new().stack_size(4 << 20).spawn(move || analysed(&steps)).unwrap().join().unwrap().unwrap();
+    let contribution = thread::Builder::new().stack_size(1 << 20).spawn(move || analysed(&steps)).unwrap().join().unwrap().unwrap();
     assert_eq!(contribution.listing(), "A\t10\t500\t20\n");
 }
