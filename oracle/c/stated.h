@@ -28,8 +28,8 @@ static const struct {
     {"load_result", 331776},
     {"load_answer", 397312},
     {"load_ancestors", 499712},
-    {"analyse", 2191360},
-    {"add_policy", 2191360},
+    {"analyse", 860160},
+    {"add_policy", 860160},
 };
 
 /* 0 for a name that is not stated, so that whatever it takes is too much. */

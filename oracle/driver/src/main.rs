@@ -125,7 +125,7 @@ fn work() -> u64 {
 
 fn main() {
     rust::hush();
-    // a call of our library takes up to 2 MiB of stack
+    // a call of our library takes up to 860 KB of stack
     let differences = std::thread::Builder::new().stack_size(256 << 20).spawn(work).unwrap().join().unwrap_or(1);
     exit((differences > 0) as i32);
 }
