@@ -1,5 +1,5 @@
-// The rows of a batch in a lent slice of structs. The borrow checker covers no reference to a struct, so these two are proved by hand; the work
-// is done in `handing`.
+// The rows of a batch in a lent slice of structs. The borrow checker covers no reference to a struct, so these are proved by hand; the work is
+// done in `handing`. Callers use `ask_rows`, whose parameters are a plain slice and an array.
 ghost use mathlib.Core.Path.{_≡_};
 ghost use Prim.Native.Nat.{_≤_};
 ghost use lib.ListN.{length, take};

@@ -3,7 +3,7 @@
 use Prim.Native.Nat.{_+_, _-_, _≤_}
 use native.Mathlib.Omega.{arith}
 use mathlib.Core.Path.{_≡_, refl, sym, ap, _∙_}
-use mathlib.Core.List.{List, map}
+use mathlib.Core.List.{map}
 use borrow.Author.Needs.{needs}
 use lib.ListN.{length, take, getD, set, length-map, length-set, length-replicate, List·getD-map}
 use Rattle.values.specs.declared.request.EntityRequest.{EntityRequest}
