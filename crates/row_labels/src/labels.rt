@@ -15,7 +15,7 @@ const ENTITIES: u64 = 0x1_0000;
 
 const FIELDS: u64 = 0x2_0000;
 
-// The kinds of steps that have a name in parentheses, or none, or one behind them.
+// Kinds of steps (docs/FORMS.md, 'Words').
 const FIELD: u64 = 0;
 
 const CONTEXT: u64 = 4;
