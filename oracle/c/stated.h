@@ -25,7 +25,7 @@ static const struct {
     {"load_begin", 102400},
     {"load_batch", 299008},
     {"load_ancestors_answer", 299008},
-    {"load_result", 331776},
+    {"load_result", 368640},
     {"load_answer", 397312},
     {"load_ancestors", 499712},
     {"analyse", 860160},
