@@ -60,11 +60,11 @@ pub mod WalkRows
 pub mod WalkRowLaws
 pub mod ValueRowExamples
 pub mod ValueRowTestExamples
+pub mod LoadCalls
 pub mod Trips
 pub mod TripLaws
 pub mod LoadLaws
 pub mod LoadTheorems
-pub mod LoadCalls
 pub mod LoadingExamples
 pub mod LoadCallExamples
 pub mod MergeLaws

@@ -1,4 +1,5 @@
--- Change request K10: the primary trie of an entry, and what its nodes number. Definitions that the bounds (TripLaws) speak of.
+-- Change request K10 ('Promise me the number of trips'): the primary trie of an entry, what its nodes number, and the bound on trips that
+-- this gives. TripTheorems has what is promised of it.
 use Prim.Native.Nat.{ℕ, zero, suc, _+_, _-_, _≤_, _<_, max}
 use mathlib.Core.Path.{_≡_}
 use mathlib.Core.Bool.{Bool, true, false, cond, not, _&&_}
@@ -10,7 +11,33 @@ use Rattle.rules.specs.Numbers.{mostSteps}
 use Rattle.rules.specs.Tries.{Row, at}
 use Rattle.rules.specs.Values.{Attributes, Entity}
 use Rattle.rules.specs.Typing.{isField}
-use Rattle.rules.specs.Loading.{EntityRequest, Event, yielded, ancestor, bad, Load, tripsFor, keptAt, atNode, LoadAnswer, done, refusedAt, counted, Request, isContextRoot, atRoots, initialEntities, remainingEntities, Loaded, loadedAs, Wanted, takeEvents, takeRows, batchAnswered}
+use Rattle.rules.specs.Loading.{
+  EntityRequest,
+  Event,
+  yielded,
+  ancestor,
+  bad,
+  Load,
+  tripsFor,
+  keptAt,
+  atNode,
+  LoadAnswer,
+  done,
+  refusedAt,
+  counted,
+  Request,
+  isContextRoot,
+  atRoots,
+  initialEntities,
+  remainingEntities,
+  Loaded,
+  loadedAs,
+  Wanted,
+  takeEvents,
+  takeRows,
+  batchAnswered,
+}
+use Rattle.rules.specs.LoadCalls.{entryFor}
 
 -- Each of a list, and each two of a list, the earlier first.
 pub data EachOf {A : Type 0} (P : A → Type 0) : List A → Type 0 where
@@ -59,6 +86,28 @@ mostFields s [] = 0
 mostFields s (row ∷ rows) =
     let rest : ℕ = mostFields (at s row) rows in
     cond (isPrimary (at s row)) (max (fieldSteps (at s row)) rest) rest
+
+-- What a load for a request type takes at most: rows and batches, and the ancestors call on top.
+pub record TripBound : Type 0 where
+  pub rows : ℕ
+  pub batches : ℕ
+  pub ancestors : ℕ
+
+-- 'batches never exceed one more than the largest number of field steps at any primary node'; with no node there are none
+unfoldable pub batchBound : List ℕ → List Row → ℕ
+batchBound s [] = 0
+batchBound s (row ∷ rows) = mostFields s (row ∷ rows) + 1
+
+-- the bound for a manifest and a request type: 'Without an entry, or with an empty one, there are no batches. The one ancestors call,
+-- made where there is an entry and no refusal before it, comes on top.'
+abbrev pub noTrips : TripBound
+noTrips = record { rows = 0; batches = 0; ancestors = 0 }
+
+abbrev pub boundOf : ℕ → List Row → TripBound
+boundOf type nodes = record { rows = primaries (type ∷ []) nodes; batches = batchBound (type ∷ []) nodes; ancestors = 1 }
+
+unfoldable pub tripBound : List Row → ℕ → TripBound
+tripBound manifest type = elim (entryFor type 0 manifest) [ none ↦ noTrips | some entry ↦ boundOf type (entry .nodes) ]
 
 -- a number is that of a primary node
 pub record Primary (s : List ℕ) (nodes : List Row) (n : ℕ) : Type 0 where
