@@ -65,6 +65,9 @@ pub mod Trips
 pub mod TripLaws
 pub mod LoadLaws
 pub mod LoadTheorems
+pub mod CourseLaws
+pub mod TripTheorems
+pub mod TripExamples
 pub mod LoadingExamples
 pub mod LoadCallExamples
 pub mod MergeLaws

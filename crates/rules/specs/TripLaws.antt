@@ -3,7 +3,7 @@
 use Prim.Native.Nat.{ℕ, zero, suc, _+_, _-_, _≤_, _<_}
 use native.Mathlib.Omega.{arith}
 use native.Mathlib.Nat.{add-zero}
-use mathlib.Core.Path.{_≡_, refl, sym, ap, _∙_}
+use mathlib.Core.Path.{_≡_, refl, sym, ap, subst, _∙_}
 use mathlib.Core.Logic.{_⊎_, inl, inr, ⊎-elim, ⊎-map}
 use mathlib.Core.Bool.{Bool, true, false, cond, not, _&&_, _||_, and-eq-true-iff, or-true, false≢true}
 use mathlib.Core.List.{List, [], _∷_, _++_, append-assoc, append-nil, nil≢cons, tail-eq-of-cons-eq}
@@ -14,13 +14,14 @@ use lib.Seq.{length-take-le, take-all}
 use borrow.Author.Tests.{leb-false, eqb-true, ne-eqb, eq-eqb, lt-leb}
 use Rattle.rules.specs.Numbers.{mostSteps}
 use Rattle.rules.specs.Facts.{by-test}
-use Rattle.rules.specs.Tries.{Row, kindOf, idOf, at, ordered}
+use Rattle.rules.specs.Tries.{Row, kindOf, idOf, at, isEntry, ordered}
 use Rattle.rules.specs.Listing.{_>>=_}
 use Rattle.rules.specs.TrieLaws.{Ordered, ordered-true, true-ordered, length-at, take-above}
 use Rattle.rules.specs.Trips.{EachOf, none-left, and-each, Pairs, no-pair, with, Distinct, nodesAsked, allFields, isPrimary, fieldSteps, placeAt, primaries, mostFields, Primary, rowsBelow, pastRow, pastSubtree, foundIn, BoundedTrips, lastOf, looks, visits, remainingVisits, contextVisits, initialVisits, rowVisits, rowFinds, whenDone, batchVisits, ancestorsVisits, Under, rootUnder, WalkedOnce}
 use Rattle.rules.specs.Values.{Value, plain, extension, entityId, setOf, recordOf, Elements, noElement, element, Attributes, Entity, attributeIn}
 use Rattle.rules.specs.Typing.{isField}
 use Rattle.rules.specs.Loading.{LoadAnswer, done, refusedAt, counted, _then_, Request, EntityRequest, Event, yielded, ancestor, bad, hasFieldChild, hasAncestorsTrie, idsIn, Met, comesTo, comesToNothing, refused14, or14, valueRule, atNode, keptAt, walkNodes, remainingEntities, isContextRoot, inContext, atRoots, initialEntities, batchOf, Loaded, entered, AnswersTaken, takeAnswers, sizeOfAnswer, summed, Load, loadBegun, tripsFor, batchAnswered, afterBatches, loadedAs, withId, Wanted, takeId, takeEvents, isMarked, takeRow, takeRows}
+use Rattle.rules.specs.LoadCalls.{Entry, nodesAhead, entryFor}
 
 -- Each of a list, and each two.
 
@@ -36,6 +37,10 @@ module _ {A : Type 0} where
   each-append : {P : A → Type 0} {xs ys : List A} → EachOf P xs → EachOf P ys → EachOf P (xs ++ ys)
   each-append none-left k = k
   each-append (and-each p h) k = and-each p (each-append h k)
+
+  pub each-left : {P : A → Type 0} (xs ys : List A) → EachOf P (xs ++ ys) → EachOf P xs
+  each-left [] ys h = none-left
+  each-left (x ∷ xs) ys (and-each p h) = and-each p (each-left xs ys h)
 
   each-right : {P : A → Type 0} (xs ys : List A) → EachOf P (xs ++ ys) → EachOf P ys
   each-right [] ys h = h
@@ -59,6 +64,10 @@ module _ {A : Type 0} where
   pairs-map : {R S : A → A → Type 0} {xs : List A} → ((x y : A) → R x y → S x y) → Pairs R xs → Pairs S xs
   pairs-map f no-pair = no-pair
   pairs-map f (with {x = x} r h) = with (each-map (f x) r) (pairs-map f h)
+
+  pub pairs-left : {R : A → A → Type 0} (xs ys : List A) → Pairs R (xs ++ ys) → Pairs R xs
+  pairs-left [] ys h = no-pair
+  pairs-left (x ∷ xs) ys (with r h) = with (each-left xs ys r) (pairs-left xs ys h)
 
   -- two lists one after the other, each by itself and across
   pairs-append :
@@ -571,7 +580,7 @@ module _ {s₀ : List ℕ} {nodes : List Row} where
       → Primary s₀ nodes node
   rest-primary {node} q e = record {
     is-node = drop-inside nodes node (q .rest);
-    recordOf = ap isPrimary (rest-place q) ∙ e;
+    of-fields = ap isPrimary (rest-place q) ∙ e;
   }
 
 rest-first : (s : List ℕ) (nodes : List Row) → Ordered s nodes → Rest s nodes 0 s nodes
@@ -1097,7 +1106,7 @@ batch-found (yielded row ∷ events) rows e = go (batchOf events) (batch-found e
 batch-found (ancestor a ∷ events) rows e = batch-found events rows e
 batch-found (bad ∷ events) rows e = absurd (Option·none-ne-some rows e)
 
-nodes-append : (a b : List EntityRequest) → nodesAsked (a ++ b) ≡ nodesAsked a ++ nodesAsked b
+pub nodes-append : (a b : List EntityRequest) → nodesAsked (a ++ b) ≡ nodesAsked a ++ nodesAsked b
 nodes-append [] b = refl
 nodes-append (x ∷ a) b = ap (λ l. x .node ∷ l) (nodes-append a b)
 
@@ -1167,7 +1176,7 @@ module _ (s₀ : List ℕ) (nodes : List Row) where
             let q = h .stands in
             let next = rest-next q in
             let depth = h .row .depth in
-            let primary : isPrimary (at (h .s) (h .row)) ≡ true = ap isPrimary (sym (rest-place q)) ∙ p .recordOf in
+            let primary : isPrimary (at (h .s) (h .row)) ≡ true = ap isPrimary (sym (rest-place q)) ∙ p .of-fields in
             let walked : remainingEntities nodes w attributes ≡ walkNodes depth (some attributes ∷ []) (suc w) (h .rows) = rw (q .rest, remainingEntities) in
             rw walked
             (each-map
@@ -1398,7 +1407,7 @@ module _ (s₀ : List ℕ) (nodes : List Row) where
       → EachOf (λ w. batches + 2 ≤ length (placeAt s₀ nodes w)) (w ∷ ws)
       → batches ≤ mostFields s₀ nodes
   waiting-few batches ws w (and-each p _) (and-each d _) =
-      omega (arith, most-fields s₀ nodes w (p .is-node) (p .recordOf), length-drop 2 (placeAt s₀ nodes w))
+      omega (arith, most-fields s₀ nodes w (p .is-node) (p .of-fields), length-drop 2 (placeAt s₀ nodes w))
 
   trips-few :
       (batches : ℕ) (waiting : List EntityRequest)
@@ -1520,7 +1529,7 @@ module _ (s : List ℕ) (nodes : List Row) where
       let primary : EachOf (Primary s nodes) (nodesAsked (sofar .asked ++ sofar .waiting)) = rw both (g .primary) in
       let fits =
       count-distinct (λ n. isPrimary (placeAt s nodes n)) (length nodes) (nodesAsked (sofar .asked ++ sofar .waiting)) once
-      (each-map (λ n p. (p .is-node, p .recordOf)) primary) in
+      (each-map (λ n p. (p .is-node, p .of-fields)) primary) in
       let waiting-primary = each-right (nodesAsked (sofar .asked)) (nodesAsked (sofar .waiting)) (g .primary) in
       record {
         once = once;
@@ -1609,6 +1618,39 @@ entry-ordered before entry nodes others e order =
         let place : at s entry ≡ entry .step ∷ [] = rw e in
         front (entry .step ∷ []) nodes (rw place at (o .3))
     go s (row ∷ before) o = go (at s row) before (o .3)
+
+-- so are those of the entry that is found for a request type
+ahead-ordered : (s : List ℕ) (rows : List Row) → Ordered s rows → Ordered s (nodesAhead rows)
+unfolding Ordered nodesAhead
+ahead-ordered s [] o = tt
+ahead-ordered s (row ∷ rows) o =
+    by-test (isEntry row) (λ e. rw e tt) (λ e. rw e (o .0, o .1, o .2, ahead-ordered (at s row) rows (o .3)))
+
+found-ordered :
+    (type n : ℕ) (s : List ℕ) (rows : List Row) (entry : Entry)
+    → Ordered s rows
+    → entryFor type n rows ≡ some entry
+    → Ordered (type ∷ []) (entry .nodes)
+unfolding Ordered entryFor
+found-ordered type n s [] entry o e = absurd (Option·none-ne-some entry e)
+found-ordered type n s (row ∷ rows) entry o e =
+    by-test (isEntry row)
+    (λ t.
+    by-test (eqb (row .step) type)
+    (λ u.
+    let place : at s row ≡ type ∷ [] = rw (eqb-true (row .depth) 0 t, eqb-true (row .step) type u) in
+    let same : record { first = n; nodes = nodesAhead rows } ≡ entry = cc (rw (t, u) at e) in
+    subst (λ (entry : Entry). Ordered (type ∷ []) (entry .nodes)) same (rw place at (ahead-ordered (at s row) rows (o .3))))
+    (λ u. found-ordered type n (at s row) rows entry (o .3) (rw (t, u) at e)))
+    (λ t. found-ordered type (suc n) (at s row) rows entry (o .3) (rw t at e))
+
+pub entry-in-order :
+    (type : ℕ) (manifest : List Row) (entry : Entry)
+    → ordered [] manifest ≡ true
+    → entryFor type 0 manifest ≡ some entry
+    → ordered (type ∷ []) (entry .nodes) ≡ true
+entry-in-order type manifest entry order e =
+    true-ordered (type ∷ []) (entry .nodes) (found-ordered type 0 [] manifest entry (ordered-true [] manifest order) e)
 
 -- The ancestors walk.
 

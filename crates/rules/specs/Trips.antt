@@ -37,7 +37,19 @@ use Rattle.rules.specs.Loading.{
   takeRows,
   batchAnswered,
 }
-use Rattle.rules.specs.LoadCalls.{entryFor}
+use Rattle.rules.specs.LoadCalls.{
+  entryFor,
+  Transcript,
+  workedOut,
+  Counts,
+  Called,
+  beginLoad,
+  handBatch,
+  takeBatch,
+  askAncestors,
+  takeAncestors,
+  resultOf,
+}
 
 -- Each of a list, and each two of a list, the earlier first.
 pub data EachOf {A : Type 0} (P : A → Type 0) : List A → Type 0 where
@@ -109,10 +121,44 @@ boundOf type nodes = record { rows = primaries (type ∷ []) nodes; batches = ba
 unfoldable pub tripBound : List Row → ℕ → TripBound
 tripBound manifest type = elim (entryFor type 0 manifest) [ none ↦ noTrips | some entry ↦ boundOf type (entry .nodes) ]
 
+-- A call of a load that is not refused: the transcript that it leaves, the batches that it hands out, the ancestors calls that it is, and
+-- the counts that it reports. What the store answers is any answers and any sets.
+pub data CallOf (t : Transcript) (load : Load) : Transcript → List (List EntityRequest) → ℕ → Counts → Type 0 where
+  callsBatch : (c : Called (List EntityRequest)) → handBatch t load ≡ done c → CallOf t load (c .left) (c .out ∷ []) 0 (c .counts)
+  callsAnswer :
+      (answers : List (Option Entity)) (c : Called (List EntityRequest))
+      → takeBatch t load answers ≡ done c
+      → CallOf t load (c .left) [] 0 (c .counts)
+  callsAncestors : (c : Called (List (List ℕ))) → askAncestors t load ≡ done c → CallOf t load (c .left) [] 1 (c .counts)
+  callsAncestorsAnswer : (sets : List (List ℕ)) (c : Called ℕ) → takeAncestors t load sets ≡ done c → CallOf t load (c .left) [] 0 (c .counts)
+  callsResult : (c : Called (List Loaded)) → resultOf t load ≡ done c → CallOf t load (c .left) [] 0 (c .counts)
+
+-- The course of a load for a request, from begin on, call after call, as far as it has come: the batches handed out, the ancestors calls
+-- made, and the counts last reported. A refused call changes nothing, so what it may follow is a course too.
+pub data Course (manifest : List Row) (request : Request) : Transcript → List (List EntityRequest) → ℕ → Counts → Type 0 where
+  begun : (t : Transcript) → beginLoad manifest request ≡ done t → Course manifest request t [] 0 (record { batches = 0; rows = 0 })
+  goes-on :
+      {t u : Transcript} {load : Load} {handed more : List (List EntityRequest)} {calls call : ℕ} {told tells : Counts}
+      → Course manifest request t handed calls told
+      → workedOut t ≡ done load
+      → CallOf t load u more call tells
+      → Course manifest request u (handed ++ more) (calls + call) tells
+
+-- all rows of some batches
+unfoldable pub rowsHanded : List (List EntityRequest) → List EntityRequest
+rowsHanded [] = []
+rowsHanded (rows ∷ batches) = rows ++ rowsHanded batches
+
+-- what has been asked is within a bound
+pub record WithinBound (bound : TripBound) (handed : List (List EntityRequest)) (calls : ℕ) : Type 0 where
+  pub rows : length (rowsHanded handed) ≤ bound .rows
+  pub batches : length handed ≤ bound .batches
+  pub ancestors : calls ≤ bound .ancestors
+
 -- a number is that of a primary node
 pub record Primary (s : List ℕ) (nodes : List Row) (n : ℕ) : Type 0 where
   pub is-node : n < length nodes
-  pub recordOf : isPrimary (placeAt s nodes n) ≡ true
+  pub of-fields : isPrimary (placeAt s nodes n) ≡ true
 
 -- What K10 promises of a load that has come so far, for any answers: no node has yielded two rows, and every row's node is a primary
 -- one; rows asked, with those that wait, are at most the primary nodes; batches asked, with the one that waits, are at most one more
