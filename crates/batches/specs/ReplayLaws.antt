@@ -34,6 +34,7 @@ use Rattle.rules.specs.Loading.{
   sizeOfAnswer,
 }
 use Rattle.rules.specs.LoadCalls.{afterAnswers}
+use Rattle.rules.specs.CourseLaws.{after-none}
 use Rattle.rules.specs.LoadLaws.{rows-fit, going-begun, going-answered}
 use Rattle.rules.specs.SliceLaws.{answersTo, LoadOf, batch-slice, load-slice}
 use Rattle.rules.specs.TripLaws.{GoingLoad}
@@ -210,11 +211,6 @@ module _ (nodes : List Row) where
   after-batch (suc left) load answers some-left h =
       let one : suc left - 1 ≡ left = omega arith in
       rw (one, ne-eqb (length answers) 0 (λ z. omega arith))
-
-  pub after-none : (left : ℕ) (load : Load) → afterAnswers left nodes load [] ≡ done load
-  unfolding afterAnswers
-  after-none zero load = refl
-  after-none (suc left) load = refl
 
 -- The ids of what is found are small, so a batch is read back from its words.
 

@@ -43,7 +43,7 @@ use Rattle.rules.specs.LoadCalls.{
   resultOf,
 }
 use Rattle.rules.specs.SliceLaws.{then-done}
-use Rattle.rules.specs.Trips.{CallOf, callsBatch, callsAnswer, callsAncestors, callsAncestorsAnswer, callsResult, Course, begun, goes-on, rowsHanded, nodesAsked, Distinct, EachOf, Primary, BoundedTrips, TripBound, batchBound, boundOf, noTrips, tripBound, mostFields, primaries, WithinBound}
+use Rattle.rules.specs.Trips.{CallOf, callsBatch, callsAnswer, callsAncestors, callsAncestorsAnswer, callsResult, Course, begun, goes-on, rowsHanded, nodesAsked, Distinct, EachOf, Primary, BoundedTrips, TripBound, batchBound, boundOf, noTrips, tripBound, mostFields, primaries, WithinBound, CountsWithin}
 use Rattle.rules.specs.TripLaws.{GoingLoad, is-answered, going-bounded, no-batches, entry-in-order, each-left, pairs-left, nodes-append}
 use Rattle.rules.specs.LoadLaws.{going-begun, going-answered}
 
@@ -228,7 +228,7 @@ module _ (t : Transcript) (load : Load) where
 -- A load worked out again, with one batch more answered, is the load with that batch answered.
 
 module _ (nodes : List Row) where
-  after-none : (left : ℕ) (load : Load) → afterAnswers left nodes load [] ≡ done load
+  pub after-none : (left : ℕ) (load : Load) → afterAnswers left nodes load [] ≡ done load
   unfolding afterAnswers
   after-none zero load = refl
   after-none (suc left) load = refl
@@ -317,16 +317,19 @@ Stands all ancestorsAwaited load handed calls =
 Stands all ended load handed calls =
     (load .waiting ≡ []) × handedSo (load .asked) (load .batches) handed × (calls ≡ all) × (all ≤ 1)
 
-record StandsAt (all : ℕ) (request : Request) (nodes : List Row) (t : Transcript) (handed : List (List EntityRequest)) (calls : ℕ) (told : Counts) : Type 0 where
-  load : Load
-  asks-for : t .request ≡ request
-  of-nodes : t .nodes ≡ nodes
-  works-out : workedOut t ≡ done load
-  going : ordered (request .type ∷ []) nodes ≡ true → GoingLoad (request .type ∷ []) nodes load
-  row-count : load .rows ≡ length (load .asked)
-  stands : Stands all (t .turn) load handed calls
-  told-batches : told .batches ≡ length handed
-  told-rows : told .rows ≡ length (rowsHanded handed)
+record StandsAt
+    (all : ℕ) (request : Request) (nodes : List Row) (t : Transcript) (handed : List (List EntityRequest)) (calls : ℕ) (told : Counts)
+    : Type 0
+  where
+    load : Load
+    asks-for : t .request ≡ request
+    of-nodes : t .nodes ≡ nodes
+    works-out : workedOut t ≡ done load
+    going : ordered (request .type ∷ []) nodes ≡ true → GoingLoad (request .type ∷ []) nodes load
+    row-count : load .rows ≡ length (load .asked)
+    stands : Stands all (t .turn) load handed calls
+    told-batches : told .batches ≡ length handed
+    told-rows : told .rows ≡ length (rowsHanded handed)
 
 -- what is handed out next comes behind
 handed-more : (handed : List (List EntityRequest)) (rows : List EntityRequest) → rowsHanded (handed ++ (rows ∷ [])) ≡ rowsHanded handed ++ rows
@@ -491,8 +494,10 @@ module _ (all : ℕ) (request : Request) (nodes : List Row) (t : Transcript) (ha
     hand-stands c e =
         let (turn, is) = hand-done t load c e in
         let (waits, so, none-made, one) = rw (turn, same-load) at (h .stands) in
-        let rows : rowsHanded (handed ++ (load .waiting ∷ [])) ≡ load .asked ++ load .waiting = handed-more handed (load .waiting) ∙ ap (λ asked. asked ++ load .waiting) (so .0) in
-        let batches : length (handed ++ (load .waiting ∷ [])) ≡ suc (load .batches) = omega (arith, so .1, length-append handed (load .waiting ∷ [])) in
+        let rows : rowsHanded (handed ++ (load .waiting ∷ [])) ≡ load .asked ++ load .waiting =
+        handed-more handed (load .waiting) ∙ ap (λ asked. asked ++ load .waiting) (so .0) in
+        let batches : length (handed ++ (load .waiting ∷ [])) ≡ suc (load .batches) =
+        omega (arith, so .1, length-append handed (load .waiting ∷ [])) in
         rw is (record {
           load = load;
           asks-for = h .asks-for;
@@ -666,58 +671,130 @@ module _
     {manifest : List Row} {request : Request} {t : Transcript} {handed : List (List EntityRequest)} {calls : ℕ} {told : Counts}
     (course : Course manifest request t handed calls told)
   where
-  abbrev entry : Option Entry
-  entry = entryFor (request .type) 0 manifest
+    abbrev entry : Option Entry
+    entry = entryFor (request .type) 0 manifest
 
-  at-last : StandsAt (callsFor entry) request (nodesOf entry) t handed calls told
-  at-last = course-stands course
+    at-last : StandsAt (callsFor entry) request (nodesOf entry) t handed calls told
+    at-last = course-stands course
 
-  pub course-told : (told .batches ≡ length handed) × (told .rows ≡ length (rowsHanded handed))
-  course-told = (at-last .told-batches, at-last .told-rows)
+    pub course-told : (told .batches ≡ length handed) × (told .rows ≡ length (rowsHanded handed))
+    course-told = (at-last .told-batches, at-last .told-rows)
 
-  -- once it has ended, all ancestors calls were made
-  pub course-ended : t .turn ≡ ended → calls ≡ tripBound manifest (request .type) .ancestors
-  course-ended e =
-      all-made (callsFor entry) (t .turn) (at-last .load) handed calls (at-last .stands) e
-      ∙ ap (λ (b : TripBound). b .ancestors) (sym (bound-by (request .type) manifest))
+    -- once it has ended, all ancestors calls were made
+    pub course-ended : t .turn ≡ ended → calls ≡ tripBound manifest (request .type) .ancestors
+    course-ended e =
+        all-made (callsFor entry) (t .turn) (at-last .load) handed calls (at-last .stands) e
+        ∙ ap (λ (b : TripBound). b .ancestors) (sym (bound-by (request .type) manifest))
 
-  module _ (order : ordered [] manifest ≡ true) where
-    bounds : BoundedTrips (request .type ∷ []) (nodesOf entry) (at-last .load)
-    bounds =
-        going-bounded (request .type ∷ []) (nodesOf entry) (at-last .load)
-        (at-last .going (nodes-in-order (request .type) manifest entry order refl))
+    module _ (order : ordered [] manifest ≡ true) where
+      bounds : BoundedTrips (request .type ∷ []) (nodesOf entry) (at-last .load)
+      bounds =
+          going-bounded (request .type ∷ []) (nodesOf entry) (at-last .load)
+          (at-last .going (nodes-in-order (request .type) manifest entry order refl))
 
-    pub course-bound : WithinBound (tripBound manifest (request .type)) handed calls
-    course-bound =
-        let (rows, batches, few) = so-far (callsFor entry) (t .turn) (at-last .load) handed calls (at-last .stands) in
-        rw (bound-by (request .type) manifest) (record {
-          rows =
-              ⊎-elim
-              (λ e. omega (arith, ap length e, bounds .all-rows, at-last .row-count))
-              (λ e.
-              omega (
-                arith,
-                ap length e,
-                length-append (at-last .load .asked) (at-last .load .waiting),
-                bounds .all-rows,
-                at-last .row-count,
-              ))
-              rows;
-          batches = omega (arith, batches, batches-within (request .type ∷ []) (nodesOf entry) (at-last .load) bounds);
-          ancestors = few;
-        })
+      pub course-bound : WithinBound (tripBound manifest (request .type)) handed calls
+      course-bound =
+          let (rows, batches, few) = so-far (callsFor entry) (t .turn) (at-last .load) handed calls (at-last .stands) in
+          rw (bound-by (request .type) manifest) (record {
+            rows =
+                ⊎-elim
+                (λ e. omega (arith, ap length e, bounds .all-rows, at-last .row-count))
+                (λ e.
+                omega (
+                  arith,
+                  ap length e,
+                  length-append (at-last .load .asked) (at-last .load .waiting),
+                  bounds .all-rows,
+                  at-last .row-count,
+                ))
+                rows;
+            batches = omega (arith, batches, batches-within (request .type ∷ []) (nodesOf entry) (at-last .load) bounds);
+            ancestors = few;
+          })
 
-    -- the rows handed out are of different nodes, all of them primary ones
-    pub course-nodes :
-        Distinct (nodesAsked (rowsHanded handed))
-        × EachOf (Primary (request .type ∷ []) (nodesOf entry)) (nodesAsked (rowsHanded handed))
-    course-nodes =
-        let (rows, batches, few) = so-far (callsFor entry) (t .turn) (at-last .load) handed calls (at-last .stands) in
-        let asked = at-last .load .asked in
-        let waiting = at-last .load .waiting in
-        let once = rw (nodes-append asked waiting) at (bounds .once) in
-        let primary = rw (nodes-append asked waiting) at (bounds .primary) in
-        ⊎-elim
-        (λ e. rw e (pairs-left (nodesAsked asked) (nodesAsked waiting) once, each-left (nodesAsked asked) (nodesAsked waiting) primary))
-        (λ e. rw e (bounds .once, bounds .primary))
-        rows
+      -- the rows handed out are of different nodes, all of them primary ones
+      pub course-nodes :
+          Distinct (nodesAsked (rowsHanded handed))
+          × EachOf (Primary (request .type ∷ []) (nodesOf entry)) (nodesAsked (rowsHanded handed))
+      course-nodes =
+          let (rows, batches, few) = so-far (callsFor entry) (t .turn) (at-last .load) handed calls (at-last .stands) in
+          let asked = at-last .load .asked in
+          let waiting = at-last .load .waiting in
+          let once = rw (nodes-append asked waiting) at (bounds .once) in
+          let primary = rw (nodes-append asked waiting) at (bounds .primary) in
+          ⊎-elim
+          (λ e. rw e (pairs-left (nodesAsked asked) (nodesAsked waiting) once, each-left (nodesAsked asked) (nodesAsked waiting) primary))
+          (λ e. rw e (bounds .once, bounds .primary))
+          rows
+
+-- Any transcript: what a call on it reports.
+
+module _ (s : List ℕ) (nodes : List Row) (order : ordered s nodes ≡ true) where
+  -- a load that goes on does so after more answers
+  going-answers :
+      (left : ℕ) (load last : Load) (answers : List (Option Entity))
+      → GoingLoad s nodes load
+      → afterAnswers left nodes load answers ≡ done last
+      → GoingLoad s nodes last
+  unfolding afterAnswers
+  going-answers zero load last [] g e = rw (done-same e) at g
+  going-answers zero load last (answer ∷ answers) g e =
+      let z : _≡_ {A = ℕ} 0 1 = cc (rw (ne-eqb (length (answer ∷ answers)) 0 (λ z. omega arith)) at e) in absurd (omega arith)
+  going-answers (suc left) load last [] g e = rw (done-same e) at g
+  going-answers (suc left) load last (answer ∷ answers) g e =
+      let n : ℕ = length (load .waiting) in
+      let (next, first, rest) =
+      then-done (batchAnswered nodes load (take n (answer ∷ answers)))
+      (λ next. afterAnswers left nodes next (drop n (answer ∷ answers)))
+      (rw (ne-eqb (length (answer ∷ answers)) 0 (λ z. omega arith)) at e) in
+      going-answers left next last (drop n (answer ∷ answers)) (going-answered s nodes order load (take n (answer ∷ answers)) next g first) rest
+
+-- the counts of a load that goes on
+counts-within :
+    (type : ℕ) (nodes : List Row) (turn : Turn) (load : Load)
+    → GoingLoad (type ∷ []) nodes load
+    → CountsWithin (boundOf type nodes) (countsAt turn load)
+counts-within type nodes turn load g = go turn
+  where
+    b : BoundedTrips (type ∷ []) nodes load
+    b = going-bounded (type ∷ []) nodes load g
+
+    few : load .batches + tripsFor (load .waiting) ≤ batchBound (type ∷ []) nodes
+    few = batches-within (type ∷ []) nodes load b
+
+    now : CountsWithin (boundOf type nodes) (record { batches = load .batches; rows = load .rows })
+    now = (omega (arith, few), omega (arith, b .all-rows))
+
+    go : (turn : Turn) → CountsWithin (boundOf type nodes) (countsAt turn load)
+    go batchWaits = now
+    go answersAwaited = (few, b .all-rows)
+    go ancestorsToAsk = now
+    go ancestorsAwaited = now
+    go ended = now
+
+module _ (t : Transcript) (load : Load) (order : ordered (t .request .type ∷ []) (t .nodes) ≡ true) (worked : workedOut t ≡ done load) where
+  worked-going : GoingLoad (t .request .type ∷ []) (t .nodes) load
+  worked-going =
+      let (first, is, rest) =
+      then-done (loadBegun (t .request) (t .nodes))
+      (λ load. afterAnswers (length (t .answers)) (t .nodes) load (t .answers)) worked in
+      going-answers (t .request .type ∷ []) (t .nodes) order (length (t .answers)) first load (t .answers)
+      (going-begun (t .request .type ∷ []) (t .nodes) order (t .request) first is) rest
+
+  pub call-within :
+      {u : Transcript} {more : List (List EntityRequest)} {call : ℕ} {tells : Counts}
+      → CallOf t load u more call tells
+      → CountsWithin (boundOf (t .request .type) (t .nodes)) tells
+  call-within (callsBatch c e) =
+      rw (hand-done t load c e .1) (counts-within (t .request .type) (t .nodes) answersAwaited load worked-going)
+  call-within (callsAnswer answers c e) =
+      let (turn, next, taken, is) = take-done t load answers c e in
+      rw is
+      (counts-within (t .request .type) (t .nodes) (turnFor next) next
+      (going-answered (t .request .type ∷ []) (t .nodes) order load answers next worked-going taken))
+  call-within (callsAncestors c e) =
+      rw (ask-done t load c e .2) (counts-within (t .request .type) (t .nodes) ancestorsAwaited load worked-going)
+  call-within (callsAncestorsAnswer sets c e) =
+      rw (sets-done t load sets c e .2) (counts-within (t .request .type) (t .nodes) ended load worked-going)
+  call-within (callsResult c e) =
+      rw (result-done t load c e .2) (counts-within (t .request .type) (t .nodes) ended load worked-going)

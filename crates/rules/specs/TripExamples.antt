@@ -41,7 +41,7 @@ use Rattle.rules.specs.Loading.{
   takeBatches,
   withId,
 }
-use Rattle.rules.specs.LoadCalls.{nodesAhead, entryFor, ended, Transcript, transcript, afterAnswers, Called}
+use Rattle.rules.specs.LoadCalls.{nodesAhead, entryFor, ancestorsToAsk, ended, Transcript, transcript, afterAnswers, Called}
 use Rattle.rules.specs.Trips.{
   allFields,
   primaries,
@@ -58,8 +58,8 @@ use Rattle.rules.specs.Trips.{
   goes-on,
 }
 
--- The clinic's entry: principal.1, 7.2, resource.3, and `principal in resource.3`, whose two nodes are of an ancestors trie. Before it an entry
--- of two nodes stands, and behind it one with none.
+-- The clinic's entry: principal.1, 7.2, resource.3, and `principal in resource.3`, whose two nodes are of an ancestors trie. Before it
+-- an entry of two nodes stands, and behind it one with none.
 abbrev nodes : List Row
 nodes =
     read 1 (stepOf 1 0) false
@@ -118,16 +118,19 @@ answers = naming 1 30 ∷ naming 3 31 ∷ naming 2 32 ∷ []
 abbrev absent : List (Option Entity)
 absent = none ∷ none ∷ none ∷ []
 
-pub both-reached :
-    Course manifest request
-    (transcript ended request 2 nodes (answers ++ absent) [])
-    (first-batch ∷ second-batch ∷ [])
-    1
-    (record { batches = 2; rows = 6 })
+-- so far: both batches handed out and answered
+abbrev reached : Transcript → ℕ → Type 0
+reached t calls = Course manifest request t (first-batch ∷ second-batch ∷ []) calls (record { batches = 2; rows = 6 })
+
+both-answered : reached (transcript ancestorsToAsk request 2 nodes (answers ++ absent) []) 0
+unfolding nodesAhead entryFor walkNodes keptAt hasChild inContext atRoots batchOf attributeIn afterAnswers takeAnswers summed entered putAttribute mergedValues mergedAttributes spelled spelledElements spelledAttributes valuesIn valuesInElements valuesInAttributes sameList
+both-answered =
+    let one = goes-on (begun _ refl) refl (callsBatch _ refl) in
+    let two = goes-on one refl (callsAnswer answers _ refl) in
+    let three = goes-on two refl (callsBatch _ refl) in
+    goes-on three refl (callsAnswer absent _ refl)
+
+-- and then the ancestors call
+pub both-reached : reached (transcript ended request 2 nodes (answers ++ absent) []) 1
 unfolding nodesAhead entryFor walkNodes keptAt hasChild inContext atRoots batchOf attributeIn afterAnswers takeAnswers summed entered putAttribute mergedValues mergedAttributes spelled spelledElements spelledAttributes valuesIn valuesInElements valuesInAttributes sameList ancestorsRequests takeEvents takeRows takeBatches withId loadedAs
-both-reached =
-    goes-on
-    (goes-on
-    (goes-on (goes-on (goes-on (goes-on (begun _ refl) refl (callsBatch _ refl)) refl (callsAnswer answers _ refl)) refl (callsBatch _ refl)) refl (callsAnswer absent _ refl))
-    refl (callsAncestors _ refl))
-    refl (callsAncestorsAnswer [] _ refl)
+both-reached = goes-on (goes-on both-answered refl (callsAncestors _ refl)) refl (callsAncestorsAnswer [] _ refl)

@@ -1,5 +1,5 @@
 -- Laws of trips (Trips, Loading), K10: no node yields two rows, rows are at most the primary nodes, batches at most one more than the
--- most field steps. Of this file a contract cites `Waits` alone, of a function that is not public.
+-- most field steps. Of this file a contract cites `Waits` alone, of a function that is not public. TripTheorems has what is promised.
 use Prim.Native.Nat.{ℕ, zero, suc, _+_, _-_, _≤_, _<_}
 use native.Mathlib.Omega.{arith}
 use native.Mathlib.Nat.{add-zero}
@@ -17,11 +17,12 @@ use Rattle.rules.specs.Facts.{by-test}
 use Rattle.rules.specs.Tries.{Row, kindOf, idOf, at, isEntry, ordered}
 use Rattle.rules.specs.Listing.{_>>=_}
 use Rattle.rules.specs.TrieLaws.{Ordered, ordered-true, true-ordered, length-at, take-above}
-use Rattle.rules.specs.Trips.{EachOf, none-left, and-each, Pairs, no-pair, with, Distinct, nodesAsked, allFields, isPrimary, fieldSteps, placeAt, primaries, mostFields, Primary, rowsBelow, pastRow, pastSubtree, foundIn, BoundedTrips, lastOf, looks, visits, remainingVisits, contextVisits, initialVisits, rowVisits, rowFinds, whenDone, batchVisits, ancestorsVisits, Under, rootUnder, WalkedOnce}
+use Rattle.rules.specs.Trips.{EachOf, none-left, and-each, Pairs, no-pair, with, Distinct, nodesAsked, allFields, isPrimary, fieldSteps, placeAt, primaries, mostFields, Primary, rowsBelow, pastRow, pastSubtree, foundIn, BoundedTrips, looks, visits, remainingVisits, contextVisits, initialVisits, rowVisits, rowFinds, whenDone, batchVisits, ancestorsVisits, Under, rootUnder, WalkedOnce}
 use Rattle.rules.specs.Values.{Value, plain, extension, entityId, setOf, recordOf, Elements, noElement, element, Attributes, Entity, attributeIn}
 use Rattle.rules.specs.Typing.{isField}
 use Rattle.rules.specs.Loading.{LoadAnswer, done, refusedAt, counted, _then_, Request, EntityRequest, Event, yielded, ancestor, bad, hasFieldChild, hasAncestorsTrie, idsIn, Met, comesTo, comesToNothing, refused14, or14, valueRule, atNode, keptAt, walkNodes, remainingEntities, isContextRoot, inContext, atRoots, initialEntities, batchOf, Loaded, entered, AnswersTaken, takeAnswers, sizeOfAnswer, summed, Load, loadBegun, tripsFor, batchAnswered, afterBatches, loadedAs, withId, Wanted, takeId, takeEvents, isMarked, takeRow, takeRows}
 use Rattle.rules.specs.LoadCalls.{Entry, nodesAhead, entryFor}
+use Rattle.rules.specs.SliceLaws.{then-done}
 
 -- Each of a list, and each two.
 
@@ -1499,26 +1500,6 @@ module _ (s₀ : List ℕ) (nodes : List Row) where
         go (refusedAt a b) h now e = let z : _≡_ {A = ℕ} 0 1 = cc in absurd (omega arith)
         go (counted a b) h now e = let z : _≡_ {A = ℕ} 0 1 = cc in absurd (omega arith)
 
-    going-last : (before : Load) (batches : List (List (Option Entity))) → GoingLoad before → GoingLoad (lastOf nodes before batches)
-    unfolding lastOf
-    going-last before [] g = g
-    going-last before (answers ∷ batches) g =
-        go (batchAnswered nodes before answers)
-        (λ next e. going-last next batches (going-next before answers next g (is-answered nodes before answers next e)))
-      where
-        go :
-            (o : LoadAnswer Load)
-            → ((next : Load) → o ≡ done next → GoingLoad (lastOf nodes next batches))
-            → GoingLoad
-            (elim o [
-              | done next ↦ lastOf nodes next batches
-              | refusedAt number place ↦ before
-              | counted expected got ↦ before
-            ])
-        go (done next) h = h next refl
-        go (refusedAt number place) h = g
-        go (counted expected got) h = g
-
 -- The promise.
 
 module _ (s : List ℕ) (nodes : List Row) where
@@ -1556,39 +1537,6 @@ module _ (s : List ℕ) (nodes : List Row) where
   bounded request batches sofar order e =
       let o = ordered-true s nodes order in
       going-bounded sofar (going-after s nodes o (loadBegun request nodes) batches sofar (going-first s nodes o request) e)
-
-  -- the same at the last answers before a refusal, or at the end
-  pub bounded-last :
-      (request : Request) (batches : List (List (Option Entity))) (first : Load)
-      → ordered s nodes ≡ true
-      → loadBegun request nodes ≡ done first
-      → BoundedTrips s nodes (lastOf nodes first batches)
-  bounded-last request batches first order e =
-      let o = ordered-true s nodes order in
-      going-bounded (lastOf nodes first batches) (going-last s nodes o first batches (going-first s nodes o request first e))
-
--- rows alone, and batches alone
-pub rows-bounded : {s : List ℕ} {nodes : List Row} {sofar : Load} → BoundedTrips s nodes sofar → sofar .rows ≤ primaries s nodes
-rows-bounded b = omega (arith, b .all-rows)
-
-pub batches-bounded : {s : List ℕ} {nodes : List Row} {sofar : Load} → BoundedTrips s nodes sofar → sofar .batches ≤ mostFields s nodes + 1
-batches-bounded b = omega (arith, b .all-batches)
-
--- where rows still wait, one less
-pub waiting-bounded :
-    {s : List ℕ} {nodes : List Row} {sofar : Load}
-    → BoundedTrips s nodes sofar
-    → (sofar .waiting ≡ [] → ⊥)
-    → sofar .batches ≤ mostFields s nodes
-waiting-bounded {s} {nodes} {sofar} b h = go (sofar .waiting) h (b .all-batches)
-  where
-    go :
-        (rows : List EntityRequest)
-        → (rows ≡ [] → ⊥)
-        → sofar .batches + tripsFor rows ≤ mostFields s nodes + 1
-        → sofar .batches ≤ mostFields s nodes
-    go [] h le = absurd (h refl)
-    go (row ∷ rows) h le = omega arith
 
 -- 'with an empty one, there are no batches'
 pub no-batches : {s : List ℕ} {sofar : Load} → BoundedTrips s [] sofar → (sofar .batches ≡ 0) × (sofar .rows ≡ 0) × (sofar .waiting ≡ [])
@@ -1790,13 +1738,6 @@ looking-next {nodes} {depth} {from} {to} l s =
       wait-in = gains-each (each-map is-node (l .wait-in)) (steps-gains s);
     }
 
--- a call that is done had its first part done
-then-done :
-    {A B : Type 0} (o : LoadAnswer A) (next : A → LoadAnswer B) (b : B) → (o then next) ≡ done b → (a : A) × (o ≡ done a) × (next a ≡ done b)
-then-done (done a) next b e = (a, refl, e)
-then-done (refusedAt n p) next b e = let z : _≡_ {A = ℕ} 0 1 = cc in absurd (omega arith)
-then-done (counted n p) next b e = let z : _≡_ {A = ℕ} 0 1 = cc in absurd (omega arith)
-
 -- an id is no row
 take-id : (place e : ℕ) (wanted now : Wanted) → takeId place e wanted ≡ done now → now .next ≡ wanted .next
 take-id place e wanted now h = go (ltb 256 (length (withId e (wanted .ids)))) h
@@ -1818,7 +1759,7 @@ take-events place (yielded row ∷ events) wanted now h =
     take-events place events (record { ids = wanted .ids; next = wanted .next ++ (row ∷ []) }) now h
     ∙ rw (nodes-append (wanted .next) (row ∷ []), append-assoc)
 take-events place (ancestor e ∷ events) wanted now h =
-    let (more, first, rest) = then-done (takeId place e wanted) (takeEvents place events) now h in
+    let (more, first, rest) = then-done (takeId place e wanted) (takeEvents place events) h in
     take-events place events more now rest ∙ rw (take-id place e wanted more first)
 take-events place (bad ∷ events) wanted now h = let z : _≡_ {A = ℕ} 0 1 = cc in absurd (omega arith)
 
@@ -1843,7 +1784,7 @@ module _ (nodes : List Row) (slice : List Loaded) where
   unfolding takeRows rowFinds
   take-rows place [] wanted now h = let same : wanted ≡ now = cc in rw (← same, append-nil)
   take-rows place (row ∷ rows) wanted now h =
-      let (more, first, rest) = then-done (takeRow nodes slice place row wanted) (takeRows nodes slice place rows) now h in
+      let (more, first, rest) = then-done (takeRow nodes slice place row wanted) (takeRows nodes slice place rows) h in
       take-rows place rows more now rest ∙ rw (one more first, append-assoc)
     where
       marks : (t : Bool) (w : Wanted) → cond t (takeId place (row .id) wanted) (done wanted) ≡ done w → w .next ≡ wanted .next
@@ -1872,7 +1813,7 @@ module _ (nodes : List Row) (slice : List Loaded) where
             | none ↦ done more
             | some value ↦ takeEvents place (remainingEntities nodes (row .node) (value .attributes)) more
           ])
-          more e in
+          e in
           children (loadedAs (row .id) slice) w more rest ∙ rw (marks (isMarked nodes (row .node)) w first)
 
   -- batch by batch

@@ -1,7 +1,8 @@
--- Change request K10, 'Promise me the number of trips': what is promised of every load, on the definitions of Trips, Loading and LoadCalls. Only
--- the statements need be read. `Course manifest request t handed calls told` says that a load for the request has come to the transcript t by
--- calls that were not refused, whatever the store answered: `handed` are the batches that it handed out, `calls` is how many ancestors calls it
--- made, and `told` the counts that the last call reported. A call that is refused changes nothing, so all this holds up to a refusal too.
+-- Change request K10, 'Promise me the number of trips': what is promised of every load, on the definitions of Trips, Loading and
+-- LoadCalls. Only the statements need be read. `Course manifest request t handed calls told` says that a load for the request has come to the
+-- transcript t by calls that were not refused, whatever the store answered: `handed` are the batches that it handed out, `calls` is how
+-- many ancestors calls it made, and `told` the counts that the last call reported. A call that is refused changes nothing, so all this
+-- holds up to a refusal too.
 use Prim.Native.Nat.{ℕ, _≤_}
 use native.Mathlib.Omega.{arith}
 use mathlib.Core.Path.{_≡_, refl, ap}
@@ -10,9 +11,10 @@ use mathlib.Core.List.{List, [], _∷_}
 use mathlib.Core.Option.{none, some}
 use lib.ListN.{length}
 use Rattle.rules.specs.Tries.{Row, ordered}
-use Rattle.rules.specs.Loading.{Request, EntityRequest, Loaded}
-use Rattle.rules.specs.LoadCalls.{Entry, entryFor, Transcript, ended, Counts}
+use Rattle.rules.specs.Loading.{done, Request, EntityRequest, Load, Loaded}
+use Rattle.rules.specs.LoadCalls.{Entry, entryFor, Transcript, workedOut, ended, Counts}
 use Rattle.rules.specs.Trips.{
+  CallOf,
   Course,
   rowsHanded,
   nodesAsked,
@@ -22,13 +24,15 @@ use Rattle.rules.specs.Trips.{
   primaries,
   batchBound,
   TripBound,
+  boundOf,
   tripBound,
   WithinBound,
+  CountsWithin,
   WalkedOnce,
   ancestorsVisits,
 }
 use Rattle.rules.specs.TripLaws.{ancestors-once}
-use Rattle.rules.specs.CourseLaws.{course-told, course-ended, course-bound, course-nodes}
+use Rattle.rules.specs.CourseLaws.{course-told, course-ended, course-bound, course-nodes, call-within}
 
 none-handed : (handed : List (List EntityRequest)) → length handed ≤ 0 → handed ≡ []
 none-handed [] h = refl
@@ -73,7 +77,18 @@ module _ {manifest : List Row} {request : Request} {t : Transcript} {handed : Li
       Course manifest request t handed calls told → t .turn ≡ ended → calls ≡ tripBound manifest (request .type) .ancestors
   ancestors-call-made course over = course-ended course over
 
--- 6. 'One ancestors walk visits no node of its ancestors trie twice', for any nodes, loaded entities and request.
+-- 6. Whatever transcript a call is made on, a forged one too: where it tells of a load, the counts that the call reports are within the
+-- bound of the nodes that the transcript holds.
+pub reported-within :
+    (t : Transcript) (load : Load)
+    → ordered (t .request .type ∷ []) (t .nodes) ≡ true
+    → workedOut t ≡ done load
+    → {u : Transcript} {more : List (List EntityRequest)} {call : ℕ} {tells : Counts}
+    → CallOf t load u more call tells
+    → CountsWithin (boundOf (t .request .type) (t .nodes)) tells
+reported-within t load order worked call = call-within t load order worked call
+
+-- 7. 'One ancestors walk visits no node of its ancestors trie twice', for any nodes, loaded entities and request.
 pub no-ancestors-node-twice :
     (request : Request) (nodes : List Row) (slice : List Loaded) (place : ℕ) (row : EntityRequest)
     → WalkedOnce nodes (row .node) (ancestorsVisits request nodes slice place row)

@@ -155,6 +155,10 @@ pub record WithinBound (bound : TripBound) (handed : List (List EntityRequest)) 
   pub batches : length handed ≤ bound .batches
   pub ancestors : calls ≤ bound .ancestors
 
+-- and so are the counts that a call reports
+abbrev pub CountsWithin : TripBound → Counts → Type 0
+CountsWithin bound counts = (counts .batches ≤ bound .batches) × (counts .rows ≤ bound .rows)
+
 -- a number is that of a primary node
 pub record Primary (s : List ℕ) (nodes : List Row) (n : ℕ) : Type 0 where
   pub is-node : n < length nodes
@@ -169,16 +173,6 @@ pub record BoundedTrips (s : List ℕ) (nodes : List Row) (sofar : Load) : Type 
   pub all-rows : sofar .rows + length (sofar .waiting) ≤ primaries s nodes
   pub all-batches : sofar .batches + tripsFor (sofar .waiting) ≤ mostFields s nodes + 1
   pub rows-each : sofar .batches + tripsFor (sofar .waiting) ≤ sofar .rows + length (sofar .waiting)
-
--- Where a load has come to with the last answers that are not refused: what waits there has been asked when a refusal comes.
-unfoldable pub lastOf : List Row → Load → List (List (Option Entity)) → Load
-lastOf nodes sofar [] = sofar
-lastOf nodes sofar (answers ∷ batches) =
-    elim (batchAnswered nodes sofar answers) [
-      | done next ↦ lastOf nodes next batches
-      | refusedAt number place ↦ sofar
-      | counted expected got ↦ sofar
-    ]
 
 -- How many of some rows lie below a depth, before the first that does not; and the number after a node's subtree.
 unfoldable pub rowsBelow : ℕ → List Row → ℕ
