@@ -8,7 +8,7 @@ use mathlib.Core.List.{List, [], _∷_, _++_, append-nil}
 use mathlib.Core.Option.{Option, none, some}
 use lib.Dec.{leb, ltb, eqb}
 use lib.ListN.{length, take, drop, getD, length-take, length-drop}
-use lib.Seq.{drop-drop}
+use lib.Seq.{drop-drop, getD-take, getD-drop}
 use borrow.Author.Tests.{ltb-true, ltb-false, eqb-true, eqb-false, eq-eqb, ne-eqb}
 use Rattle.rules.specs.Facts.{by-test, both-true}
 use Rattle.rules.specs.Numbers.{Answer, accepted, refused}
@@ -230,9 +230,9 @@ has-scratch Sets words levels h = tt
 entry-nodes :
     (words : List ℕ)
     → lawfulEntry words ≡ true
-    → ((s : List ℕ) × (ordered s (rowsOf (drop 1 words)) ≡ true)) × (entriesIn (rowsOf (drop 1 words)) ≡ 0)
+    → (ordered (stepIn (getD words 0 0) ∷ []) (rowsOf (drop 1 words)) ≡ true) × (entriesIn (rowsOf (drop 1 words)) ≡ 0)
 unfolding lawfulEntry ordered Ordered count
-entry-nodes [] h = (([], refl), refl)
+entry-nodes [] h = (refl, refl)
 entry-nodes (w ∷ words) h =
     let (good, rest) = both-true (goodRows (w ∷ words)) _ h in
     let (formed, order) = both-true (allWords (w ∷ words)) (ordered [] (rowsOf (w ∷ words))) good in
@@ -240,7 +240,10 @@ entry-nodes (w ∷ words) h =
     let top : rowIn w .depth ≡ 0 = omega (arith, in-order .1 .near) in
     let same : rowIn w ∷ (rowsOf words ++ []) ≡ rowIn w ∷ rowsOf words = rw append-nil in
     let one = eqb-true (entriesIn (rowsOf (w ∷ words))) 1 (both-true (leb (nodesIn (rowsOf (w ∷ words))) 4096) _ rest .1) in
-    ((_, entry-ordered [] (rowIn w) (rowsOf words) [] top (ap (ordered []) same ∙ order)), omega (arith, rw (eq-eqb (rowIn w .depth) 0 top) at one))
+    (
+      entry-ordered [] (rowIn w) (rowsOf words) [] top (ap (ordered []) same ∙ order),
+      omega (arith, rw (eq-eqb (rowIn w .depth) 0 top) at one),
+    )
 
 is-fine-read : {A : Type 0} (answer : Answer (ReadItem (List A))) → isFine (checkedAs answer) ≡ true → AllRead answer
 is-fine-read (accepted all) e = tt
@@ -250,7 +253,7 @@ pub record GoodParts (state : List ℕ) : Type 0 where
   pub turn : 0 < getD state 0 0
   pub small : (getD state 2 0 < 65536) × (getD state 3 0 < 65536)
   pub few-rows : getD state 5 0 ≤ 4097
-  pub order : (s : List ℕ) × (ordered s (rowsOf (nodeWords state)) ≡ true)
+  pub order : ordered (getD state 1 0 ∷ []) (rowsOf (nodeWords state)) ≡ true
   pub no-entry : entriesIn (rowsOf (nodeWords state)) ≡ 0
   pub numbers-few : getD state 4 0 + getD state 5 0 < 4098
   pub few-values : getD state 6 0 ≤ 8192
@@ -263,7 +266,7 @@ good-entry :
     (state : List ℕ)
     → goodEntry state ≡ true
     → (getD state 5 0 ≤ 4097)
-    × (((s : List ℕ) × (ordered s (rowsOf (nodeWords state)) ≡ true)) × (entriesIn (rowsOf (nodeWords state)) ≡ 0))
+    × ((ordered (getD state 1 0 ∷ []) (rowsOf (nodeWords state)) ≡ true) × (entriesIn (rowsOf (nodeWords state)) ≡ 0))
     × (getD state 4 0 + getD state 5 0 < 4098)
 unfolding goodEntry ordered count
 good-entry state h =
@@ -271,13 +274,18 @@ good-entry state h =
     (λ t.
     let zero-rows = eqb-true (getD state 5 0) 0 t in
     let first = eqb-true (getD state 4 0) 0 (rw t at h) in
-    (omega arith, (([], rw zero-rows), rw zero-rows), omega (arith, first, zero-rows)))
+    (omega arith, (rw zero-rows, rw zero-rows), omega (arith, first, zero-rows)))
     (λ t.
     let (few, rest) = both-true (ltb (getD state 5 0) 4098) _ (rw t at h) in
     let (lawful, more) = both-true (lawfulEntry (entryIn state)) _ rest in
-    let (own, numbers) = both-true (eqb (stepIn (getD state 9 0)) (getD state 1 0)) _ more in (
+    let (own, numbers) = both-true (eqb (stepIn (getD state 9 0)) (getD state 1 0)) _ more in
+    let some-rows : 0 < getD state 5 0 = omega (arith, eqb-false (getD state 5 0) 0 t) in
+    let first-row : getD (entryIn state) 0 0 ≡ getD state 9 0 =
+    getD-take (getD state 5 0) (drop 9 state) 0 0 some-rows ∙ getD-drop 9 state 0 0 in
+    let type : stepIn (getD (entryIn state) 0 0) ≡ getD state 1 0 =
+    ap stepIn first-row ∙ eqb-true (stepIn (getD state 9 0)) (getD state 1 0) own in (
       omega (arith, ltb-true (getD state 5 0) 4098 few),
-      entry-nodes (entryIn state) lawful,
+      rw type at (entry-nodes (entryIn state) lawful),
       ltb-true (getD state 4 0 + getD state 5 0) 4098 numbers,
     ))
 

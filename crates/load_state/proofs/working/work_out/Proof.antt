@@ -116,7 +116,7 @@ work-out-load-requires c κs =
     rw (nodes (c .before .before .before .before .before .before .before .before .before)) (
       (nodes-few state (good-ones .few-rows), good-ones .small),
       (
-        good-ones .order,
+        (_, good-ones .order),
         (
           (good-ones .read, omega (arith, good-ones .few-answers, c .before .before .before .before .before .before .before .before .before .before .before .before .before .before .before .before .before .before .before .before .before .before .before .pre .1 .0)),
           (c .before .before .before .before .before .before .before .before .before .before .before .before .before .before .before .before .before .before .before .before .before .before .before .pre .0 .1, omega (arith, length-take 12288 (drop 12298 state), c .before .before .before .before .before .before .before .before .before .before .before .before .before .before .before .before .before .has-good-parts .kept .1 .0, c .before .before .before .before .before .before .before .before .before .before .before .before .before .before .before .before .before .before .before .before .before .before .before .pre .1 .1)),
