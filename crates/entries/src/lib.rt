@@ -1,0 +1,5 @@
+// The entry of a request type in a manifest.
+mod entry;
+
+pub use entry::FoundEntry;
+pub use entry::find_entry;
