@@ -1,4 +1,2 @@
 pub mod Begins
 pub mod BeginLaws
-pub mod Entries
-pub mod EntryLaws

@@ -1,5 +1,4 @@
 // The call with which a load begins (docs/FORMS.md, 'Load state').
 mod begin;
-mod entry;
 
 pub use begin::load_begin;

@@ -5,7 +5,7 @@ use mathlib.Core.Path.{refl}
 use borrow.Author.Needs.{needs}
 use Rattle.rules.specs.LoadCalls.{entryFor}
 use Rattle.rows.specs.States.{rowsOf}
-use Rattle.load_begin.specs.EntryLaws.{entry-few, entry-count, found-missing, found-found}
+use Rattle.entries.specs.EntryLaws.{entry-few, entry-count, found-missing, found-found}
 use Rattle.load_begin.specs.BeginLaws.{own-words}
 use Rattle.load_begin.proofs.begin.begin_load.Statement.{statement}
 use Rattle.load_begin.proofs.begin.begin_load.Tie as tie

@@ -1,4 +1,4 @@
--- `load_begin::entry::find_entry` meets its contract: the entry is none of those that were passed, and their nodes are counted.
+-- `entries::entry::find_entry` meets its contract: the entry is none of those that were passed, and their nodes are counted.
 -- Assumes nothing.
 use Prim.Native.Nat.{_+_, _-_, _≤_}
 use native.Mathlib.Omega.{arith}
@@ -11,9 +11,9 @@ use lib.Seq.{take-all}
 use Rattle.rules.specs.LoadCalls.{entryFor}
 use Rattle.rows.specs.Words.{rowIn}
 use Rattle.rows.specs.States.{rowsOf}
-use Rattle.load_begin.specs.EntryLaws.{found-entry, passed-entry, passed-node, met-entry, next-rows, no-entry}
-use Rattle.load_begin.proofs.entry.find_entry.Statement.{statement}
-use Rattle.load_begin.proofs.entry.find_entry.Tie as tie
+use Rattle.entries.specs.EntryLaws.{found-entry, passed-entry, passed-node, met-entry, next-rows, no-entry}
+use Rattle.entries.proofs.entry.find_entry.Statement.{statement}
+use Rattle.entries.proofs.entry.find_entry.Tie as tie
 
 abbrev Inv-loop : tie.InvT-loop
 Inv-loop rows request nodes₀ i₀ nodes i =

@@ -1,4 +1,4 @@
--- `load_begin::entry::nodes_ahead` meets its contract: all rows that were passed are nodes.
+-- `entries::entry::nodes_ahead` meets its contract: all rows that were passed are nodes.
 -- Assumes nothing.
 use Prim.Native.Nat.{_≤_, _-_}
 use native.Mathlib.Omega.{arith}
@@ -8,9 +8,9 @@ use borrow.Author.Count.{below-more}
 use lib.ListN.{length, getD}
 use lib.Seq.{take-all}
 use Rattle.rows.specs.Words.{depthIn}
-use Rattle.load_begin.specs.EntryLaws.{EntryAhead, ahead-of, ahead-all}
-use Rattle.load_begin.proofs.entry.nodes_ahead.Statement.{statement}
-use Rattle.load_begin.proofs.entry.nodes_ahead.Tie as tie
+use Rattle.entries.specs.EntryLaws.{EntryAhead, ahead-of, ahead-all}
+use Rattle.entries.proofs.entry.nodes_ahead.Statement.{statement}
+use Rattle.entries.proofs.entry.nodes_ahead.Tie as tie
 
 abbrev Inv-loop : tie.InvT-loop
 Inv-loop rows i₀ i = (i ≤ length rows) × EntryAhead rows i

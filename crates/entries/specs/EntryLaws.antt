@@ -14,9 +14,9 @@ use Rattle.rules.specs.Tries.{Row, isEntry, count, nodesIn}
 use Rattle.rules.specs.LoadCalls.{Entry, nodesAhead, entryFor}
 use Rattle.rows.specs.Words.{depthIn, stepIn, rowIn}
 use Rattle.rows.specs.States.{rowsOf}
-use Rattle.load_begin.specs.Entries.{EntryAt, FoundAs}
-use Rattle.load_begin.specs.declared.entry.FoundEntry.{FoundEntry}
-use Rattle.load_begin.specs.declared.entry.FoundEntry.the-variants.{Found, Missing}
+use Rattle.entries.specs.Entries.{EntryAt, FoundAs}
+use Rattle.entries.specs.declared.entry.FoundEntry.{FoundEntry}
+use Rattle.entries.specs.declared.entry.FoundEntry.the-variants.{Found, Missing}
 
 -- the first words are nodes, so many
 abbrev pub EntryAhead : List ℕ → ℕ → Type 0

@@ -4,7 +4,7 @@ ghost use Prim.Native.Nat.{_≤_};
 ghost use lib.ListN.{length, take};
 ghost use Rattle.rules.specs.LoadCalls.{nodesAhead, entryFor};
 ghost use Rattle.rows.specs.States.{rowsOf};
-ghost use Rattle.load_begin.specs.Entries.{FoundAs};
+ghost use Rattle.entries.specs.Entries.{FoundAs};
 use rows::Row;
 
 // An entry: its first node's number among all nodes, where its own row stands, and how many nodes stand behind it.

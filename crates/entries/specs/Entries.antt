@@ -7,8 +7,8 @@ use lib.ListN.{length, take, drop, getD}
 use Rattle.rules.specs.LoadCalls.{Entry}
 use Rattle.rows.specs.Words.{depthIn, stepIn}
 use Rattle.rows.specs.States.{rowsOf}
-use Rattle.load_begin.specs.declared.entry.FoundEntry.{FoundEntry}
-use Rattle.load_begin.specs.declared.entry.FoundEntry.the-variants.{Found, Missing}
+use Rattle.entries.specs.declared.entry.FoundEntry.{FoundEntry}
+use Rattle.entries.specs.declared.entry.FoundEntry.the-variants.{Found, Missing}
 
 -- an entry that stands in words: its first node's number, where its own row stands, and how many nodes stand behind it
 pub record EntryAt (words : List ℕ) (request : ℕ) (entry : Entry) (first at nodes : ℕ) : Type 0 where
