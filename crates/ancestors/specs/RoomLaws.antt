@@ -293,7 +293,7 @@ module _ (s : List ℕ) (nodes : List Row) (order : ordered s nodes ≡ true) (n
   never-primary x y m p q c e =
       let deep : 1 ≤ depthOf (drop y nodes) = node-deep nodes y no-entries (q .is-node) in
       let other : isPrimary (placeAt s nodes m) ≡ false = root-place s nodes (depthOf (drop y nodes)) m (ordered-true s nodes order) deep (c .is-root) in
-      true≢false (sym (p .recordOf) ∙ ap (λ k. isPrimary (placeAt s nodes k)) e ∙ other)
+      true≢false (sym (p .of-fields) ∙ ap (λ k. isPrimary (placeAt s nodes k)) e ∙ other)
 
   -- A primary node and the roots right below it are left: each has a 1 in a list.
   record Left (l : List ℕ) (n : ℕ) : Type 0 where

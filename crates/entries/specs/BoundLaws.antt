@@ -8,10 +8,10 @@ use mathlib.Core.Option.{none, some}
 use lib.Dec.{ltb, eqb}
 use lib.ListN.{length, drop, getD, length-drop}
 use lib.Seq.{getD-drop}
-use borrow.Author.Tests.{eqb-true, eqb-false, ltb-true, ltb-false, le-leb, lt-leb}
+use borrow.Author.Tests.{eqb-false, ltb-true, ltb-false, le-leb, lt-leb}
 use Rattle.rules.specs.Facts.{by-test, both-true}
 use Rattle.rules.specs.Tries.{Row, isEntry, at, ordered, manifest}
-use Rattle.rules.specs.TrieLaws.{Ordered, ordered-true, true-ordered, length-at, step-at, above-at}
+use Rattle.rules.specs.TrieLaws.{Ordered, ordered-true, length-at, step-at, above-at}
 use Rattle.rules.specs.Typing.{isField}
 use Rattle.rules.specs.LoadCalls.{Entry, nodesAhead, entryFor}
 use Rattle.rules.specs.Trips.{
@@ -26,6 +26,7 @@ use Rattle.rules.specs.Trips.{
   noTrips,
   tripBound,
 }
+use Rattle.rules.specs.TripLaws.{entry-in-order}
 use Rattle.rows.specs.States.{lawfulState, rowsIn, wordsOf}
 use Rattle.rows.specs.declared.Kind.the-variants.{Manifest}
 use Rattle.entries.specs.Bounds.{NodesOf, told, tripBoundIn}
@@ -203,55 +204,31 @@ module _
             all-batches = omega (arith, rw (primary-node, steps) at (q .all-batches));
           }
 
--- The nodes of an entry of rows in order.
-
-ahead-none : nodesAhead [] ≡ []
-unfolding nodesAhead
-ahead-none = refl
-
-module _ (row : Row) (rows : List Row) where
-  ahead-entry : isEntry row ≡ true → nodesAhead (row ∷ rows) ≡ []
-  unfolding nodesAhead
-  ahead-entry e = rw e
-
-  ahead-node : isEntry row ≡ false → nodesAhead (row ∷ rows) ≡ row ∷ nodesAhead rows
-  unfolding nodesAhead
-  ahead-node e = rw e
+-- The nodes of an entry of rows in order: no entry is among them.
 
 ahead-once : (rows : List Row) → nodesAhead (nodesAhead rows) ≡ nodesAhead rows
 unfolding nodesAhead
 ahead-once [] = refl
 ahead-once (row ∷ rows) = by-test (isEntry row) (λ e. rw e) (λ e. rw (e, e) (ap (λ more. row ∷ more) (ahead-once rows)))
 
-ahead-ordered : (s : List ℕ) (rows : List Row) → Ordered s rows → Ordered s (nodesAhead rows)
-unfolding Ordered
-ahead-ordered s [] o = rw ahead-none tt
-ahead-ordered s (row ∷ rows) o =
+entry-ends : (request n : ℕ) (rows : List Row) (entry : Entry) → entryFor request n rows ≡ some entry → nodesAhead (entry .nodes) ≡ entry .nodes
+unfolding entryFor
+entry-ends request n [] entry e = let z : _≡_ {A = ℕ} 0 1 = cc in absurd (omega arith)
+entry-ends request n (row ∷ rows) entry e =
     by-test (isEntry row)
-    (λ e. rw (ahead-entry row rows e) tt)
-    (λ e. rw (ahead-node row rows e) (o .0, o .1, o .2, ahead-ordered (at s row) rows (o .3)))
+    (λ t.
+    by-test (eqb (row .step) request)
+    (λ u. let same : entry ≡ record { first = n; nodes = nodesAhead rows } = cc (rw (t, u) at e) in rw same (ahead-once rows))
+    (λ u. entry-ends request n rows entry (rw (t, u) at e)))
+    (λ t. entry-ends request (suc n) rows entry (rw t at e))
 
 pub entry-nodes :
-    (request n : ℕ) (rows : List Row) (entry : Entry)
+    (request : ℕ) (rows : List Row) (entry : Entry)
     → ordered [] rows ≡ true
-    → entryFor request n rows ≡ some entry
+    → entryFor request 0 rows ≡ some entry
     → NodesOf request (entry .nodes)
-unfolding Ordered entryFor
-entry-nodes request n rows entry order e = go [] n rows (ordered-true [] rows order) e
-  where
-    go : (s : List ℕ) (n : ℕ) (rows : List Row) → Ordered s rows → entryFor request n rows ≡ some entry → NodesOf request (entry .nodes)
-    go s n [] o e = let z : _≡_ {A = ℕ} 0 1 = cc in absurd (omega arith)
-    go s n (row ∷ rows) o e =
-        by-test (isEntry row)
-        (λ t.
-        by-test (eqb (row .step) request)
-        (λ u.
-        let same : entry ≡ record { first = n; nodes = nodesAhead rows } = cc (rw (t, u) at e) in
-        let place : at s row ≡ request ∷ [] = rw (eqb-true (row .depth) 0 t, eqb-true (row .step) request u) in
-        let after = true-ordered (request ∷ []) (nodesAhead rows) (ahead-ordered (request ∷ []) rows (rw place at (o .3))) in
-        rw same (record { in-order = after; no-entry = ahead-once rows }))
-        (λ u. go (at s row) n rows (o .3) (rw (t, u) at e)))
-        (λ t. go (at s row) (suc n) rows (o .3) (rw t at e))
+entry-nodes request rows entry order e =
+    record { in-order = entry-in-order request rows entry order e; no-entry = entry-ends request 0 rows entry e }
 
 -- the bound with an entry and without
 pub bound-none : (rows : List Row) (request : ℕ) → entryFor request 0 rows ≡ none → tripBound rows request ≡ noTrips

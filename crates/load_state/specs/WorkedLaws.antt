@@ -239,8 +239,7 @@ entry-nodes (w ∷ words) h =
     let in-order = ordered-true [] (rowsOf (w ∷ words)) order in
     let top : rowIn w .depth ≡ 0 = omega (arith, in-order .1 .near) in
     let same : rowIn w ∷ (rowsOf words ++ []) ≡ rowIn w ∷ rowsOf words = rw append-nil in
-    let one = eqb-true (entriesIn (rowsOf (w ∷ words))) 1 (both-true (leb (nodesIn (rowsOf (w ∷ words))) 4096) _ rest .1) in
-    (
+    let one = eqb-true (entriesIn (rowsOf (w ∷ words))) 1 (both-true (leb (nodesIn (rowsOf (w ∷ words))) 4096) _ rest .1) in (
       entry-ordered [] (rowIn w) (rowsOf words) [] top (ap (ordered []) same ∙ order),
       omega (arith, rw (eq-eqb (rowIn w .depth) 0 top) at one),
     )

@@ -26,7 +26,7 @@ use Rattle.rows.specs.declared.Kind.the-variants.{Contribution, Manifest
 -- ---- a buffer that holds rows
 
 -- rows in order are what their words pack, and each word packs a row
-packed : (s : List ℕ) (rows : List Row) → Ordered s rows → (rowsOf (map wordOf rows) ≡ rows) × (allWords (map wordOf rows) ≡ true)
+pub packed : (s : List ℕ) (rows : List Row) → Ordered s rows → (rowsOf (map wordOf rows) ≡ rows) × (allWords (map wordOf rows) ≡ true)
 unfolding Ordered allWords
 packed s [] h = (refl, refl)
 packed s (row ∷ rows) (whole, follows, near, rest) =

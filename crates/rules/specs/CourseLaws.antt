@@ -4,21 +4,40 @@ use native.Mathlib.Omega.{arith}
 use native.Mathlib.Nat.{add-zero}
 use mathlib.Core.Path.{_≡_, refl, sym, ap, subst, _∙_}
 use mathlib.Core.Logic.{_⊎_, inl, inr, ⊎-elim}
-use mathlib.Core.Bool.{Bool, true, false, cond}
-use mathlib.Core.List.{List, [], _∷_, _++_, append-nil, append-assoc, map}
+use mathlib.Core.Bool.{true}
+use mathlib.Core.List.{List, [], _∷_, _++_, append-nil, append-assoc}
 use mathlib.Core.Option.{Option, none, some}
 use lib.Dec.{eqb}
 use lib.ListN.{length, take, drop, length-append, length-take, drop-of-length-le}
 use lib.Seq.{take-all, take-append-le, drop-append-le}
 use borrow.Author.Tests.{eqb-true, ne-eqb}
 use Rattle.rules.specs.Facts.{by-test}
-use Rattle.rules.specs.Tries.{Row, ordered, isEntry}
+use Rattle.rules.specs.Tries.{Row, ordered}
 use Rattle.rules.specs.Values.{Entity}
-use Rattle.rules.specs.Loading.{LoadAnswer, done, refusedAt, counted, _then_, Request, EntityRequest, Load, Loaded, loadBegun, batchOf, initialEntities, inContext, atRoots, batchAnswered, tripsFor, summed, ancestorsRequests, withAncestors}
+use Rattle.rules.specs.Loading.{
+  LoadAnswer,
+  done,
+  refusedAt,
+  counted,
+  _then_,
+  Request,
+  EntityRequest,
+  Load,
+  Loaded,
+  loadBegun,
+  batchOf,
+  initialEntities,
+  inContext,
+  atRoots,
+  batchAnswered,
+  tripsFor,
+  summed,
+  ancestorsRequests,
+  withAncestors,
+}
 use Rattle.rules.specs.LoadCalls.{
   Entry,
   entryFor,
-  nodesAhead,
   Turn,
   batchWaits,
   answersAwaited,
@@ -43,8 +62,41 @@ use Rattle.rules.specs.LoadCalls.{
   resultOf,
 }
 use Rattle.rules.specs.SliceLaws.{then-done}
-use Rattle.rules.specs.Trips.{CallOf, callsBatch, callsAnswer, callsAncestors, callsAncestorsAnswer, callsResult, Course, begun, goes-on, rowsHanded, nodesAsked, Distinct, EachOf, Primary, BoundedTrips, TripBound, batchBound, boundOf, noTrips, tripBound, mostFields, primaries, WithinBound, CountsWithin}
-use Rattle.rules.specs.TripLaws.{GoingLoad, is-answered, going-bounded, no-batches, entry-in-order, each-left, pairs-left, nodes-append}
+use Rattle.rules.specs.Trips.{
+  CallOf,
+  callsBatch,
+  callsAnswer,
+  callsAncestors,
+  callsAncestorsAnswer,
+  callsResult,
+  Course,
+  begun,
+  goes-on,
+  rowsHanded,
+  nodesAsked,
+  Distinct,
+  EachOf,
+  Primary,
+  BoundedTrips,
+  TripBound,
+  batchBound,
+  boundOf,
+  noTrips,
+  tripBound,
+  primaries,
+  WithinBound,
+  CountsWithin,
+}
+use Rattle.rules.specs.TripLaws.{
+  GoingLoad,
+  is-answered,
+  going-bounded,
+  no-batches,
+  entry-in-order,
+  each-left,
+  pairs-left,
+  nodes-append,
+}
 use Rattle.rules.specs.LoadLaws.{going-begun, going-answered}
 
 -- Which turn a call that is done was made at, and what came of it.

@@ -4,7 +4,7 @@ use mathlib.Core.Path.{_≡_, refl}
 use mathlib.Core.Bool.{true, false}
 use mathlib.Core.List.{List, [], _∷_, _++_}
 use mathlib.Core.Option.{Option, none, some}
-use Rattle.rules.specs.Tries.{Row, stepOf, requestOf, ordered, sameList}
+use Rattle.rules.specs.Tries.{Row, stepOf, requestOf, sameList}
 use Rattle.rules.specs.Listing.{read}
 use Rattle.rules.specs.Values.{
   entityId,
@@ -41,7 +41,7 @@ use Rattle.rules.specs.Loading.{
   takeBatches,
   withId,
 }
-use Rattle.rules.specs.LoadCalls.{nodesAhead, entryFor, ancestorsToAsk, ended, Transcript, transcript, afterAnswers, Called}
+use Rattle.rules.specs.LoadCalls.{nodesAhead, entryFor, ancestorsToAsk, ended, Transcript, transcript, afterAnswers}
 use Rattle.rules.specs.Trips.{
   allFields,
   primaries,

@@ -1,11 +1,11 @@
 -- Change request K10, 'Promise me the number of trips': what is promised of every load, on the definitions of Trips, Loading and
--- LoadCalls. Only the statements need be read. `Course manifest request t handed calls told` says that a load for the request has come to the
--- transcript t by calls that were not refused, whatever the store answered: `handed` are the batches that it handed out, `calls` is how
+-- LoadCalls. Only the statements need be read. `Course manifest request t handed calls told` says that a load for the request has come to
+-- the transcript t by calls that were not refused, whatever the store answered: `handed` are the batches that it handed out, `calls` is how
 -- many ancestors calls it made, and `told` the counts that the last call reported. A call that is refused changes nothing, so all this
 -- holds up to a refusal too.
 use Prim.Native.Nat.{ℕ, _≤_}
 use native.Mathlib.Omega.{arith}
-use mathlib.Core.Path.{_≡_, refl, ap}
+use mathlib.Core.Path.{_≡_, refl}
 use mathlib.Core.Bool.{true}
 use mathlib.Core.List.{List, [], _∷_}
 use mathlib.Core.Option.{none, some}
@@ -23,7 +23,6 @@ use Rattle.rules.specs.Trips.{
   Primary,
   primaries,
   batchBound,
-  TripBound,
   boundOf,
   tripBound,
   WithinBound,

@@ -35,7 +35,6 @@ use Rattle.rules.specs.Loading.{
   Wanted,
   takeEvents,
   takeRows,
-  batchAnswered,
 }
 use Rattle.rules.specs.LoadCalls.{
   entryFor,
@@ -130,7 +129,10 @@ pub data CallOf (t : Transcript) (load : Load) : Transcript → List (List Entit
       → takeBatch t load answers ≡ done c
       → CallOf t load (c .left) [] 0 (c .counts)
   callsAncestors : (c : Called (List (List ℕ))) → askAncestors t load ≡ done c → CallOf t load (c .left) [] 1 (c .counts)
-  callsAncestorsAnswer : (sets : List (List ℕ)) (c : Called ℕ) → takeAncestors t load sets ≡ done c → CallOf t load (c .left) [] 0 (c .counts)
+  callsAncestorsAnswer :
+      (sets : List (List ℕ)) (c : Called ℕ)
+      → takeAncestors t load sets ≡ done c
+      → CallOf t load (c .left) [] 0 (c .counts)
   callsResult : (c : Called (List Loaded)) → resultOf t load ≡ done c → CallOf t load (c .left) [] 0 (c .counts)
 
 -- The course of a load for a request, from begin on, call after call, as far as it has come: the batches handed out, the ancestors calls

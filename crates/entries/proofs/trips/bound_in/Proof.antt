@@ -67,7 +67,7 @@ returns-2 c =
     let start = c .before .before .before .before .before .before .before in
     let a = start .args in
     let (entry, is, here) = entry-at (c .before .before) in
-    let nodes = rw (here .rows) at (entry-nodes (a .request) 0 (rowsOf (a .rows .now)) entry (start .pre) is) in
+    let nodes = rw (here .rows) at (entry-nodes (a .request) (rowsOf (a .rows .now)) entry (start .pre) is) in
     rw (bound-some (rowsOf (a .rows .now)) (a .request) entry is, here .rows)
     ((rw add-sub-cancel-left at (c .bound-of .ensures)) (a .request) nodes)
 
