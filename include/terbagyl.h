@@ -289,6 +289,13 @@ enum {
     TERBAGYL_TURN_RESULT = 5
 };
 
+/* Tells what a load for a request type takes at most by a manifest (MANIFEST_LEN). Beside 0: the ancestors calls, 1 where the manifest has
+ * an entry for the request type and 0 where it has none; in `*first` the batches and in `*second` their rows. Refused: 31; 1 at 0. */
+uint64_t terbagyl_trip_bound(const uint64_t *manifest, size_t manifest_len, uint64_t request_type,
+                             uint64_t *TERBAGYL_RESTRICT value,
+                             uint64_t *TERBAGYL_RESTRICT first,
+                             uint64_t *TERBAGYL_RESTRICT second);
+
 /* Begins a load of what a manifest (MANIFEST_LEN) has a request read; the context (CONTEXT_LEN) is a count of rows and the rows of a record.
  * The load (LOAD_LEN) is written. Beside 0: how many nodes the entry has. Refused: 31; 1 and 14 at 0. */
 uint64_t terbagyl_load_begin(const uint64_t *manifest, size_t manifest_len,

@@ -2,6 +2,8 @@
 use Prim.Native.Nat.{ℕ}
 use mathlib.Core.Path.{_≡_}
 use mathlib.Core.List.{List, [], _∷_}
+use Rattle.entries.specs.declared.trips.Bound.{Bound}
+use Rattle.entries.specs.declared.trips.Bound.the-variants.{AtMost, Refused as Unbounded}
 use Rattle.load_state.specs.Outcomes.{LoadOutcome, HandedOut, AnsweredAs, HandedAs}
 use Rattle.load_state.specs.declared.LoadReply.{LoadReply}
 use Rattle.load_state.specs.declared.LoadReply.the-variants.{Done, Refused, Counted}
@@ -15,6 +17,11 @@ abbrev pub loadValues : LoadReply → List ℕ
 loadValues (Done count batches rows) = count ∷ batches ∷ rows ∷ []
 loadValues (Refused number place) = place ∷ 0 ∷ 0 ∷ []
 loadValues (Counted expected got) = 0 ∷ expected ∷ got ∷ []
+
+-- a bound on trips as a reply
+abbrev pub boundReply : Bound → LoadReply
+boundReply (AtMost most) = Done (most .ancestors) (most .batches) (most .rows)
+boundReply (Unbounded number place) = Refused number place
 
 -- what a call answers and leaves, told: its number, the values beside it, and the lent buffer
 pub record CallTold (outcome : LoadOutcome) (number : ℕ) (values buffer : List ℕ) : Type 0 where

@@ -1,13 +1,16 @@
 // The C names of loads. The result is 0, or the refusal's number. `value` receives what the call counts, or the refusal's place; `first` and
-// `second` the batches and rows asked so far, beside 12 the expected count and the one that was got, and beside any other refusal 0.
+// `second` the batches and rows asked so far, or at most, beside 12 the expected count and the one that was got, and beside any other
+// refusal 0.
 ghost use mathlib.Core.Path.{_≡_};
 ghost use mathlib.Core.List.{[], _∷_};
+ghost use Rattle.entries.specs.Bounds.{tripBoundIn};
 ghost use Rattle.load_begin.specs.Begins.{beginIn};
 ghost use Rattle.load_batch.specs.Handing.{batchIn};
 ghost use Rattle.loader.specs.Calls.{answerIn};
 ghost use Rattle.load_ancestors.specs.Asking.{ancestorsIn};
 ghost use Rattle.load_ends.specs.Ends.{ancestorsAnswerIn, resultIn};
-ghost use Rattle.entity_manifest.specs.LoadNumbers.{loadNumber, loadValues, CallTold, HandTold};
+ghost use Rattle.entity_manifest.specs.LoadNumbers.{loadNumber, loadValues, boundReply, CallTold, HandTold};
+use entries::Bound;
 use load_state::LoadReply;
 
 // A reply as its number, its values beside it.
@@ -34,6 +37,35 @@ fn tell_load(reply: LoadReply, value: &mut u64, first: &mut u64, second: &mut u6
             12
         }
     }
+}
+
+// A bound as a reply: the ancestors calls are what is counted.
+fn bound_reply(bound: Bound) -> LoadReply
+    ensures { λ r. ⌜ r ≡ boundReply bound ⌝ }
+{
+    match bound {
+        Bound::AtMost(most) => LoadReply::Done(most.ancestors, most.batches, most.rows),
+        Bound::Refused(number, place) => LoadReply::Refused(number, place),
+    }
+}
+
+// Tells what a load takes at most.
+#[no_mangle]
+pub extern "C" fn terbagyl_trip_bound(
+    manifest: &[u64],
+    request: u64,
+    value: &mut u64,
+    first: &mut u64,
+    second: &mut u64,
+) -> u64
+    ensures { λ r. ⌜ (r ≡ loadNumber (boundReply (tripBoundIn (now (manifest .entry)) request))) × ((now (value .exit) ∷ now (first .exit) ∷ now (second .exit) ∷ []) ≡ loadValues (boundReply (tripBoundIn (now (manifest .entry)) request))) ⌝ }
+{
+    tell_load(
+        bound_reply(entries::trip_bound(manifest, request)),
+        value,
+        first,
+        second,
+    )
 }
 
 // Begins a load.
