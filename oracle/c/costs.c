@@ -152,6 +152,11 @@ static void manifests(void) {
     COST("a position of 24 steps", CALL(has_in_manifest), .x = l, .y = deep);
     COST("a position of 24 steps", CALL(has_in_contribution), .x = e, .y = deep);
 
+    State whole = one_entry(TERBAGYL_MANIFEST_LEN, 4096, 0, 1);
+    COST("the last entry of 64", CALL(trip_bound), .x = a, .request = request_type(63, 500, 20));
+    COST("4,096 nodes in one entry, 24 deep", CALL(trip_bound), .x = whole, .request = request_type(10, 500, 20));
+    COST("no entry of 64", CALL(trip_bound), .x = a, .request = request_type(64, 500, 20));
+
     Text t = listing_of(a, 0), tc = listing_of(e, 1);
     COST("4,096 nodes", CALL(read_manifest), .text = t, .out = out);
     COST("1,024 nodes", CALL(read_contribution), .text = tc, .out = out_c);

@@ -141,6 +141,7 @@ static void null_with_zero(void) {
     SHORT("type, schema", terbagyl_type(NULL, 0, LENT(m), LENT(out), &value));
     SHORT("type, manifest", terbagyl_type(LENT(s), NULL, 0, LENT(out), &value));
     SHORT("type, out", terbagyl_type(LENT(s), LENT(m), NULL, 0, &value));
+    SHORT("trip_bound, manifest", terbagyl_trip_bound(NULL, 0, request, &value, &first, &second));
     SHORT("load_begin, manifest", terbagyl_load_begin(NULL, 0, request, 1, 2, LENT(context), LENT(load), &value, &first, &second));
     SHORT("load_begin, context", terbagyl_load_begin(LENT(m), request, 1, 2, NULL, 0, LENT(load), &value, &first, &second));
     SHORT("load_begin, state", terbagyl_load_begin(LENT(m), request, 1, 2, LENT(context), NULL, 0, &value, &first, &second));
@@ -235,6 +236,7 @@ static void all_calls(Round *r, const uint64_t *shared) {
     set_word(r->sets + 3, 0);
     HEAR3(terbagyl_load_ancestors_answer(r->load, TERBAGYL_LOAD_LEN, r->sets, TERBAGYL_ANCESTORS_ANSWERS_LEN, &value, &first, &second));
     HEAR3(terbagyl_load_result(r->load, TERBAGYL_LOAD_LEN, r->slice, TERBAGYL_SLICE_LEN, &value, &first, &second));
+    HEAR3(terbagyl_trip_bound(r->typed, TERBAGYL_MANIFEST_LEN, request, &value, &first, &second));
 }
 
 static int same_round(const Round *a, const Round *b, int with_schema) {

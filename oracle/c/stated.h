@@ -12,6 +12,7 @@ static const struct {
     {"empty_manifest", 4096},
     {"has_in_manifest", 4096},
     {"has_in_contribution", 4096},
+    {"trip_bound", 4096},
     {"write_manifest", 4096},
     {"write_contribution", 4096},
     {"read_schema", 4096},

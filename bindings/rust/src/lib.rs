@@ -47,7 +47,7 @@ mod rows;
 mod value;
 
 pub use load::{load, turn, AncestorsRequest, Asked, Load, Next, Request, Row, Slice, Stalled, Store};
-pub use manifest::{Contribution, Manifest, Schema};
+pub use manifest::{Contribution, Manifest, Schema, TripBound};
 pub use place::{Held, RequestType, Step};
 pub use refusal::{Counted, Refusal};
 pub use rows::{Entries, Entry, Node, NodeType, Nodes, Positions};

@@ -259,6 +259,22 @@ impl Manifest {
         Held::of_word(never_refused(raw::has_in_manifest(&self.0, &place(request_type, position))))
     }
 
+    /// What a load for a request type takes at most, whatever the store answers, up to its end or to a refusal.
+    ///
+    /// ```
+    /// use terbagyl::{Manifest, RequestType, TripBound};
+    ///
+    /// let manifest = Manifest::read("A\t10\t500\t20\nN\t1\tp\t0\t0\nN\t2\tf\t7\t0\nN\t2\tr\t0\t1\n")?;
+    /// // the principal and its field 7, which may be another entity; the ancestors trie is not counted
+    /// assert_eq!(manifest.trip_bound(RequestType::new(10, 500, 20)), TripBound { rows: 2, batches: 2, ancestors: 1 });
+    /// assert_eq!(manifest.trip_bound(RequestType::new(10, 501, 20)), TripBound { rows: 0, batches: 0, ancestors: 0 });
+    /// # Ok::<(), terbagyl::Refusal>(())
+    /// ```
+    pub fn trip_bound(&self, request_type: RequestType) -> TripBound {
+        let told = never_refused(raw::trip_bound(&self.0, request_type.word()));
+        TripBound { rows: told.rows, batches: told.batches, ancestors: told.count }
+    }
+
     /// Its listing.
     pub fn listing(&self) -> String {
         let mut text = Buffer::<u8, { raw::MANIFEST_TEXT }>::new();
@@ -318,6 +334,17 @@ impl fmt::Debug for Manifest {
     fn fmt(&self, f: &mut fmt::Formatter<'_>) -> fmt::Result {
         f.debug_tuple("Manifest").field(&self.listing()).finish()
     }
+}
+
+/// What a load takes at most: see [`Manifest::trip_bound`].
+#[derive(Clone, Copy, Debug, PartialEq, Eq, Hash)]
+pub struct TripBound {
+    /// Rows: the nodes of the entry that are in no ancestors trie.
+    pub rows: u64,
+    /// Batches: one more than the most field steps to one of these nodes, and none without a node.
+    pub batches: u64,
+    /// Ancestors calls, which come on top: 1, and 0 where there is no entry.
+    pub ancestors: u64,
 }
 
 /// A listing as a string: it has letters, digits, tabs and LF alone.

@@ -45,6 +45,9 @@ extern "C" {
     fn terbagyl_type(
         schema: *const u64, schema_len: usize, manifest: *const u64, manifest_len: usize, out: *mut u64, out_len: usize, value: *mut u64,
     ) -> u64;
+    fn terbagyl_trip_bound(
+        manifest: *const u64, manifest_len: usize, request_type: u64, value: *mut u64, first: *mut u64, second: *mut u64,
+    ) -> u64;
     fn terbagyl_load_begin(
         manifest: *const u64, manifest_len: usize, request_type: u64, principal: u64, resource: u64, context: *const u64,
         context_len: usize, load: *mut u64, load_len: usize, value: *mut u64, first: *mut u64, second: *mut u64,
@@ -75,7 +78,8 @@ fn told(call: impl FnOnce(*mut u64) -> u64) -> Result<u64, Refusal> {
     }
 }
 
-/// What a call of a load says beside 0: what it counts, and the batches and rows asked so far.
+/// What a call of a load says beside 0: what it counts, and the batches and rows asked so far. Of the bound on trips: the ancestors calls, the
+/// batches and the rows.
 pub struct Told {
     pub count: u64,
     pub batches: u64,
@@ -176,6 +180,10 @@ pub fn add_policy(schema: &[u64; SCHEMA], text: &[u8], manifest: &mut [u64; MANI
 pub fn to_typed(schema: &[u64; SCHEMA], manifest: &[u64; MANIFEST], out: &mut [u64; MANIFEST]) -> Result<(), Refusal> {
     told(|value| unsafe { terbagyl_type(schema.as_ptr(), SCHEMA, manifest.as_ptr(), MANIFEST, out.as_mut_ptr(), MANIFEST, value) })
         .map(drop)
+}
+
+pub fn trip_bound(manifest: &[u64; MANIFEST], request_type: u64) -> Result<Told, Refusal> {
+    load_told(|[value, first, second]| unsafe { terbagyl_trip_bound(manifest.as_ptr(), MANIFEST, request_type, value, first, second) })
 }
 
 pub fn load_begin(

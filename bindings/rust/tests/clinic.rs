@@ -3,7 +3,8 @@
 use std::collections::BTreeMap;
 
 use terbagyl::{
-    load, AncestorsRequest, Asked, Entity, Held, Load, Manifest, Next, Refusal, Request, RequestType, Row, Schema, Step, Store, Value,
+    load, AncestorsRequest, Asked, Entity, Held, Load, Manifest, Next, Refusal, Request, RequestType, Row, Schema, Step, Store, TripBound,
+    Value,
 };
 
 const SCHEMA: &[u8] = include_bytes!("../../../examples/clinic/schema");
@@ -140,6 +141,25 @@ fn the_load_of_the_readme() {
     assert_eq!((slice.batches, slice.rows), (2, 3));
     let expected = BTreeMap::from([(701, aray()), (801, Entity::new([], [(3, Value::Entity(901))])), (901, Entity::new([950], []))]);
     assert_eq!(slice.entities, expected);
+}
+
+#[test]
+fn loads_stay_within_their_bound() {
+    let bounds = |texts: &[&[u8]]| built(texts).trip_bound(OPEN_FITTING);
+    // principal, role, resource and clinic; the clinic of the resource in the principal's ancestors trie is not counted
+    assert_eq!(bounds(&[ROLE, SAME_CLINIC]), TripBound { rows: 4, batches: 2, ancestors: 1 });
+    assert_eq!(bounds(&[ROLE]), TripBound { rows: 2, batches: 2, ancestors: 1 });
+    assert_eq!(bounds(&[AUDIOGRAM]), TripBound { rows: 0, batches: 0, ancestors: 0 });
+    for texts in [&[ROLE][..], &[ROLE, SAME_CLINIC], &[ROLE, SUBSTITUTE], &[SUBSTITUTE, AUDIOGRAM], &[AUDIOGRAM]] {
+        let (manifest, bound) = (built(texts), bounds(texts));
+        let slice = load(&manifest, &request(), &mut store()).unwrap();
+        assert!(slice.rows <= bound.rows && slice.batches <= bound.batches, "{} rows in {} batches, {bound:?}", slice.rows, slice.batches);
+    }
+    // an entry that reads nothing has its ancestors call and no batch
+    let empty = Manifest::read("A\t10\t500\t20\n").unwrap();
+    assert_eq!(empty.trip_bound(OPEN_FITTING), TripBound { rows: 0, batches: 0, ancestors: 1 });
+    assert_eq!(empty.trip_bound(RequestType::new(65_535, 65_535, 65_535)), TripBound { rows: 0, batches: 0, ancestors: 0 });
+    assert_eq!(Manifest::new().trip_bound(OPEN_FITTING), TripBound { rows: 0, batches: 0, ancestors: 0 });
 }
 
 #[test]

@@ -152,6 +152,14 @@ fn merge(to: To, line: &[u8], count: usize) -> u64 {
     listing_jobs::merge(to, line, count)
 }
 
+// `trips FILE [NAMES]`
+fn trips(to: To, line: &[u8], count: usize) -> u64 {
+    if count < 3 || 4 < count {
+        return misused(to, b"trips takes a file, and a name table or none");
+    }
+    trip_jobs::trips(to, line, count)
+}
+
 // `tree FILE [NAMES]`
 fn tree(to: To, line: &[u8], count: usize) -> u64 {
     if count < 3 || 4 < count {
@@ -178,6 +186,7 @@ fn run_command(to: To, line: &[u8], count: usize, word: &[u8]) -> u64 {
         Command::Merge => merge(to, line, count),
         Command::Type => type_listing(to, line, count),
         Command::Load => load(to, line, count),
+        Command::Trips => trips(to, line, count),
         Command::Tree => tree(to, line, count),
         Command::Page => page(to, line, count),
         Command::Help => help(to, line, count),

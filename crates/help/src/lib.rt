@@ -10,6 +10,7 @@ pub enum Command {
     Merge,
     Type,
     Load,
+    Trips,
     Tree,
     Page,
     Help,
@@ -35,6 +36,9 @@ impl Command {
         }
         if check::same(word, b"load") {
             return Command::Load;
+        }
+        if check::same(word, b"trips") {
+            return Command::Trips;
         }
         if check::same(word, b"tree") {
             return Command::Tree;
@@ -97,6 +101,14 @@ fn say_load(to: To) -> u64 {
     )
 }
 
+fn say_trips(to: To) -> u64 {
+    write(
+        to.out,
+        to.err,
+        b"terbagyl trips FILE [NAMES]\n\nReads FILE, a listing, and says for each request type what a load of such a request takes at most, whatever the store answers: rows asked for,\nbatches in which they are asked for, and the one ancestors call, which comes on top. With NAMES, a name table, names stand for ids.\nA request type that the listing has not takes nothing.\n",
+    )
+}
+
 fn say_tree(to: To) -> u64 {
     write(
         to.out,
@@ -117,7 +129,7 @@ fn say_commands(to: To) -> u64 {
     write(
         to.out,
         to.err,
-        b"usage: terbagyl COMMAND ...\n\n  build SCHEMA FILE...      analyse policy texts, and write the listing of their manifest\n  build --typed SCHEMA FILE...\n                            the same, typed by the schema\n  steps P A R SCHEMA FILE   analyse a step text under a request type, and write the contribution\n  list FILE                 read a listing, and write it again\n  merge FILE...             add listings or contributions to each other, and write the listing\n  type SCHEMA FILE          type a listing by a schema, and write the listing of what stays\n  load MANIFEST REQUEST STORE...\n                            load what a manifest has a request read from a store, and write the log\n  tree FILE [NAMES]         draw a listing as a tree, with names from a name table\n  page FILE [NAMES]         write a listing as an HTML page, with names from a name table\n  help [COMMAND]            this text, or more of a command; also -h and --help\n  --version                 which version this is\n\n",
+        b"usage: terbagyl COMMAND ...\n\n  build SCHEMA FILE...      analyse policy texts, and write the listing of their manifest\n  build --typed SCHEMA FILE...\n                            the same, typed by the schema\n  steps P A R SCHEMA FILE   analyse a step text under a request type, and write the contribution\n  list FILE                 read a listing, and write it again\n  merge FILE...             add listings or contributions to each other, and write the listing\n  type SCHEMA FILE          type a listing by a schema, and write the listing of what stays\n  load MANIFEST REQUEST STORE...\n                            load what a manifest has a request read from a store, and write the log\n  trips FILE [NAMES]        say how many batches and rows a load takes at most, with names from a name table\n  tree FILE [NAMES]         draw a listing as a tree, with names from a name table\n  page FILE [NAMES]         write a listing as an HTML page, with names from a name table\n  help [COMMAND]            this text, or more of a command; also -h and --help\n  --version                 which version this is\n\n",
     )
 }
 
@@ -159,6 +171,7 @@ pub fn say_command(to: To, command: Command) -> u64 {
         Command::Merge => say_merge(to),
         Command::Type => say_type(to),
         Command::Load => say_load(to),
+        Command::Trips => say_trips(to),
         Command::Tree => say_tree(to),
         Command::Page => say_page(to),
         Command::Help => say_all(to),

@@ -8,6 +8,7 @@ use crate::side::{Plain, Side};
 #[derive(Clone, Copy, Debug, PartialEq, Eq)]
 pub enum Call {
     Type,
+    Bound(u64),
     Begin([u64; 3]),
     Batch,
     Answer,
@@ -81,6 +82,7 @@ impl Lends {
                 told_of(plain.to_typed(schema.reference(), manifest.reference(), typed.reference_mut())),
                 told_of(side.to_typed(schema.other(), manifest.other(), typed.other_mut())),
             ),
+            Call::Bound(r) => (plain.trip_bound(manifest.reference(), r), side.trip_bound(manifest.other(), r)),
             Call::Begin(r) => (
                 plain.load_begin(manifest.reference(), r, context.reference(), state.reference_mut()),
                 side.load_begin(manifest.other(), r, context.other(), state.other_mut()),
@@ -101,6 +103,7 @@ impl Lends {
         }
         let touched: Vec<(&str, &mut Twin)> = match call {
             Call::Type => vec![("schema", schema), ("manifest", manifest), ("typed manifest", typed)],
+            Call::Bound(_) => vec![("manifest", manifest)],
             Call::Begin(_) => vec![("manifest", manifest), ("context", context), ("state", state)],
             Call::Batch => vec![("state", state), ("batch rows", batch)],
             Call::Answer => vec![("state", state), ("answers", lent)],

@@ -7,6 +7,7 @@ use crate::plain_load::Told;
 
 extern "C" {
     fn terbagyl_type(schema: *const u64, schema_len: usize, manifest: *const u64, manifest_len: usize, out: *mut u64, out_len: usize, value: *mut u64) -> u64;
+    fn terbagyl_trip_bound(manifest: *const u64, manifest_len: usize, triple: u64, value: *mut u64, first: *mut u64, second: *mut u64) -> u64;
     fn terbagyl_load_begin(
         manifest: *const u64,
         manifest_len: usize,
@@ -47,6 +48,10 @@ impl Loads for Library {
             (0, 0) => Ok(()),
             (number, place) => Err(Refusal { number, place }),
         }
+    }
+
+    fn trip_bound(&mut self, manifest: &[u64], request: u64) -> Told {
+        told(|a, b, c| unsafe { terbagyl_trip_bound(manifest.as_ptr(), manifest.len(), request, a, b, c) })
     }
 
     fn load_begin(&mut self, manifest: &[u64], request: [u64; 3], context: &[u64], state: &mut [u64]) -> Told {

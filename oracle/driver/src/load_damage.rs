@@ -54,6 +54,7 @@ fn twin(lends: &mut Lends, buffer: Buffer) -> &mut Twin {
 fn buffers(call: Call) -> &'static [Buffer] {
     match call {
         Call::Type => &[Buffer::Schema, Buffer::Manifest, Buffer::Typed],
+        Call::Bound(_) => &[Buffer::Manifest],
         Call::Begin(_) => &[Buffer::Manifest, Buffer::Context, Buffer::State],
         Call::Batch => &[Buffer::State, Buffer::Batch],
         Call::Answer | Call::Sets => &[Buffer::State, Buffer::Lent],
@@ -162,11 +163,13 @@ fn a_damage(rng: &mut Rng, lends: &mut Lends, way: &Way) -> Damage {
     let in_turn = way.next(lends);
     let call = match rng.below(20) {
         0..=1 => Call::Type,
-        2..=4 => way.begin(),
+        2 => Call::Bound(way.case.request.kind),
+        3..=4 => way.begin(),
         5..=6 => *rng.pick(&[Call::Batch, Call::Answer, Call::Ancestors, Call::Sets, Call::Result]),
         _ => in_turn,
     };
     let call = match call {
+        Call::Bound(kind) if rng.percent(20) => Call::Bound(*rng.pick(&[1 << 48, u64::MAX, kind + (1 << 16), kind ^ 1, kind + (1 << 48), (1 << 48) - 1])),
         Call::Begin(request) if rng.percent(20) => {
             let mut request = request;
             let at = rng.below(3);
@@ -245,7 +248,7 @@ fn case_damage(
         let mut last = (damage.call, told.clone());
         for _ in 0..3 {
             let (call, Ok(told)) = last else { break };
-            if told.number != 0 || call == Call::Type {
+            if told.number != 0 || matches!(call, Call::Type | Call::Bound(_)) {
                 break;
             }
             way.after(lends, call, told);
@@ -262,6 +265,7 @@ fn case_damage(
 fn name_of(call: Call) -> &'static str {
     match call {
         Call::Type => "type",
+        Call::Bound(_) => "trip_bound",
         Call::Begin(_) => "begin",
         Call::Batch => "batch",
         Call::Answer => "answer",

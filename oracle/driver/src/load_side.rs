@@ -6,6 +6,7 @@ use crate::side::Plain;
 
 pub trait Loads {
     fn to_typed(&mut self, schema: &[u64], manifest: &[u64], out: &mut [u64]) -> Answer<()>;
+    fn trip_bound(&mut self, manifest: &[u64], request: u64) -> Told;
     fn load_begin(&mut self, manifest: &[u64], request: [u64; 3], context: &[u64], state: &mut [u64]) -> Told;
     fn load_batch(&mut self, state: &mut [u64], out: &mut [u64]) -> Told;
     fn load_answer(&mut self, state: &mut [u64], answers: &[u64]) -> Told;
@@ -17,6 +18,10 @@ pub trait Loads {
 impl Loads for Plain {
     fn to_typed(&mut self, schema: &[u64], manifest: &[u64], out: &mut [u64]) -> Answer<()> {
         self.typer.call(schema, manifest, out)
+    }
+
+    fn trip_bound(&mut self, manifest: &[u64], request: u64) -> Told {
+        plain_load::trip_bound(manifest, request)
     }
 
     fn load_begin(&mut self, manifest: &[u64], request: [u64; 3], context: &[u64], state: &mut [u64]) -> Told {

@@ -49,15 +49,13 @@ impl Tree {
         tree
     }
 
-    /// How many nodes stand in no ancestors trie, and the most field steps to one of them.
-    pub fn primary(&self) -> (usize, usize) {
-        fn below(tree: &Tree, node: usize, steps: usize, found: &mut (usize, usize)) {
-            *found = (found.0 + 1, found.1.max(steps));
-            tree.nodes[node].fields.iter().for_each(|(_, child)| below(tree, *child, steps + 1, found));
+    /// How many nodes stand in no ancestors trie, and one more than the most field steps to one of them; without a node 0 and 0.
+    pub fn primary(&self) -> (u64, u64) {
+        fn below(tree: &Tree, node: usize, steps: u64) -> (u64, u64) {
+            let fields = tree.nodes[node].fields.iter().map(|(_, child)| below(tree, *child, steps + 1));
+            fields.fold((1, steps + 1), |(nodes, most), (n, m)| (nodes + n, most.max(m)))
         }
-        let mut found = (0, 0);
-        self.roots.iter().for_each(|(_, node)| below(self, *node, 0, &mut found));
-        found
+        self.roots.iter().map(|(_, node)| below(self, *node, 0)).fold((0, 0), |(nodes, most), (n, m)| (nodes + n, most.max(m)))
     }
 }
 
@@ -405,6 +403,18 @@ fn either(told: Result<Told, Told>) -> Told {
 }
 
 // ---------------------------------------------------------------- calls
+
+/// The bound on the trips of a load (K10): beside 0 the ancestors calls, the batches and the rows.
+pub fn trip_bound(manifest: &[u64], request: u64) -> Told {
+    if manifest.len() < Kind::Manifest.words() {
+        return refused(31);
+    }
+    let Some(rows) = rows_in(manifest).filter(|rows| lawful(Kind::Manifest, rows) && is_request([request, 0, 0])) else { return refused(1) };
+    let Some(at) = rows.iter().position(|w| *w == entry_word(request)) else { return done(0, 0, 0) };
+    let nodes: Vec<u64> = rows[at + 1..].iter().copied().take_while(|w| w % 32 != 0).collect();
+    let (nodes, batches) = Tree::of(&nodes).primary();
+    done(1, batches, nodes as usize)
+}
 
 pub fn begin(manifest: &[u64], request: [u64; 3], context: &[u64], state: &mut [u64]) -> Told {
     if manifest.len() < Kind::Manifest.words() || context.len() < CONTEXT_WORDS || state.len() < STATE_WORDS {
