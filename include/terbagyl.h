@@ -107,8 +107,8 @@ static inline const char *terbagyl_reason(uint64_t number)
     }
 }
 
-/* ---- The version: the first number times 65,536, and the second. This header is of version 0.2. */
-#define TERBAGYL_VERSION 2u
+/* ---- The version: the first number times 65,536, and the second. This header is of version 0.3. */
+#define TERBAGYL_VERSION 3u
 
 /* The version of the library that is linked. */
 uint64_t terbagyl_version(void);

@@ -56,7 +56,7 @@ pub use value::{Entity, Value};
 /// The version of the library that is linked: its first number and its second.
 ///
 /// ```
-/// assert_eq!(terbagyl::version(), (0, 2));
+/// assert_eq!(terbagyl::version(), (0, 3));
 /// ```
 pub fn version() -> (u64, u64) {
     let version = raw::version();

@@ -11,9 +11,9 @@ use Rattle.rows.specs.declared.place.Held.the-variants.{Missing, There, Unheld}
 use Rattle.listing.specs.declared.whole.Written.{Written}
 use Rattle.listing.specs.declared.whole.Written.the-variants.{Bytes, Refused as Unwritten}
 
--- version 0.2: the first number times 65,536, and the second
+-- version 0.3: the first number times 65,536, and the second
 abbrev pub version : ℕ
-version = 2
+version = 3
 
 abbrev pub replyNumber : Reply → ℕ
 replyNumber Done = 0

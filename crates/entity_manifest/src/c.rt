@@ -21,7 +21,7 @@ use words::Reply;
 pub extern "C" fn terbagyl_version() -> u64
     ensures { λ r. ⌜ r ≡ version ⌝ }
 {
-    2
+    3
 }
 
 // A reply as its number, its place beside it.

@@ -186,6 +186,6 @@ pub fn say_version(to: To) -> u64 {
     write(
         to.out,
         to.err,
-        b"terbagyl 0.2, after entity_manifest of cedar-policy-validator 4.4.1\n",
+        b"terbagyl 0.3, after entity_manifest of cedar-policy-validator 4.4.1\n",
     )
 }
