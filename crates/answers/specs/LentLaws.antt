@@ -15,6 +15,7 @@ use lib.ListN.{length, take, drop, getD, length-append, length-drop, take-append
 use lib.Seq.{length-take-le, take-append-le, drop-append-le, take-add, drop-at, drop-cons}
 use Rattle.rules.specs.Facts.{by-test, by-option, both-true, cond-some, compared, then-accepted, accepted-same}
 use Rattle.rules.specs.Loading.{LoadAnswer, done, refusedAt, summed}
+use Rattle.rules.specs.SliceLaws.{done-same}
 use Rattle.rules.specs.Values.{Entity}
 use Rattle.rules.specs.Numbers.{Answer, accepted, refused, andThen}
 use Rattle.answers.specs.Answers.{idSet, headIn, isEntity, entityIn, ReadItem, readItem, withFirst, readFrom, checkedAs, AllRead, ItemOf, itemAt, sizeOfItem, lentFrom, StandsAt}
@@ -94,9 +95,6 @@ module _ {A : Type 0} (one : List ℕ → Option (ReadItem A)) where
       onward next (refused number place) e h = let known = h e in cc
 
 -- ---- how many words they take
-
-done-same : {m n : ℕ} → done m ≡ done n → m ≡ n
-done-same e = cc
 
 module _ (lent : Lending) where
   pub all-within :

@@ -44,7 +44,7 @@ use Rattle.values.specs.ValueWords.{valueRowsOf, rowAsked, requestWord}
 use Rattle.answers.specs.Answers.{headIn}
 use Rattle.words.specs.Runs.{Wrote}
 use Rattle.words.specs.RunLaws.{wrote-length}
-use Rattle.row_walk.specs.BatchLaws.{take-sets}
+use Rattle.words.specs.SeqLaws.{take-sets}
 use Rattle.row_walk.specs.SmallLaws.{SmallRows, remaining-small, batch-small, rows-again}
 use Rattle.merging.specs.MergeEntityLaws.{entityOf}
 use Rattle.batches.specs.Hearings.{heardAt, askedBefore, heardBefore, askedIn, heardIn, AnswerStands, AllStand, mergesWith}

@@ -18,7 +18,7 @@ use Rattle.rules.specs.SliceLaws.{answersTo}
 use Rattle.rules.specs.TakeLaws.{foundOr, takenBy}
 use Rattle.words.specs.Runs.{Wrote}
 use Rattle.words.specs.RunLaws.{wrote-length}
-use Rattle.row_walk.specs.BatchLaws.{take-sets}
+use Rattle.words.specs.SeqLaws.{take-sets}
 use Rattle.values.specs.ValueWords.{requestWord}
 use Rattle.row_walk.specs.Batches.{BatchWritten}
 use Rattle.row_walk.specs.declared.batch.Batch.{Batch}

@@ -25,7 +25,7 @@ use Rattle.answers.specs.Answers.{headIn}
 use Rattle.answers.specs.AnswerLaws.{set-ids}
 use Rattle.words.specs.Runs.{Wrote}
 use Rattle.words.specs.RunLaws.{wrote-length, wrote-more}
-use Rattle.row_walk.specs.BatchLaws.{take-sets}
+use Rattle.words.specs.SeqLaws.{take-sets}
 use Rattle.batches.specs.Hearings.{heardAt, askedBefore, heardBefore, askedIn, heardIn, AnswerStands, AllStand}
 use Rattle.batches.specs.HearingLaws.{standing-absent, standing-present, all-stand}
 use Rattle.batches.specs.Takes.{StaysBefore, TakenInto, LoadAt}

@@ -17,7 +17,7 @@ use Rattle.load_ends.specs.Ends.{ancestorsAnswerIn, resultIn}
 -- The states of a load for a request type of a lent manifest: what begin leaves where it is not refused, and what any call leaves, whatever
 -- it is lent and whether it is refused or not.
 pub data StateOf (manifest : List ℕ) (type : ℕ) : List ℕ → Type 0 where
-  begun :
+  begin-called :
       (principal resource : ℕ) (context state : List ℕ) (count batches rows : ℕ)
       → beginIn manifest type principal resource context state .reply ≡ Done count batches rows
       → StateOf manifest type (beginIn manifest type principal resource context state .buffer)

@@ -1,5 +1,5 @@
 -- Laws of what the calls of a load report and keep: the entry that begin stores stays where it is. No contract cites this file.
-use Prim.Native.Nat.{ℕ, zero, suc, _+_, _^_, _≤_, _<_}
+use Prim.Native.Nat.{ℕ, _+_, _^_, _≤_, _<_}
 use native.Mathlib.Omega.{arith}
 use mathlib.Core.Path.{_≡_, refl, sym, ap, _∙_}
 use mathlib.Core.Bool.{Bool, true, false, cond, _&&_, and-eq-true-iff}
@@ -7,7 +7,7 @@ use mathlib.Core.List.{List, [], _∷_, _++_, map, append-assoc}
 use mathlib.Core.Option.{Option, none, some}
 use lib.Dec.{leb, ltb, eqb}
 use lib.ListN.{length, take, drop, getD, set, length-map}
-use lib.Seq.{sets, sets-eq, length-sets, getD-set-other, getD-take, take-set-le, drop-set-lt, drop-at, length-take-le, take-append-seam}
+use lib.Seq.{sets, sets-eq, length-sets, getD-set-other, getD-take, drop-set-lt, drop-at, length-take-le, take-append-seam}
 use borrow.Author.Tests.{leb-true}
 use Rattle.rules.specs.Facts.{by-test, both-true}
 use Rattle.rules.specs.Tries.{manifest, ordered, nodesIn}
@@ -46,6 +46,7 @@ use Rattle.rules.specs.TripLaws.{entry-in-order}
 use Rattle.rules.specs.TripTheorems.{reported-within}
 use Rattle.words.specs.Runs.{wordsIn}
 use Rattle.words.specs.RunLaws.{taken-back}
+use Rattle.words.specs.SeqLaws.{word-kept, part-kept, take-sets}
 use Rattle.rows.specs.Words.{wordOf}
 use Rattle.rows.specs.LentLaws.{packed}
 use Rattle.rows.specs.StateLaws.{rows-lawful}
@@ -57,7 +58,6 @@ use Rattle.load_state.specs.TurnLaws.{lent-told, told-parts}
 use Rattle.load_state.specs.Outcomes.{givenIn, lentWords, behindCount, wordsOf}
 use Rattle.load_state.specs.declared.LoadReply.{LoadReply}
 use Rattle.load_state.specs.declared.LoadReply.the-variants.{Done, Refused, Counted}
-use Rattle.row_walk.specs.BatchLaws.{take-sets}
 use Rattle.entries.specs.EntryLaws.{entry-few}
 use Rattle.entries.specs.Bounds.{told, tripBoundIn}
 use Rattle.entries.specs.BoundLaws.{bound-lawful}
@@ -70,7 +70,7 @@ use Rattle.load_ancestors.specs.Asking.{requestsWords, handingRequests, askingO
 use Rattle.load_ends.specs.Ends.{storingSets, ancestorsAnswerIn, sliceRoom, handingSlice, resultIn}
 use Rattle.calls.specs.LoadsIn.{
   StateOf,
-  begun,
+  begin-called,
   batch-called,
   answer-called,
   ancestors-called,
@@ -150,78 +150,61 @@ module _ (state out : List ℕ) where
       go (refusedAt number place) e = tt
       go (counted expected got) e = tt
 
+-- a call that takes what is lent, at its turn
+given-done :
+    {A B : Type 0} (state : List ℕ) (turn : ℕ) (given : LoadAnswer A) (takes : Load → A → LoadAnswer B) {c : B}
+    → (lentLoad state then (λ load. cond (eqb (getD state 0 0) turn) (given then takes load) outOfTurn)) ≡ done c
+    → (load : Load) × (lentLoad state ≡ done load) × (a : A) × (takes load a ≡ done c)
+given-done {A} {B} state turn given takes {c} e =
+    let (load, told, rest) =
+    then-done (lentLoad state) (λ load. cond (eqb (getD state 0 0) turn) (given then takes load) outOfTurn) e in
+    go load told (eqb (getD state 0 0) turn) rest
+  where
+    go :
+        (load : Load)
+        → lentLoad state ≡ done load
+        → (t : Bool)
+        → cond t (given then takes load) outOfTurn ≡ done c
+        → (load : Load) × (lentLoad state ≡ done load) × (a : A) × (takes load a ≡ done c)
+    go load told true e = let (a, first, rest) = then-done given (takes load) e in (load, told, a, rest)
+    go load told false e = let z : _≡_ {A = ℕ} 0 1 = cc in absurd (omega arith)
+
 module _ (state lent : List ℕ) where
+  abbrev answering : LoadAnswer (Called (List EntityRequest))
+  answering =
+      lentLoad state then
+      (λ load. cond (eqb (getD state 0 0) 2) (givenIn Answers lent then takeBatch (transcriptIn state) load) outOfTurn)
+
+  abbrev answeringSets : LoadAnswer (Called ℕ)
+  answeringSets =
+      lentLoad state then
+      (λ load. cond (eqb (getD state 0 0) 4) (givenIn Sets lent then takeAncestors (transcriptIn state) load) outOfTurn)
+
   answer-reports : ReportsWithin (boundIn state) (answerIn state lent .reply)
   unfolding answerIn
   answer-reports =
-      by-test (leb loadWords (length state) && leb lentWords (length lent)) (λ t. rw t (go _ refl)) (λ t. rw t tt)
+      by-test (leb loadWords (length state) && leb lentWords (length lent)) (λ t. rw t (go answering refl)) (λ t. rw t tt)
     where
-      taken : (load : Load) (c : Called (List EntityRequest)) (t : Bool)
-          → cond t (givenIn Answers lent then takeBatch (transcriptIn state) load) outOfTurn ≡ done c
-          → lentLoad state ≡ done load
-          → CountsWithin (boundIn state) (c .counts)
-      taken load c true e told =
-          let (answers, given, takes) = then-done (givenIn Answers lent) (takeBatch (transcriptIn state) load) e in
-          lent-within state load told (callsAnswer answers c takes)
-      taken load c false e told = let z : _≡_ {A = ℕ} 0 1 = cc in absurd (omega arith)
-
-      go :
-          (o : LoadAnswer (Called (List EntityRequest)))
-          → (lentLoad state then
-          (λ load. cond (eqb (getD state 0 0) 2) (givenIn Answers lent then takeBatch (transcriptIn state) load) outOfTurn))
-          ≡ o
-          → ReportsWithin (boundIn state) (storingAnswers state lent o .reply)
+      go : (o : LoadAnswer (Called (List EntityRequest))) → answering ≡ o → ReportsWithin (boundIn state) (storingAnswers state lent o .reply)
       go (done c) e =
-          let (load, told, takes) =
-          then-done (lentLoad state)
-          (λ load. cond (eqb (getD state 0 0) 2) (givenIn Answers lent then takeBatch (transcriptIn state) load) outOfTurn) e in
-          taken load c (eqb (getD state 0 0) 2) takes told
+          let (load, told, answers, takes) = given-done state 2 (givenIn Answers lent) (takeBatch (transcriptIn state)) e in
+          lent-within state load told (callsAnswer answers c takes)
       go (refusedAt number place) e = tt
       go (counted expected got) e = tt
 
   ancestors-answer-reports : ReportsWithin (boundIn state) (ancestorsAnswerIn state lent .reply)
   unfolding ancestorsAnswerIn
   ancestors-answer-reports =
-      by-test (leb loadWords (length state) && leb lentWords (length lent)) (λ t. rw t (go _ refl)) (λ t. rw t tt)
+      by-test (leb loadWords (length state) && leb lentWords (length lent)) (λ t. rw t (go answeringSets refl)) (λ t. rw t tt)
     where
-      taken : (load : Load) (c : Called ℕ) (t : Bool)
-          → cond t (givenIn Sets lent then takeAncestors (transcriptIn state) load) outOfTurn ≡ done c
-          → lentLoad state ≡ done load
-          → CountsWithin (boundIn state) (c .counts)
-      taken load c true e told =
-          let (sets, given, takes) = then-done (givenIn Sets lent) (takeAncestors (transcriptIn state) load) e in
-          lent-within state load told (callsAncestorsAnswer sets c takes)
-      taken load c false e told = let z : _≡_ {A = ℕ} 0 1 = cc in absurd (omega arith)
-
-      go :
-          (o : LoadAnswer (Called ℕ))
-          → (lentLoad state then
-          (λ load. cond (eqb (getD state 0 0) 4) (givenIn Sets lent then takeAncestors (transcriptIn state) load) outOfTurn))
-          ≡ o
-          → ReportsWithin (boundIn state) (storingSets state (behindCount lent) o .reply)
+      go : (o : LoadAnswer (Called ℕ)) → answeringSets ≡ o → ReportsWithin (boundIn state) (storingSets state (behindCount lent) o .reply)
       go (done c) e =
-          let (load, told, takes) =
-          then-done (lentLoad state)
-          (λ load. cond (eqb (getD state 0 0) 4) (givenIn Sets lent then takeAncestors (transcriptIn state) load) outOfTurn) e in
-          taken load c (eqb (getD state 0 0) 4) takes told
+          let (load, told, sets, takes) = given-done state 4 (givenIn Sets lent) (takeAncestors (transcriptIn state)) e in
+          lent-within state load told (callsAncestorsAnswer sets c takes)
       go (refusedAt number place) e = tt
       go (counted expected got) e = tt
 
 -- What of a state its bound depends on: the words of its request type and of its entry. They stay where other words are stored.
-
-word-kept : (j : ℕ) (l : List ℕ) (i : ℕ) (vs : List ℕ) → j < i → getD (sets l i vs) j 0 ≡ getD l j 0
-word-kept j l i [] h = refl
-word-kept j l i (v ∷ vs) h = word-kept j (set l i v) (suc i) vs (omega arith) ∙ getD-set-other l i j v 0 (λ e. omega arith)
-
-part-kept : (n from : ℕ) (l : List ℕ) (i v : ℕ) → from + n ≤ i → take n (drop from (set l i v)) ≡ take n (drop from l)
-part-kept n zero l i v h = take-set-le n l i v (omega arith)
-part-kept n (suc from) [] i v h = refl
-part-kept n (suc from) (x ∷ xs) zero v h = absurd (omega arith)
-part-kept n (suc from) (x ∷ xs) (suc i) v h = part-kept n from xs i v (omega arith)
-
-parts-kept : (n from : ℕ) (l : List ℕ) (i : ℕ) (vs : List ℕ) → from + n ≤ i → take n (drop from (sets l i vs)) ≡ take n (drop from l)
-parts-kept n from l i [] h = refl
-parts-kept n from l i (v ∷ vs) h = parts-kept n from (set l i v) (suc i) vs (omega arith) ∙ part-kept n from l i v h
 
 record SameEntry (state now : List ℕ) : Type 0 where
   type : getD now 1 0 ≡ getD state 1 0
@@ -239,21 +222,21 @@ turned state turn = record {
   rows = ap (take (getD state 5 0)) (drop-set-lt 9 state 0 turn (omega arith));
 }
 
-stored :
+lent-stored :
     (state : List ℕ) (turn at count from : ℕ) (words : List ℕ)
     → getD state 5 0 ≤ 4097
     → 6 < at
     → at < 9
     → 4106 ≤ from
     → SameEntry state (sets (set (set state 0 turn) at count) from words)
-stored state turn at count from words few low high behind =
+lent-stored state turn at count from words few low high behind =
     let there = set (set state 0 turn) at count in
     let before = turned state turn in
     record {
       type = word-kept 1 there from words (omega arith) ∙ getD-set-other (set state 0 turn) at 1 count 0 (λ e. omega arith) ∙ before .type;
       count = word-kept 5 there from words (omega arith) ∙ getD-set-other (set state 0 turn) at 5 count 0 (λ e. omega arith) ∙ before .count;
       rows =
-          parts-kept (getD state 5 0) 9 there from words (omega arith)
+          part-kept (getD state 5 0) 9 there from words (omega arith)
           ∙ ap (take (getD state 5 0)) (drop-set-lt 9 (set state 0 turn) at count high)
           ∙ before .rows;
     }
@@ -291,20 +274,17 @@ module _ (state lent : List ℕ) where
   answer-keeps : boundIn (answerIn state lent .buffer) ≡ boundIn state
   unfolding answerIn
   answer-keeps =
-      by-test (leb loadWords (length state) && leb lentWords (length lent)) (λ t. rw t (go _ refl)) (λ t. rw t)
+      by-test (leb loadWords (length state) && leb lentWords (length lent)) (λ t. rw t (go (answering state lent) refl)) (λ t. rw t)
     where
       go :
           (o : LoadAnswer (Called (List EntityRequest)))
-          → (lentLoad state then
-          (λ load. cond (eqb (getD state 0 0) 2) (givenIn Answers lent then takeBatch (transcriptIn state) load) outOfTurn))
-          ≡ o
+          → answering state lent ≡ o
           → boundIn (storingAnswers state lent o .buffer) ≡ boundIn state
       go (done c) e =
-          let (load, told, takes) =
-          then-done (lentLoad state)
-          (λ load. cond (eqb (getD state 0 0) 2) (givenIn Answers lent then takeBatch (transcriptIn state) load) outOfTurn) e in
+          let (load, told, _, _) = given-done state 2 (givenIn Answers lent) (takeBatch (transcriptIn state)) e in
           same-bound state _
-          (stored state (turnNumber (c .left .turn)) 7 (length (c .left .answers)) (12298 + wordsOf Answers (getD state 7 0) (answerWords state))
+          (lent-stored state (turnNumber (c .left .turn)) 7 (length (c .left .answers))
+          (12298 + wordsOf Answers (getD state 7 0) (answerWords state))
           (take (wordsOf Answers (getD lent 0 0) (behindCount lent)) (behindCount lent))
           (few-rows state load told) (omega arith) (omega arith) (omega arith))
       go (refusedAt number place) e = refl
@@ -313,20 +293,13 @@ module _ (state lent : List ℕ) where
   ancestors-answer-keeps : boundIn (ancestorsAnswerIn state lent .buffer) ≡ boundIn state
   unfolding ancestorsAnswerIn
   ancestors-answer-keeps =
-      by-test (leb loadWords (length state) && leb lentWords (length lent)) (λ t. rw t (go _ refl)) (λ t. rw t)
+      by-test (leb loadWords (length state) && leb lentWords (length lent)) (λ t. rw t (go (answeringSets state lent) refl)) (λ t. rw t)
     where
-      go :
-          (o : LoadAnswer (Called ℕ))
-          → (lentLoad state then
-          (λ load. cond (eqb (getD state 0 0) 4) (givenIn Sets lent then takeAncestors (transcriptIn state) load) outOfTurn))
-          ≡ o
-          → boundIn (storingSets state (behindCount lent) o .buffer) ≡ boundIn state
+      go : (o : LoadAnswer (Called ℕ)) → answeringSets state lent ≡ o → boundIn (storingSets state (behindCount lent) o .buffer) ≡ boundIn state
       go (done c) e =
-          let (load, told, takes) =
-          then-done (lentLoad state)
-          (λ load. cond (eqb (getD state 0 0) 4) (givenIn Sets lent then takeAncestors (transcriptIn state) load) outOfTurn) e in
+          let (load, told, _, _) = given-done state 4 (givenIn Sets lent) (takeAncestors (transcriptIn state)) e in
           same-bound state _
-          (stored state (turnNumber (c .left .turn)) 8 (c .out) 24586 (take (wordsOf Sets (c .out) (behindCount lent)) (behindCount lent))
+          (lent-stored state (turnNumber (c .left .turn)) 8 (c .out) 24586 (take (wordsOf Sets (c .out) (behindCount lent)) (behindCount lent))
           (few-rows state load told) (omega arith) (omega arith) (omega arith))
       go (refusedAt number place) e = refl
       go (counted expected got) e = refl
@@ -361,7 +334,7 @@ module _ (state : List ℕ) (turn triple principal resource first : ℕ) (entry 
       ap (drop 9) (laid ∙ append-assoc (take 9 before) entry (drop (9 + length entry) before))
       ∙ drop-at (take 9 before) (entry ++ drop (9 + length entry) before) 9 (length-take-le 9 before (omega arith)) in
       ap (λ n. take n (drop 9 now)) stored-count
-      ∙ parts-kept (length entry) 9 (sets before 9 entry) 4106 context (omega arith)
+      ∙ part-kept (length entry) 9 (sets before 9 entry) 4106 context (omega arith)
       ∙ ap (take (length entry)) behind
       ∙ take-append-seam entry (drop (9 + length entry) before)
 
@@ -447,7 +420,7 @@ pub state-bound :
     {manifest : List ℕ} {type : ℕ} {state : List ℕ}
     → StateOf manifest type state
     → SameTrips (boundIn state) (tripBound (rowsIn manifest) type) × (tripBoundIn manifest type ≡ AtMost (told (tripBound (rowsIn manifest) type)))
-state-bound (begun principal resource context state count batches rows e) = begin-bound _ _ principal resource context state count batches rows e
+state-bound (begin-called principal resource context state count batches rows e) = begin-bound _ _ principal resource context state count batches rows e
 state-bound (batch-called {state} out h) = rw (batch-keeps state out) (state-bound h)
 state-bound (answer-called {state} answers h) = rw (answer-keeps state answers) (state-bound h)
 state-bound (ancestors-called {state} out h) = rw (ancestors-keeps state out) (state-bound h)

@@ -222,12 +222,12 @@ entry-ends request n (row ∷ rows) entry e =
     (λ u. entry-ends request n rows entry (rw (t, u) at e)))
     (λ t. entry-ends request (suc n) rows entry (rw t at e))
 
-pub entry-nodes :
+pub found-nodes :
     (request : ℕ) (rows : List Row) (entry : Entry)
     → ordered [] rows ≡ true
     → entryFor request 0 rows ≡ some entry
     → NodesOf request (entry .nodes)
-entry-nodes request rows entry order e =
+found-nodes request rows entry order e =
     record { in-order = entry-in-order request rows entry order e; no-entry = entry-ends request 0 rows entry e }
 
 -- the bound with an entry and without

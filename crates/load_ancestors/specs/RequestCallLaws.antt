@@ -11,7 +11,7 @@ use borrow.Author.Tests.{eqb-true, ne-eqb}
 use Rattle.rules.specs.Facts.{by-test, both-true}
 use Rattle.rules.specs.Tries.{Row}
 use Rattle.rules.specs.Loading.{LoadAnswer, done, refusedAt, counted, _then_, Request, EntityRequest, Load, Loaded, ancestorsRequest, ancestorsRequests}
-use Rattle.rules.specs.SliceLaws.{then-done}
+use Rattle.rules.specs.SliceLaws.{done-same, then-done}
 use Rattle.rows.specs.Words.{rowIn}
 use Rattle.rows.specs.States.{rowsOf}
 use Rattle.ancestors.specs.Requests.{RequestsAnswered}
@@ -21,7 +21,7 @@ use Rattle.words.specs.declared.Reply.the-variants.{Done as All-done, Refused a
 use Rattle.load_state.specs.Transcripts.{nodeWords, transcriptIn, lentLoad}
 use Rattle.load_state.specs.Outcomes.{refusingOut, HandedAs}
 use Rattle.load_state.specs.WorkedLaws.{nodes-few}
-use Rattle.load_state.specs.TurnLaws.{asks-fits, done-same, lent-told}
+use Rattle.load_state.specs.TurnLaws.{asks-fits, lent-told}
 use Rattle.load_state.specs.declared.LoadReply.the-variants.{Done, Refused}
 use Rattle.load_ends.specs.Ends.{ReadTo}
 use Rattle.load_ancestors.specs.Asking.{askingOf, ancestorsIn}

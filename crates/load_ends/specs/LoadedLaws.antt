@@ -13,7 +13,8 @@ use Rattle.load_state.specs.LoadStates.{answerWords}
 use Rattle.load_state.specs.Transcripts.{nodeWords, lentLoad, LentTo}
 use Rattle.load_state.specs.WorkedLaws.{GoodParts}
 use Rattle.load_state.specs.CameLaws.{came-asked, came-rows}
-use Rattle.load_state.specs.TurnLaws.{done-same, lent-came, lent-told, told-parts}
+use Rattle.rules.specs.SliceLaws.{done-same}
+use Rattle.load_state.specs.TurnLaws.{lent-came, lent-told, told-parts}
 use Rattle.load_state.specs.declared.working.Worked.{Worked}
 use Rattle.load_state.specs.declared.working.Worked.the-variants.{Come}
 use Rattle.load_ends.specs.Ends.{ReadTo}

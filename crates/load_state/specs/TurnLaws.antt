@@ -11,6 +11,7 @@ use Rattle.rules.specs.Facts.{by-test, both-true}
 use Rattle.rules.specs.Tries.{Row}
 use Rattle.rules.specs.Loading.{LoadAnswer, done, refusedAt, counted, Load, summed}
 use Rattle.rules.specs.LoadCalls.{Transcript, isSummed, turnFits, isOfLoad, workedOut}
+use Rattle.rules.specs.SliceLaws.{done-same}
 use Rattle.batches.specs.Replays.{NoLoad}
 use Rattle.load_state.specs.LoadStates.{goodParts}
 use Rattle.load_state.specs.Transcripts.{turnIn, transcriptIn, loadIn, CameTo, WorkedTo, lentLoad, LentTo}
@@ -54,9 +55,6 @@ module _ (turn : ℕ) (load : Load) (sets : List (List ℕ)) where
       )
 
 -- ---- the load of a lent state
-
-pub done-same : {A : Type 0} {a b : A} → done a ≡ done b → a ≡ b
-done-same e = cc
 
 -- a load whose turn fits, or 1
 abbrev fitting : Transcript → LoadAnswer Load → LoadAnswer Load

@@ -10,7 +10,7 @@ use mathlib.Core.Option.{Option, none, some}
 use borrow.Author.Tests.{lt-ltb, le-ltb, eq-eqb, ne-eqb, eqb-true}
 use lib.Dec.{eqb}
 use lib.ListN.{length, take, drop, getD, set, length-append, length-map, drop-of-length-le}
-use lib.Seq.{sets, drop-cons, take-set-le}
+use lib.Seq.{sets, drop-cons}
 use Rattle.rules.specs.Facts.{by-test, by-option, both-true}
 use Rattle.rules.specs.Tries.{Next, first, second, same, next, sameList}
 use Rattle.rules.specs.TrieLaws.{Says, next-says, says-next}
@@ -18,6 +18,7 @@ use Rattle.rules.specs.PlaceLaws.{same-list}
 use Rattle.rules.specs.ValueRows.{placedRow, insideAt, opened, insideAfter, aloneRow, agreeRows, bothRows, mergeRows}
 use Rattle.rules.specs.ValueRowLaws.{turn-left, turn-right, turn-both, alone-taken, alone-none, Under, written-on, under-end, under-begun}
 use Rattle.words.specs.Runs.{Wrote}
+use Rattle.words.specs.SeqLaws.{take-sets}
 use Rattle.words.specs.RunLaws.{wrote-ended, wrote-length}
 use Rattle.values.specs.ValueWords.{depthFrom, keyFrom, kindFrom, numberFrom, valueRowIn, valueRowsOf, valueWord}
 use Rattle.values.specs.ValueWordLaws.{word-again}
@@ -205,11 +206,6 @@ words-again : (words : List ℕ) → map valueWord (valueRowsOf words) ≡ words
 words-again [] = refl
 words-again (w ∷ words) = rw (word-again w, words-again words)
 
--- what is written from a place on leaves what stands before it
-front-kept : (n : ℕ) (l : List ℕ) (i : ℕ) (xs : List ℕ) → n ≤ i → take n (sets l i xs) ≡ take n l
-front-kept n l i [] h = refl
-front-kept n l i (x ∷ xs) h = front-kept n (set l i x) (suc i) xs (omega arith) ∙ take-set-le n l i x h
-
 module _ {left right out out′ : List ℕ} {to i j inside at : ℕ} (passing : MergePassed left right out to out′ i j inside at) where
   -- a turn writes its row
   pub passing-more : {word i′ j′ inside′ : ℕ} → RowsTaken left right i j inside word i′ j′ inside′ → MergePassed left right out to (set out′ at word) i′ j′ inside′ (at + 1)
@@ -236,7 +232,7 @@ module _ {left right out out′ : List ℕ} {to i j inside at : ℕ} (passing : 
       rw nothing
       (record {
         answer = refl;
-        front = rw (passing .wrote .text) (front-kept to out to (passing .words) (le-refl to));
+        front = rw (passing .wrote .text) (take-sets to out to (passing .words) (le-refl to));
         size = wrote-length (passing .wrote);
       })
 

@@ -8,7 +8,7 @@ use mathlib.Core.List.{List, [], _∷_, _++_, map, map-append, append-assoc, app
 use mathlib.Core.Option.{Option, none, some}
 use lib.Dec.{ltb, eqb}
 use lib.ListN.{length, take, drop, getD, set, drop-of-length-le}
-use lib.Seq.{sets, take-set-le}
+use lib.Seq.{sets}
 use Rattle.rules.specs.Tries.{Row, ids}
 use Rattle.rules.specs.Facts.{by-test}
 use Rattle.rules.specs.Listing.{_>>=_}
@@ -19,6 +19,7 @@ use Rattle.rows.specs.Words.{rowIn, depthIn}
 use Rattle.rows.specs.States.{rowsOf}
 use Rattle.values.specs.ValueWords.{valueRowsOf, requestWord}
 use Rattle.words.specs.Runs.{Wrote}
+use Rattle.words.specs.SeqLaws.{take-sets}
 use Rattle.words.specs.RunLaws.{wrote-length, wrote-ended}
 use Rattle.row_walk.specs.RowWalks.{ancestorsAt}
 use Rattle.row_walk.specs.ScanLaws.{rows-left}
@@ -28,11 +29,6 @@ use Rattle.row_walk.specs.declared.batch.Batch.the-variants.{To, Bad}
 use Rattle.row_walk.specs.declared.walk.Meeting.{Meeting}
 use Rattle.row_walk.specs.declared.walk.Met.{Met}
 use Rattle.row_walk.specs.declared.walk.Met.the-variants.{Row as RowMet, Ids, Bad as BadMet, End}
-
--- what stands before a place stays
-pub take-sets : (n : ℕ) (l : List ℕ) (i : ℕ) (xs : List ℕ) → n ≤ i → take n (sets l i xs) ≡ take n l
-take-sets n l i [] h = refl
-take-sets n l i (x ∷ xs) h = take-sets n (set l i x) (suc i) xs (omega arith) ∙ take-set-le n l i x h
 
 -- a batch drops ancestor ids
 batch-ids : (depth : ℕ) (rows : List ValueRow) (rest : List Event) → batchOf (ancestorsAt depth rows ++ rest) ≡ batchOf rest

@@ -61,7 +61,7 @@ use Rattle.rules.specs.LoadCalls.{
   takeAncestors,
   resultOf,
 }
-use Rattle.rules.specs.SliceLaws.{then-done}
+use Rattle.rules.specs.SliceLaws.{done-same, then-done}
 use Rattle.rules.specs.Trips.{
   CallOf,
   callsBatch,
@@ -103,9 +103,6 @@ use Rattle.rules.specs.LoadLaws.{going-begun, going-answered}
 
 not-done : {A P : Type 0} {c : A} → refusedAt 16 0 ≡ done c → P
 not-done e = let z : _≡_ {A = ℕ} 0 1 = cc in absurd (omega arith)
-
-done-same : {A : Type 0} {a b : A} → done a ≡ done b → a ≡ b
-done-same e = cc
 
 module _ (t : Transcript) (load : Load) where
   -- what each call leaves and reports where it is done
@@ -480,9 +477,9 @@ ended-stands request = record {
 }
 
 -- the nodes of an entry, and how many ancestors calls a load with it makes
-abbrev nodesOf : Option Entry → List Row
-nodesOf none = []
-nodesOf (some entry) = entry .nodes
+abbrev entryNodes : Option Entry → List Row
+entryNodes none = []
+entryNodes (some entry) = entry .nodes
 
 abbrev callsFor : Option Entry → ℕ
 callsFor none = 0
@@ -492,7 +489,7 @@ begun-stands :
     (manifest : List Row) (request : Request) (t : Transcript)
     → beginLoad manifest request ≡ done t
     → StandsAt
-    (callsFor (entryFor (request .type) 0 manifest)) request (nodesOf (entryFor (request .type) 0 manifest)) t [] 0
+    (callsFor (entryFor (request .type) 0 manifest)) request (entryNodes (entryFor (request .type) 0 manifest)) t [] 0
     (record { batches = 0; rows = 0 })
 begun-stands manifest request t e = go (entryFor (request .type) 0 manifest) e
   where
@@ -505,7 +502,7 @@ begun-stands manifest request t e = go (entryFor (request .type) 0 manifest) e
               loadBegun request (entry .nodes) then (λ load. done (transcript (turnFor load) request (entry .first) (entry .nodes) [] []))
         ])
         (done t)
-        → StandsAt (callsFor o) request (nodesOf o) t [] 0 (record { batches = 0; rows = 0 })
+        → StandsAt (callsFor o) request (entryNodes o) t [] 0 (record { batches = 0; rows = 0 })
     go none e =
         subst (λ t. StandsAt 0 request [] t [] 0 (record { batches = 0; rows = 0 })) (done-same e) (ended-stands request)
     go (some entry) e =
@@ -654,10 +651,10 @@ course-stands :
     {manifest : List Row} {request : Request} {t : Transcript} {handed : List (List EntityRequest)} {calls : ℕ} {told : Counts}
     → Course manifest request t handed calls told
     → StandsAt
-    (callsFor (entryFor (request .type) 0 manifest)) request (nodesOf (entryFor (request .type) 0 manifest)) t handed calls told
+    (callsFor (entryFor (request .type) 0 manifest)) request (entryNodes (entryFor (request .type) 0 manifest)) t handed calls told
 course-stands (begun t e) = begun-stands _ _ t e
 course-stands {manifest} {request} (goes-on {t} {u} {load} {handed} {more} {calls} {call} {told} course worked called) =
-    called-stands (callsFor (entryFor (request .type) 0 manifest)) request (nodesOf (entryFor (request .type) 0 manifest)) t handed calls told
+    called-stands (callsFor (entryFor (request .type) 0 manifest)) request (entryNodes (entryFor (request .type) 0 manifest)) t handed calls told
     load (course-stands course) worked called
 
 -- what has been handed out by now, whatever the turn
@@ -686,8 +683,8 @@ bound-by :
     (type : ℕ) (manifest : List Row)
     → tripBound manifest type
     ≡ record {
-      rows = primaries (type ∷ []) (nodesOf (entryFor type 0 manifest));
-      batches = batchBound (type ∷ []) (nodesOf (entryFor type 0 manifest));
+      rows = primaries (type ∷ []) (entryNodes (entryFor type 0 manifest));
+      batches = batchBound (type ∷ []) (entryNodes (entryFor type 0 manifest));
       ancestors = callsFor (entryFor type 0 manifest);
     }
 unfolding tripBound primaries batchBound
@@ -697,7 +694,7 @@ bound-by type manifest = go (entryFor type 0 manifest)
         (o : Option Entry)
         → _≡_ {A = TripBound}
         (elim o [ none ↦ noTrips | some entry ↦ boundOf type (entry .nodes) ])
-        (record { rows = primaries (type ∷ []) (nodesOf o); batches = batchBound (type ∷ []) (nodesOf o); ancestors = callsFor o })
+        (record { rows = primaries (type ∷ []) (entryNodes o); batches = batchBound (type ∷ []) (entryNodes o); ancestors = callsFor o })
     go none = refl
     go (some entry) = refl
 
@@ -713,7 +710,7 @@ nodes-in-order :
     (type : ℕ) (manifest : List Row) (o : Option Entry)
     → ordered [] manifest ≡ true
     → entryFor type 0 manifest ≡ o
-    → ordered (type ∷ []) (nodesOf o) ≡ true
+    → ordered (type ∷ []) (entryNodes o) ≡ true
 unfolding ordered
 nodes-in-order type manifest none order e = refl
 nodes-in-order type manifest (some entry) order e = entry-in-order type manifest entry order e
@@ -726,7 +723,7 @@ module _
     abbrev entry : Option Entry
     entry = entryFor (request .type) 0 manifest
 
-    at-last : StandsAt (callsFor entry) request (nodesOf entry) t handed calls told
+    at-last : StandsAt (callsFor entry) request (entryNodes entry) t handed calls told
     at-last = course-stands course
 
     pub course-told : (told .batches ≡ length handed) × (told .rows ≡ length (rowsHanded handed))
@@ -739,9 +736,9 @@ module _
         ∙ ap (λ (b : TripBound). b .ancestors) (sym (bound-by (request .type) manifest))
 
     module _ (order : ordered [] manifest ≡ true) where
-      bounds : BoundedTrips (request .type ∷ []) (nodesOf entry) (at-last .load)
+      bounds : BoundedTrips (request .type ∷ []) (entryNodes entry) (at-last .load)
       bounds =
-          going-bounded (request .type ∷ []) (nodesOf entry) (at-last .load)
+          going-bounded (request .type ∷ []) (entryNodes entry) (at-last .load)
           (at-last .going (nodes-in-order (request .type) manifest entry order refl))
 
       pub course-bound : WithinBound (tripBound manifest (request .type)) handed calls
@@ -760,14 +757,14 @@ module _
                   at-last .row-count,
                 ))
                 rows;
-            batches = omega (arith, batches, batches-within (request .type ∷ []) (nodesOf entry) (at-last .load) bounds);
+            batches = omega (arith, batches, batches-within (request .type ∷ []) (entryNodes entry) (at-last .load) bounds);
             ancestors = few;
           })
 
       -- the rows handed out are of different nodes, all of them primary ones
       pub course-nodes :
           Distinct (nodesAsked (rowsHanded handed))
-          × EachOf (Primary (request .type ∷ []) (nodesOf entry)) (nodesAsked (rowsHanded handed))
+          × EachOf (Primary (request .type ∷ []) (entryNodes entry)) (nodesAsked (rowsHanded handed))
       course-nodes =
           let (rows, batches, few) = so-far (callsFor entry) (t .turn) (at-last .load) handed calls (at-last .stands) in
           let asked = at-last .load .asked in

@@ -366,8 +366,9 @@ module _ (e : ℕ) (value : Entity) (row : EntityRequest) (rows : List EntityReq
 
 -- Batches.
 
-done-same : {A : Type 0} (a b : A) → done a ≡ done b → a ≡ b
-done-same a b e = cc
+-- what is done, and a call that is done had its first part done
+pub done-same : {A : Type 0} {a b : A} → done a ≡ done b → a ≡ b
+done-same e = cc
 
 pub then-done :
     {A B : Type 0} (answer : LoadAnswer A) (next : A → LoadAnswer B) {b : B}
@@ -395,7 +396,7 @@ answer-entered nodes place row value gained more =
         → s ≡ some (more .slice)
     go none s e = let z : _≡_ {A = ℕ} 0 1 = cc in absurd (omega arith)
     go (some rows) none e = let z : _≡_ {A = ℕ} 0 1 = cc in absurd (omega arith)
-    go (some rows) (some slice) e = ap (λ (t : AnswersTaken). some (t .slice)) (done-same _ more e)
+    go (some rows) (some slice) e = ap (λ (t : AnswersTaken). some (t .slice)) (done-same e)
 
 answer-slice :
     (nodes : List Row) (place : ℕ) (row : EntityRequest) (answer : Option Entity) (gained more : AnswersTaken)
@@ -405,7 +406,7 @@ answer-slice :
     → takeAnswer nodes place row answer gained ≡ done more
     → SliceOf (rows ++ (row ∷ [])) (answers ++ (answer ∷ [])) (more .slice)
 answer-slice nodes place row none gained more rows answers lengths sofar e =
-    rw (← done-same gained more e) (slice-none rows answers (gained .slice) lengths sofar row)
+    rw (← done-same e) (slice-none rows answers (gained .slice) lengths sofar row)
 answer-slice nodes place row (some value) gained more rows answers lengths sofar e =
     slice-some rows answers (gained .slice) lengths sofar row value (more .slice) (answer-entered nodes place row value gained more e)
 
@@ -420,7 +421,7 @@ pub answers-slice :
     → SliceOf (rows ++ batch) (answers ++ taken) (more .slice)
 unfolding takeAnswers
 answers-slice nodes place [] [] gained more rows answers lengths batch-lengths sofar e =
-    rw (append-nil rows, append-nil answers, ← done-same gained more e) sofar
+    rw (append-nil rows, append-nil answers, ← done-same e) sofar
 answers-slice nodes place [] (answer ∷ taken) gained more rows answers lengths batch-lengths sofar e = absurd (omega arith)
 answers-slice nodes place (row ∷ batch) [] gained more rows answers lengths batch-lengths sofar e = absurd (omega arith)
 answers-slice nodes place (row ∷ batch) (answer ∷ taken) gained more rows answers lengths batch-lengths sofar e =
@@ -456,7 +457,7 @@ batch-slice nodes answers taken sofar next h e =
     let (sum, summed-so, taken-so) = then-done (summed sizeOfAnswer 0 (sofar .sum) taken) _ counted-so in
     let before : AnswersTaken = record { slice = sofar .slice; next = [] } in
     let (gained, answers-so, ended) = then-done (takeAnswers nodes 0 (sofar .waiting) taken before) _ taken-so in
-    rw (← done-same _ next ended)
+    rw (← done-same ended)
     (record {
       as-many = simp length-append (omega (arith, h .as-many));
       slice-of =
@@ -485,7 +486,7 @@ batches-slice :
     → afterBatches nodes (done sofar) batches ≡ done load
     → LoadOf (answers ++ flatten batches) load
 unfolding afterBatches flatten
-batches-slice nodes sofar answers [] load h e = rw (append-nil answers, ← done-same sofar load e) h
+batches-slice nodes sofar answers [] load h e = rw (append-nil answers, ← done-same e) h
 batches-slice nodes sofar answers (batch ∷ batches) load h e =
     let (next, so) = batches-from nodes (batchAnswered nodes sofar batch) batches load e in
     rw (append-assoc answers batch (flatten batches)) at
@@ -505,7 +506,7 @@ begun-slice request nodes begun = go (batchOf (initialEntities request 0 0 nodes
         → LoadOf [] begun
     go none e = let z : _≡_ {A = ℕ} 0 1 = cc in absurd (omega arith)
     go (some rows) e =
-        rw (← done-same _ begun e)
+        rw (← done-same e)
         (record { as-many = refl; slice-of = record { ascends = tt; merged = λ e. refl; answered = λ e h. refl } })
 
 -- A whole load: its slice is that of all rows asked and of the answers to all batches, in order.

@@ -8,7 +8,7 @@ use Rattle.rules.specs.LoadCalls.{Entry, entryFor}
 use Rattle.rows.specs.States.{rowsOf}
 use Rattle.entries.specs.Entries.{EntryAt}
 use Rattle.entries.specs.EntryLaws.{found-missing, found-found}
-use Rattle.entries.specs.BoundLaws.{entry-nodes, bound-none, bound-some}
+use Rattle.entries.specs.BoundLaws.{found-nodes, bound-none, bound-some}
 use Rattle.entries.proofs.trips.bound_in.Statement.{statement}
 use Rattle.entries.proofs.trips.bound_in.Tie as tie
 
@@ -67,7 +67,7 @@ returns-2 c =
     let start = c .before .before .before .before .before .before .before in
     let a = start .args in
     let (entry, is, here) = entry-at (c .before .before) in
-    let nodes = rw (here .rows) at (entry-nodes (a .request) (rowsOf (a .rows .now)) entry (start .pre) is) in
+    let nodes = rw (here .rows) at (found-nodes (a .request) (rowsOf (a .rows .now)) entry (start .pre) is) in
     rw (bound-some (rowsOf (a .rows .now)) (a .request) entry is, here .rows)
     ((rw add-sub-cancel-left at (c .bound-of .ensures)) (a .request) nodes)
 
