@@ -13,12 +13,12 @@ use Rattle.std.proofs.lemmas.List.{get_or-replicate}
 use Rattle.rules.specs.Numbers.{most_steps}
 use Rattle.rules.specs.Facts.{by_test, compared, both_true}
 use Rattle.rules.specs.Tries.{Row, at, kind_of, ordered, is_entry, count, entries_in}
-use Rattle.rules.specs.TrieLaws.{Ordered, ordered_true}
+use Rattle.rules.proofs.TrieLaws.{Ordered, ordered_true}
 use Rattle.rules.specs.Typing.{is_field}
 use Rattle.rules.specs.Values.{Entity}
 use Rattle.rules.specs.Loading.{LoadAnswer, done, refused_at, counted, ◌then◌, Request, EntityRequest, Event, yielded, ancestor, bad, has_child, remaining_entities, is_context_root, in_context, at_roots, initial_entities, Loaded, loaded_as, with_id, Wanted, take_id, take_events, is_marked, take_row, take_rows, take_batches, Load, ancestors_request, ancestors_requests}
 use Rattle.rules.specs.Trips.{EachOf, none_left, and_each, with, Distinct, nodes_asked, all_fields, is_primary, place_at, Primary, BoundedTrips, root_under, depth_of}
-use Rattle.rules.specs.TripLaws.{GoingLoad, going_bounded}
+use Rattle.rules.proofs.TripLaws.{GoingLoad, going_bounded}
 use Rattle.ancestors.specs.Takings.{take_mark}
 use Rattle.ancestors.specs.Requests.{roots_below}
 use Rattle.ancestors.specs.RoundLaws.{none_wait}

@@ -14,7 +14,7 @@ use Rattle.rules.specs.Numbers.{most_steps}
 use Rattle.rules.specs.Tries.{Row}
 use Rattle.rules.specs.Loading.{LoadAnswer, done, refused_at, counted, ◌then◌, Request, EntityRequest, Event, remaining_entities, initial_entities, Loaded, loaded_as, Wanted, take_events, take_row, take_rows, take_batches, ancestors_request}
 use Rattle.rules.specs.Trips.{nodes_asked, found_in, row_finds}
-use Rattle.rules.specs.TripLaws.{take-events, take-rows, Waits, waits_first, waits_next, waits_few}
+use Rattle.rules.proofs.TripLaws.{take-events, take-rows, Waits, waits_first, waits_next, waits_few}
 use Rattle.rows.specs.Words.{row_in, depth_in}
 use Rattle.rows.specs.States.{rows_of}
 use Rattle.words.specs.RunLaws.{taken_back}

@@ -9,7 +9,7 @@ use Rattle.rules.specs.Values.{Entity}
 use Rattle.rules.specs.Loading.{LoadAnswer, done, refused_at, ◌then◌, EntityRequest, Event, remaining_entities, Loaded, loaded_as, Wanted, is_marked, take_events, take_row}
 use Rattle.rules.specs.Trips.{found_in, row_finds}
 use Rattle.rules.specs.WalkRows.{remaining_rows}
-use Rattle.rules.specs.WalkRowLaws.{remaining-rows}
+use Rattle.rules.proofs.WalkRowLaws.{remaining-rows}
 use Rattle.rows.specs.Words.{row_in, mark_in}
 use Rattle.rows.specs.States.{rows_of}
 use Rattle.values.specs.ValueWords.{value_rows_of}

@@ -2,9 +2,9 @@
 use Rattle.std.specs.Prelude.{ℕ, zero, suc, ◌+◌, ◌≤◌, ◌≡◌, refl, List, [], ◌∷◌, ◌++◌, length, drop}
 use Rattle.std.proofs.Common.{arith, append_assoc, length-append}
 use Rattle.std.proofs.Math.Seq.{take-append_seam, drop-append_seam, drop-append-add}
-use Rattle.rules.specs.StepLaws.{Each}
+use Rattle.rules.proofs.StepLaws.{Each}
 use Rattle.rules.specs.ValueRows.{attribute_rows}
-use Rattle.rules.specs.ValueRowTestLaws.{read_run}
+use Rattle.rules.proofs.ValueRowTestLaws.{read_run}
 use Rattle.rules.specs.Loading.{Loaded}
 use Rattle.values.specs.ValueWords.{value_rows_of}
 use Rattle.slices.specs.Slices.{row_words, slice_words, FitsHead}

@@ -9,7 +9,7 @@ use Rattle.rules.specs.Tries.{ids}
 use Rattle.rules.specs.ValueRows.{ValueRow}
 use Rattle.rules.specs.Loading.{LoadAnswer, done, refused_at, counted, ◌then◌, EntityRequest, Event, yielded, ancestor, bad, with_id, Wanted, take_id, take_events}
 use Rattle.rules.specs.Trips.{nodes_asked, found_in}
-use Rattle.rules.specs.TripLaws.{take-events}
+use Rattle.rules.proofs.TripLaws.{take-events}
 use Rattle.rules.specs.WalkRows.{walk_rows, remaining_rows}
 use Rattle.rows.specs.States.{rows_of}
 use Rattle.values.specs.ValueWords.{depth_from, number_from, value_row_in, value_rows_of, row_asked}

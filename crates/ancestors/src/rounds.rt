@@ -3,7 +3,7 @@ ghost use Rattle.std.specs.Prelude.{◌≤◌, ◌<◌, length, take};
 ghost use Rattle.rules.specs.Numbers.{most_steps};
 ghost use Rattle.rules.specs.Loading.{take_rows, take_batches, ancestors_request};
 ghost use Rattle.rules.specs.Trips.{nodes_asked, row_finds};
-ghost use Rattle.rules.specs.TripLaws.{Waits};
+ghost use Rattle.rules.proofs.TripLaws.{Waits};
 ghost use Rattle.rows.specs.States.{rows_of};
 ghost use Rattle.values.specs.ValueWords.{row_asked};
 ghost use Rattle.row_walk.specs.Initial.{request_with as request_of};

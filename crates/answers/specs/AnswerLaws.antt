@@ -10,9 +10,9 @@ use borrow.Author.Tests.{lt-ltb, le-ltb, le-leb, lt-leb, eq-eqb, ne_eqb, eqb-tru
 use Rattle.rules.specs.Facts.{by_test, by_option, both_true, cond-true, cond-some, compared}
 use Rattle.rules.specs.Numbers.{Answer, accepted, refused, and_then}
 use Rattle.rules.specs.Tries.{ids}
-use Rattle.rules.specs.MergeLaws.{IdsFrom}
+use Rattle.rules.proofs.MergeLaws.{IdsFrom}
 use Rattle.rules.specs.ValueRowTests.{lawful_value_rows}
-use Rattle.rules.specs.ValueRowTestLaws.{lawful_rows_count}
+use Rattle.rules.proofs.ValueRowTestLaws.{lawful_rows_count}
 use Rattle.rules.specs.Loading.{done, refused_at, summed}
 use Rattle.values.specs.ValueWords.{value_row_in, value_rows_of}
 use Rattle.answers.specs.Answers.{id_set, ReadItem, read_item, head_in, parent_words, attribute_words, is_entity, entity_in, answer_with, answer_at, set_with, set_at, front_of, checked_as, with_first, read_from, ItemOf, item_at, size_of_item, lent_from, lent_items, words_behind, AllRead, read_items, HasScratch, StandsAt, PlacedAt}

@@ -12,7 +12,7 @@ use Rattle.std.proofs.lemmas.List.{take-append-le, drop-append-le}
 use Rattle.std.proofs.Math.Seq.{take-add, drop_at}
 use Rattle.rules.specs.Facts.{by_test, by_option, both_true, cond-some, compared, then_accepted, accepted_same}
 use Rattle.rules.specs.Loading.{LoadAnswer, done, refused_at, summed}
-use Rattle.rules.specs.SliceLaws.{done_same}
+use Rattle.rules.proofs.SliceLaws.{done_same}
 use Rattle.rules.specs.Values.{Entity}
 use Rattle.rules.specs.Numbers.{Answer, accepted, refused, and_then}
 use Rattle.answers.specs.Answers.{id_set, head_in, is_entity, entity_in, ReadItem, read_item, with_first, read_from, checked_as, AllRead, ItemOf, item_at, size_of_item, lent_from, StandsAt}

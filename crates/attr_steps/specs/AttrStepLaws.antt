@@ -7,9 +7,9 @@ use Rattle.rules.specs.Facts.{by_test, by_option}
 use Rattle.rules.specs.Numbers.{refused}
 use Rattle.rules.specs.Paths.{Path, Paths, Empty, AccessPath, Union, RecordLiteral, SetLiteral, Fields, no_field, field, empty_leaf, paths_in, nodes_of, nodes_of_fields, field_of, field_or, get_or_has_attr, add_paths}
 use Rattle.rules.specs.Steps.{Result, restored, attr_step}
-use Rattle.rules.specs.StepLaws.{grown_in, each_then, attr_grown, attr_deep, grown_paths, Each, AllPaths, each_append}
-use Rattle.rules.specs.ListingLaws.{bind_some}
-use Rattle.rules.specs.TypeLaws.{deepest}
+use Rattle.rules.proofs.StepLaws.{grown_in, each_then, attr_grown, attr_deep, grown_paths, Each, AllPaths, each_append}
+use Rattle.rules.proofs.ListingLaws.{bind_some}
+use Rattle.rules.proofs.TypeLaws.{deepest}
 use Rattle.rows.specs.States.{rows_in}
 use Rattle.wrapped_paths.specs.Code.{code, Measures, paths_at, Grew}
 use Rattle.wrapped_paths.specs.AttrLaws.{grown_nodes, grown_few}

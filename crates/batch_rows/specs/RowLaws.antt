@@ -5,7 +5,7 @@ use Rattle.std.proofs.lemmas.List.{length-map}
 use Rattle.std.proofs.Math.Seq.{paste, paste-suc}
 use Rattle.std.proofs.lemmas.Bool.{lt-leb}
 use Rattle.rules.specs.Facts.{by_test}
-use Rattle.rules.specs.WalkLaws.{take-map}
+use Rattle.rules.proofs.WalkLaws.{take-map}
 use Rattle.values.specs.ValueWords.{row_asked}
 use Rattle.values.specs.declared.request.EntityRequest.{EntityRequest}
 use Rattle.load_state.specs.Outcomes.{HandedOut, HandedAs, refusing_out}

@@ -5,8 +5,8 @@ use Rattle.std.proofs.Math.Option.{Option, none, some}
 use Rattle.rules.specs.Facts.{by_test, compared}
 use Rattle.rules.specs.Values.{Entity}
 use Rattle.rules.specs.Loading.{EntityRequest}
-use Rattle.rules.specs.MergeLaws.{each_merges}
-use Rattle.rules.specs.SliceLaws.{answers_to, test_none, test_other, test_same}
+use Rattle.rules.proofs.MergeLaws.{each_merges}
+use Rattle.rules.proofs.SliceLaws.{answers_to, test_none, test_other, test_same}
 use Rattle.rules.specs.ValueRows.{ValueRow}
 use Rattle.rules.specs.ValueRowTests.{lawful_value_rows}
 use Rattle.values.specs.ValueWords.{value_rows_of, row_asked}

@@ -3,7 +3,7 @@ use Rattle.std.specs.Prelude.{ℕ, ◌-◌, ◌≡◌, Bool, true, cond, List, [
 use Rattle.std.proofs.Math.Option.{Option, none, some}
 use Rattle.rules.specs.Values.{Entity, merged_entities}
 use Rattle.rules.specs.Loading.{EntityRequest}
-use Rattle.rules.specs.MergeLaws.{there, each_merges}
+use Rattle.rules.proofs.MergeLaws.{there, each_merges}
 use Rattle.values.specs.ValueWords.{row_asked}
 use Rattle.answers.specs.Answers.{ReadItem, answer_at}
 

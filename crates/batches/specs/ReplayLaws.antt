@@ -36,11 +36,11 @@ use Rattle.rules.specs.Loading.{
   size_of_answer,
 }
 use Rattle.rules.specs.LoadCalls.{after_answers}
-use Rattle.rules.specs.CourseLaws.{after_none}
-use Rattle.rules.specs.LoadLaws.{rows_fit, going_begun, going_answered}
-use Rattle.rules.specs.SliceLaws.{answers_to, LoadOf, batch_slice, load_slice}
-use Rattle.rules.specs.TripLaws.{GoingLoad}
-use Rattle.rules.specs.TakeLaws.{taken_by, found_or, all_taken_by, slices_after}
+use Rattle.rules.proofs.CourseLaws.{after_none}
+use Rattle.rules.proofs.LoadLaws.{rows_fit, going_begun, going_answered}
+use Rattle.rules.proofs.SliceLaws.{answers_to, LoadOf, batch_slice, load_slice}
+use Rattle.rules.proofs.TripLaws.{GoingLoad}
+use Rattle.rules.proofs.TakeLaws.{taken_by, found_or, all_taken_by, slices_after}
 use Rattle.rules.specs.WalkRows.{remaining_rows}
 use Rattle.values.specs.ValueWords.{value_rows_of, row_asked, request_word}
 use Rattle.answers.specs.Answers.{head_in}

@@ -7,10 +7,10 @@ use Rattle.rules.specs.Values.{Entity}
 use Rattle.rules.specs.ValueRows.{ValueRow}
 use Rattle.rules.specs.ValueRowTests.{attributes_from}
 use Rattle.rules.specs.WalkRows.{remaining_rows}
-use Rattle.rules.specs.WalkRowLaws.{remaining-rows}
+use Rattle.rules.proofs.WalkRowLaws.{remaining-rows}
 use Rattle.rules.specs.Loading.{EntityRequest, batch_of}
-use Rattle.rules.specs.SliceLaws.{answers_to}
-use Rattle.rules.specs.TakeLaws.{found_or, taken_by}
+use Rattle.rules.proofs.SliceLaws.{answers_to}
+use Rattle.rules.proofs.TakeLaws.{found_or, taken_by}
 use Rattle.words.specs.Runs.{Wrote}
 use Rattle.words.specs.RunLaws.{wrote_length}
 use Rattle.words.specs.SeqLaws.{take-sets}

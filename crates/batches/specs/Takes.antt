@@ -2,8 +2,8 @@
 use Rattle.std.specs.Prelude.{ℕ, ◌≤◌, ◌≡◌, true, List, map, length, take}
 use Rattle.rules.specs.Tries.{Row, ordered}
 use Rattle.rules.specs.Loading.{LoadAnswer, done, refused_at, counted, EntityRequest, Load}
-use Rattle.rules.specs.SliceLaws.{LoadOf}
-use Rattle.rules.specs.TripLaws.{GoingLoad}
+use Rattle.rules.proofs.SliceLaws.{LoadOf}
+use Rattle.rules.proofs.TripLaws.{GoingLoad}
 use Rattle.words.specs.Runs.{Wrote}
 use Rattle.values.specs.ValueWords.{request_word}
 use Rattle.batches.specs.Hearings.{asked_before, asked_in, heard_before}

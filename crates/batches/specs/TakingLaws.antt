@@ -9,14 +9,14 @@ use Rattle.std.proofs.lemmas.List.{length-map}
 use Rattle.std.proofs.lemmas.Bool.{eqb-false}
 use Rattle.rules.specs.Facts.{by_test}
 use Rattle.rules.specs.Tries.{Row}
-use Rattle.rules.specs.StepLaws.{Each}
+use Rattle.rules.proofs.StepLaws.{Each}
 use Rattle.rules.specs.Values.{Entity}
-use Rattle.rules.specs.ValueRowLaws.{Every}
-use Rattle.rules.specs.ValueRowTestLaws.{lawful_read}
+use Rattle.rules.proofs.ValueRowLaws.{Every}
+use Rattle.rules.proofs.ValueRowTestLaws.{lawful_read}
 use Rattle.rules.specs.Loading.{LoadAnswer, done, refused_at, counted, ◌then◌, EntityRequest, AnswersTaken, Load, take_answers}
-use Rattle.rules.specs.LoadLaws.{rows_fit_so_far}
-use Rattle.rules.specs.MergeLaws.{GoodEntity}
-use Rattle.rules.specs.TakeLaws.{taken_by, all_taken_by, taken_append, taken_one, slices_after, takes_by}
+use Rattle.rules.proofs.LoadLaws.{rows_fit_so_far}
+use Rattle.rules.proofs.MergeLaws.{GoodEntity}
+use Rattle.rules.proofs.TakeLaws.{taken_by, all_taken_by, taken_append, taken_one, slices_after, takes_by}
 use Rattle.values.specs.ValueWords.{value_rows_of, row_asked, request_word}
 use Rattle.answers.specs.Answers.{head_in}
 use Rattle.answers.specs.AnswerLaws.{set_ids}

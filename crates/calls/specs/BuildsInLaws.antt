@@ -8,7 +8,7 @@ use Rattle.std.proofs.lemmas.List.Edits.{sets}
 use Rattle.rules.specs.Numbers.{Answer, accepted, refused}
 use Rattle.rules.specs.Tries.{Row, manifest, lawful}
 use Rattle.rules.specs.Building.{add, after, build, keep, accepted_of, Contributions}
-use Rattle.rules.specs.BuildingLaws.{lawful_empty, after_lawful, accepted_most}
+use Rattle.rules.proofs.BuildingLaws.{lawful_empty, after_lawful, accepted_most}
 use Rattle.rules.specs.Listing.{listing}
 use Rattle.words.specs.RunLaws.{taken_back}
 use Rattle.words.specs.declared.Reply.TheVariants.{Done}

@@ -18,9 +18,10 @@ use Rattle.rules.specs.Listing.{listing, read_listing}
 use Rattle.rules.specs.Schema.{Item, read_schema}
 use Rattle.rules.specs.Steps.{analyse}
 use Rattle.rules.specs.Policies.{add_policies}
-use Rattle.rules.specs.Demand3.{order_free, exactly_those}
-use Rattle.rules.specs.Demand3Listed.{ExactlyThose, listed_exactly, listed_exactly_of}
-use Rattle.rules.specs.Demand3Policies.{ContributionOf, policies_order_free, policies_exactly_those}
+use Rattle.rules.proofs.Demand3.{order_free, exactly_those}
+use Rattle.rules.specs.Demand3Listed.{ExactlyThose}
+use Rattle.rules.proofs.Demand3Listed.{listed_exactly, listed_exactly_of}
+use Rattle.rules.proofs.Demand3Policies.{ContributionOf, policies_order_free, policies_exactly_those}
 use Rattle.words.specs.declared.Reply.TheVariants.{Done}
 use Rattle.rows.specs.States.{form_of, rows_in, Lent}
 use Rattle.rows.specs.declared.Kind.{Kind}

@@ -10,9 +10,9 @@ use Rattle.rules.specs.Numbers.{accepted, Answer}
 use Rattle.rules.specs.Facts.{by_test, compared}
 use Rattle.rules.specs.Tries.{Row}
 use Rattle.rules.specs.Listing.{read_listing}
-use Rattle.rules.specs.ListingLaws.{read_written}
+use Rattle.rules.proofs.ListingLaws.{read_written}
 use Rattle.rules.specs.Steps.{analyse}
-use Rattle.rules.specs.AnalysisLaws.{analyse_lawful}
+use Rattle.rules.proofs.AnalysisLaws.{analyse_lawful}
 use Rattle.words.specs.Runs.{Outcome, refusing}
 use Rattle.words.specs.declared.Reply.TheVariants.{Done, Refused}
 use Rattle.rows.specs.States.{form_of, words_of, Lent, storing}

@@ -10,9 +10,9 @@ use Rattle.rules.specs.Numbers.{Answer, accepted, and_then}
 use Rattle.rules.specs.Facts.{both_true, accepted_same, then_accepted}
 use Rattle.rules.specs.Tries.{Row, manifest, lawful}
 use Rattle.rules.specs.Building.{after}
-use Rattle.rules.specs.BuildingLaws.{build_lawful}
+use Rattle.rules.proofs.BuildingLaws.{build_lawful}
 use Rattle.rules.specs.Policies.{add_policy, add_policies}
-use Rattle.rules.specs.Demand3Policies.{policy_added_exactly, policy_lawful}
+use Rattle.rules.proofs.Demand3Policies.{policy_added_exactly, policy_lawful}
 use Rattle.words.specs.Runs.{Outcome}
 use Rattle.rows.specs.States.{storing, Lent}
 use Rattle.rows.specs.declared.Kind.TheVariants.{Manifest}

@@ -13,12 +13,12 @@ use Rattle.std.proofs.Math.Seq.{length-sets}
 use Rattle.rules.specs.Numbers.{Answer, accepted, refused}
 use Rattle.rules.specs.Facts.{by_test, compared, cond-some, cond_other, cond-true}
 use Rattle.rules.specs.Text.{bytes, decimal_of}
-use Rattle.rules.specs.TextLaws.{decimal_written}
+use Rattle.rules.proofs.TextLaws.{decimal_written}
 use Rattle.rules.specs.Listing.{is_letter, place_in}
-use Rattle.rules.specs.ListingLaws.{bind_some, place_read}
+use Rattle.rules.proofs.ListingLaws.{bind_some, place_read}
 use Rattle.rules.specs.Schema.{Item, Known, item, unknown, set_type, entity_type, entity_line, attribute_line, last_type, ascending, names_of, value_of, type_of, pair_of, item_of, fits, beyond, lawful_items, read_schema}
-use Rattle.rules.specs.SchemaLaws.{Said, schema_said}
-use Rattle.rules.specs.StepLaws.{Each, GoodSchema}
+use Rattle.rules.proofs.SchemaLaws.{Said, schema_said}
+use Rattle.rules.proofs.StepLaws.{Each, GoodSchema}
 use Rattle.words.specs.Runs.{words_in}
 use Rattle.words.specs.RunLaws.{held_count}
 use Rattle.words.specs.declared.Reply.TheVariants.{Done}

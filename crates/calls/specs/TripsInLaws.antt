@@ -12,7 +12,7 @@ use Rattle.std.proofs.Math.Seq.{sets, length-sets, take-append_seam}
 use Rattle.std.proofs.lemmas.List.Edits.{sets-eq}
 use Rattle.rules.specs.Facts.{by_test, both_true}
 use Rattle.rules.specs.Tries.{manifest, ordered, nodes_in}
-use Rattle.rules.specs.TrieLaws.{ordered_true}
+use Rattle.rules.proofs.TrieLaws.{ordered_true}
 use Rattle.rules.specs.Loading.{LoadAnswer, done, refused_at, counted, ◌then◌, EntityRequest, Load, Loaded, load_begun}
 use Rattle.rules.specs.LoadCalls.{
   Entry,
@@ -29,7 +29,7 @@ use Rattle.rules.specs.LoadCalls.{
   take_ancestors,
   result_of,
 }
-use Rattle.rules.specs.SliceLaws.{then_done}
+use Rattle.rules.proofs.SliceLaws.{then_done}
 use Rattle.rules.specs.Trips.{
   TripBound,
   primaries,
@@ -43,8 +43,8 @@ use Rattle.rules.specs.Trips.{
   calls_result,
   CountsWithin,
 }
-use Rattle.rules.specs.TripLaws.{entry_in_order}
-use Rattle.rules.specs.TripTheorems.{reported_within}
+use Rattle.rules.proofs.TripLaws.{entry_in_order}
+use Rattle.rules.proofs.TripTheorems.{reported_within}
 use Rattle.words.specs.Runs.{words_in}
 use Rattle.words.specs.RunLaws.{taken_back}
 use Rattle.words.specs.SeqLaws.{word_kept, part_kept, take-sets}

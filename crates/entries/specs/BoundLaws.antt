@@ -8,7 +8,7 @@ use Rattle.std.proofs.Math.Option.{none, some}
 use Rattle.std.proofs.Math.ListN.{length-drop}
 use Rattle.rules.specs.Facts.{by_test, both_true}
 use Rattle.rules.specs.Tries.{Row, is_entry, at, ordered, manifest}
-use Rattle.rules.specs.TrieLaws.{Ordered, ordered_true, length_at, step_at, above_at}
+use Rattle.rules.proofs.TrieLaws.{Ordered, ordered_true, length_at, step_at, above_at}
 use Rattle.rules.specs.Typing.{is_field}
 use Rattle.rules.specs.LoadCalls.{Entry, nodes_ahead, entry_for}
 use Rattle.rules.specs.Trips.{
@@ -23,7 +23,7 @@ use Rattle.rules.specs.Trips.{
   no_trips,
   trip_bound,
 }
-use Rattle.rules.specs.TripLaws.{entry_in_order}
+use Rattle.rules.proofs.TripLaws.{entry_in_order}
 use Rattle.rows.specs.States.{lawful_state, rows_in, words_of}
 use Rattle.rows.specs.declared.Kind.TheVariants.{Manifest}
 use Rattle.entries.specs.Bounds.{NodesOf, told, trip_bound_in}

@@ -5,8 +5,8 @@ use Rattle.std.proofs.Math.Option.{none}
 use Rattle.rules.specs.Numbers.{refused}
 use Rattle.rules.specs.Paths.{nodes_of, type_to_access_trie, Taken, full_type_required, add_taken, taken_tries}
 use Rattle.rules.specs.Steps.{Result, empty_paths, full_step}
-use Rattle.rules.specs.StepLaws.{any_too_deep, stepped_some, all_deep, taken_each, Each, IsPath, trie_shallow}
-use Rattle.rules.specs.TypeLaws.{path_deep, types_in, types_few, TypeAt, type_there, type_missing}
+use Rattle.rules.proofs.StepLaws.{any_too_deep, stepped_some, all_deep, taken_each, Each, IsPath, trie_shallow}
+use Rattle.rules.proofs.TypeLaws.{path_deep, types_in, types_few, TypeAt, type_there, type_missing}
 use Rattle.rows.specs.States.{rows_in}
 use Rattle.schema.specs.Items.{items_of, good_items}
 use Rattle.path_tries.specs.Nodes.{Became}

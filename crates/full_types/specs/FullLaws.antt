@@ -10,11 +10,11 @@ use Rattle.std.proofs.lemmas.List.{length-map}
 use Rattle.rules.specs.Facts.{by_test, cond-true, larger_max, capped_min, capped_sum_above}
 use Rattle.rules.specs.Listing.{read}
 use Rattle.rules.specs.Tries.{Row}
-use Rattle.rules.specs.TrieLaws.{union_right_length}
+use Rattle.rules.proofs.TrieLaws.{union_right_length}
 use Rattle.rules.specs.Schema.{Item, from_type, last_type, attributes_of, attribute_line}
 use Rattle.rules.specs.Paths.{deeper, children_of, type_below, attributes_at, to_root_access_trie_with_leaf, type_to_access_trie, add_access_path, union_all, taken_tries, add_taken, Fields, no_field, field, field_of, is_there, has_all}
-use Rattle.rules.specs.StepLaws.{Each, IsPath, AllKeys, each_append, or_neither, all_length}
-use Rattle.rules.specs.TypeLaws.{deepest, deeper_none, deeper_length, path_length}
+use Rattle.rules.proofs.StepLaws.{Each, IsPath, AllKeys, each_append, or_neither, all_length}
+use Rattle.rules.proofs.TypeLaws.{deepest, deeper_none, deeper_length, path_length}
 use Rattle.rows.specs.Words.{word_of, row_in, depth_in, step_in, mark_in, type_in}
 use Rattle.rows.specs.States.{rows_of, rows_in}
 use Rattle.words.specs.Runs.{words_in, Wrote}

@@ -2,8 +2,8 @@
 use Rattle.std.specs.Prelude.{ℕ, ◌+◌, ◌/◌, ◌%◌, ◌≤◌, ◌<◌, ◌≡◌, Bool, false, ◌||◌, List, [], ◌∷◌, map, ltb, length}
 use Rattle.rules.specs.Numbers.{most_steps}
 use Rattle.rules.specs.Paths.{Taken}
-use Rattle.rules.specs.StepLaws.{IsPath}
-use Rattle.rules.specs.TypeLaws.{types_in, deepest}
+use Rattle.rules.proofs.StepLaws.{IsPath}
+use Rattle.rules.proofs.TypeLaws.{types_in, deepest}
 use Rattle.schema.specs.Items.{items_of}
 use Rattle.wrapped_paths.specs.Code.{steps_at, path_at}
 use Rattle.path_tries.specs.Nodes.{IsState}

@@ -19,8 +19,8 @@ use Rattle.rules.specs.Paths.{
   has_all,
   full_type_required,
 }
-use Rattle.rules.specs.StepLaws.{AllPaths}
-use Rattle.rules.specs.TypeLaws.{types_in}
+use Rattle.rules.proofs.StepLaws.{AllPaths}
+use Rattle.rules.proofs.TypeLaws.{types_in}
 use Rattle.wrapped_paths.specs.declared.WrappedAccessPaths.{WrappedAccessPaths}
 use Rattle.wrapped_paths.specs.declared.WrappedAccessPaths.TheVariants.{
   Empty as EmptyHead,

@@ -14,8 +14,8 @@ use Rattle.rules.specs.Facts.{by_test, cond-some}
 use Rattle.rules.specs.Listing.{◌>>=◌}
 use Rattle.rules.specs.Schema.{Item, set_type, record_type, attributes_of}
 use Rattle.rules.specs.Paths.{Taken, attributes_at, Paths, Empty, AccessPath, Union, RecordLiteral, SetLiteral, Fields, no_field, field, has_all, nodes_of, paths_in, kind_at, element_at, attribute_type, full_type_required, fields_required}
-use Rattle.rules.specs.StepLaws.{Each, IsPath, AllPaths, each_append, each_split}
-use Rattle.rules.specs.TypeLaws.{Ascends, attributes_below, attribute_stands, types_in, types_few}
+use Rattle.rules.proofs.StepLaws.{Each, IsPath, AllPaths, each_append, each_split}
+use Rattle.rules.proofs.TypeLaws.{Ascends, attributes_below, attribute_stands, types_in, types_few}
 use Rattle.schema.specs.Items.{items_of}
 use Rattle.wrapped_paths.specs.declared.WrappedAccessPaths.{WrappedAccessPaths}
 use Rattle.wrapped_paths.specs.declared.WrappedAccessPaths.TheVariants.{Empty as EmptyHead, AccessPath as PathHead, Union as UnionHead, RecordLiteral as RecordHead, SetLiteral as SetHead}

@@ -10,11 +10,11 @@ use Rattle.std.proofs.Math.ListN.{length}
 use Rattle.rules.specs.Facts.{by_test, larger_max}
 use Rattle.rules.specs.Numbers.{refused}
 use Rattle.rules.specs.Tries.{is_step, union}
-use Rattle.rules.specs.TrieLaws.{node_step, union_left_length, union_right_length}
+use Rattle.rules.proofs.TrieLaws.{node_step, union_left_length, union_right_length}
 use Rattle.rules.specs.Paths.{Path, Leaf, paths_in, nodes_of, to_root_access_trie_with_leaf, union_all, path_tries, add_paths}
 use Rattle.rules.specs.Steps.{Result, two_step, in_result}
-use Rattle.rules.specs.StepLaws.{all_length, all_deep, Each, AllPaths, trie_shallow}
-use Rattle.rules.specs.TypeLaws.{deepest, union_too_deep, path_length, longest, marked_leaf, ancestor_deep, is_no_trie}
+use Rattle.rules.proofs.StepLaws.{all_length, all_deep, Each, AllPaths, trie_shallow}
+use Rattle.rules.proofs.TypeLaws.{deepest, union_too_deep, path_length, longest, marked_leaf, ancestor_deep, is_no_trie}
 use Rattle.rows.specs.Words.{depth_in, step_in, row_in, is_word}
 use Rattle.rows.specs.WordLaws.{is-row}
 use Rattle.rows.specs.States.{rows_of, rows_in}

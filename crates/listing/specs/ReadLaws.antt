@@ -9,11 +9,11 @@ use Rattle.std.proofs.lemmas.List.Edits.{sets}
 use Rattle.rules.specs.Text.{lines_of, fields_of}
 use Rattle.rules.specs.Numbers.{Answer, accepted, refused, most_steps}
 use Rattle.rules.specs.Lines.{Folded, fold_text}
-use Rattle.rules.specs.LineLaws.{gathering, gathered, row_line, rows_folded}
-use Rattle.rules.specs.WalkLaws.{kept_stored}
+use Rattle.rules.proofs.LineLaws.{gathering, gathered, row_line, rows_folded}
+use Rattle.rules.proofs.WalkLaws.{kept_stored}
 use Rattle.rules.specs.Facts.{by_test, cond-none}
 use Rattle.rules.specs.Tries.{Row, Form, is_entry, at, follows}
-use Rattle.rules.specs.TrieLaws.{Follows, follows_true, true_follows}
+use Rattle.rules.proofs.TrieLaws.{Follows, follows_true, true_follows}
 use Rattle.rules.specs.Listing.{Sofar, row_of, start, refusal, entered_by}
 use Rattle.text.proofs.Laws.{by_line}
 use Rattle.rows.specs.Words.{word_of}

@@ -4,7 +4,7 @@ use Rattle.std.proofs.Common.{arith, sym, ap}
 use borrow.Author.Tests.{le-leb, lt-leb}
 use Rattle.std.proofs.Math.ListN.{length}
 use Rattle.rules.specs.Tries.{entries_in, nodes_in}
-use Rattle.rules.specs.TrieLaws.{ordered_true}
+use Rattle.rules.proofs.TrieLaws.{ordered_true}
 use Rattle.rules.specs.Listing.{listing}
 use Rattle.rows.specs.States.{form_of, words_of, rows_in, lawful_state}
 use Rattle.rows.specs.StateLaws.{rows_ordered, Within, limits_kept}

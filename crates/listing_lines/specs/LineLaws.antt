@@ -8,11 +8,11 @@ use Rattle.std.proofs.Math.Option.{Option, none, some, none-ne-some, some-inject
 use Rattle.std.proofs.Math.Path.{refl, sym}
 use Rattle.std.proofs.Math.Seq.{append_snoc}
 use Rattle.rules.specs.Text.{bytes, parted, lines_of, fields_of, decimal_of, decimal, LF, TAB}
-use Rattle.rules.specs.TextLaws.{Free, free_empty, free_more, free_append, free_decimal, parted_free, parted_first, parted_split, parted_some, joined_by, joined_parted, decimal_read, decimal_written}
+use Rattle.rules.proofs.TextLaws.{Free, free_empty, free_more, free_append, free_decimal, parted_free, parted_first, parted_split, parted_some, joined_by, joined_parted, decimal_read, decimal_written}
 use Rattle.rules.specs.Facts.{by_test, by_option, compared, cond-some, cond_other}
 use Rattle.rules.specs.Tries.{Row, step_of, request_of, is_row, at}
 use Rattle.rules.specs.Listing.{is_letter, place_in, letters, mark_of, read, of_form, entry_of, node_of, row_of}
-use Rattle.rules.specs.ListingLaws.{bind_some, place_read}
+use Rattle.rules.proofs.ListingLaws.{bind_some, place_read}
 use Rattle.text.proofs.FieldLaws.{place_within}
 use Rattle.text.proofs.Laws.{NumberEnds, LineTo, by_line}
 use Rattle.listing_lines.specs.Lines.{ended_at, row_from, row_at, kind_in, node_row, RowFits}

@@ -7,9 +7,9 @@ use Rattle.std.proofs.lemmas.List.Edits.{sets}
 use Rattle.std.proofs.Math.Seq.{length-sets, append_snoc}
 use Rattle.rules.specs.Facts.{by_test, both_true}
 use Rattle.rules.specs.Text.{bytes, decimal, LF, TAB}
-use Rattle.rules.specs.TextLaws.{length_decimal, length_decimal_in}
+use Rattle.rules.proofs.TextLaws.{length_decimal, length_decimal_in}
 use Rattle.rules.specs.Tries.{Row, is_entry, is_row, kind_of, id_of, principal_of, action_of, resource_of, at, count, entries_in, nodes_in}
-use Rattle.rules.specs.TrieLaws.{Ordered, node_step}
+use Rattle.rules.proofs.TrieLaws.{Ordered, node_step}
 use Rattle.rules.specs.Listing.{line_of, letters, fields_for, listing, read}
 use Rattle.rows.specs.Words.{depth_in, step_in, mark_in, row_in, is_word}
 use Rattle.rows.specs.WordLaws.{is-row}

@@ -4,15 +4,15 @@ use Rattle.std.proofs.Common.{arith, sym, ◌∙◌, eqb-true}
 use Rattle.std.proofs.Math.Option.{Option, none, some, none-ne-some, some-injective}
 use Rattle.std.proofs.lemmas.Bool.{eqb-false}
 use Rattle.rules.specs.Facts.{by_test}
-use Rattle.rules.specs.StepLaws.{Each}
+use Rattle.rules.proofs.StepLaws.{Each}
 use Rattle.rules.specs.Values.{Entity, merged_entities}
 use Rattle.rules.specs.ValueRows.{attribute_rows}
-use Rattle.rules.specs.ValueRowLaws.{Every}
+use Rattle.rules.proofs.ValueRowLaws.{Every}
 use Rattle.rules.specs.ValueRowTests.{ProperFields}
-use Rattle.rules.specs.ValueRowTestLaws.{lawful_read, proper_passes, merged_proper}
-use Rattle.rules.specs.MergeLaws.{bind_given, merged_from, merged_all, merged_of}
+use Rattle.rules.proofs.ValueRowTestLaws.{lawful_read, proper_passes, merged_proper}
+use Rattle.rules.proofs.MergeLaws.{bind_given, merged_from, merged_all, merged_of}
 use Rattle.rules.specs.Loading.{EntityRequest, Loaded, loaded_as, with_ancestors}
-use Rattle.rules.specs.SliceLaws.{answers_to, SliceOf}
+use Rattle.rules.proofs.SliceLaws.{answers_to, SliceOf}
 use Rattle.words.specs.RunLaws.{taken_back}
 use Rattle.values.specs.ValueWords.{value_rows_of}
 use Rattle.merging.specs.MergeEntityLaws.{lawful_words}

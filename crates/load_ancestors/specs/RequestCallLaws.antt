@@ -6,7 +6,7 @@ use Rattle.std.proofs.lemmas.List.{length-map}
 use Rattle.rules.specs.Facts.{by_test, both_true}
 use Rattle.rules.specs.Tries.{Row}
 use Rattle.rules.specs.Loading.{LoadAnswer, done, refused_at, counted, ◌then◌, Request, EntityRequest, Load, Loaded, ancestors_request, ancestors_requests}
-use Rattle.rules.specs.SliceLaws.{done_same, then_done}
+use Rattle.rules.proofs.SliceLaws.{done_same, then_done}
 use Rattle.rows.specs.Words.{row_in}
 use Rattle.rows.specs.States.{rows_of}
 use Rattle.ancestors.specs.Requests.{RequestsAnswered}

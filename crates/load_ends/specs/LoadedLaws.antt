@@ -10,7 +10,7 @@ use Rattle.load_state.specs.LoadStates.{answer_words}
 use Rattle.load_state.specs.Transcripts.{node_words, lent_load, LentTo}
 use Rattle.load_state.specs.WorkedLaws.{GoodParts}
 use Rattle.load_state.specs.CameLaws.{came_asked, came_rows}
-use Rattle.rules.specs.SliceLaws.{done_same}
+use Rattle.rules.proofs.SliceLaws.{done_same}
 use Rattle.load_state.specs.TurnLaws.{lent_came, lent_told, told_parts}
 use Rattle.load_state.specs.declared.working.Worked.{Worked}
 use Rattle.load_state.specs.declared.working.Worked.TheVariants.{Come}

@@ -7,7 +7,7 @@ use Rattle.rules.specs.Facts.{both_true}
 use Rattle.rules.specs.Values.{Entity}
 use Rattle.rules.specs.Loading.{LoadAnswer, done, refused_at, counted, summed, size_of_answer}
 use Rattle.rules.specs.LoadCalls.{is_summed}
-use Rattle.rules.specs.SliceLaws.{SliceOf}
+use Rattle.rules.proofs.SliceLaws.{SliceOf}
 use Rattle.answers.specs.Answers.{lent_items, StandsAt, PlacedAt}
 use Rattle.answers.specs.declared.Lending.TheVariants.{Answers, Sets}
 use Rattle.batches.specs.Hearings.{heard_at, heard_before, AnswerStands}

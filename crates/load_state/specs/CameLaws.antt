@@ -3,7 +3,7 @@ use Rattle.std.specs.Prelude.{ℕ, ◌-◌, ◌≤◌, ◌≡◌, List, length}
 use Rattle.std.proofs.Common.{arith}
 use Rattle.rules.specs.Tries.{Row}
 use Rattle.rules.specs.Loading.{Load}
-use Rattle.rules.specs.LoadLaws.{rows_fit}
+use Rattle.rules.proofs.LoadLaws.{rows_fit}
 use Rattle.batches.specs.TakingLaws.{load_lengths}
 use Rattle.load_state.specs.Transcripts.{CameTo}
 

@@ -7,7 +7,7 @@ use Rattle.rules.specs.Facts.{by_test, both_true}
 use Rattle.rules.specs.Tries.{Row}
 use Rattle.rules.specs.Loading.{LoadAnswer, done, refused_at, counted, Load, summed}
 use Rattle.rules.specs.LoadCalls.{Transcript, is_summed, turn_fits, is_of_load, worked_out}
-use Rattle.rules.specs.SliceLaws.{done_same}
+use Rattle.rules.proofs.SliceLaws.{done_same}
 use Rattle.batches.specs.Replays.{NoLoad}
 use Rattle.load_state.specs.LoadStates.{good_parts}
 use Rattle.load_state.specs.Transcripts.{turn_in, transcript_in, load_in, CameTo, WorkedTo, lent_load, LentTo}

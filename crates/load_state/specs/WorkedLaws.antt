@@ -10,8 +10,8 @@ use Rattle.rules.specs.Tries.{Row, ordered, count, entries_in, nodes_in}
 use Rattle.rules.specs.Values.{Entity}
 use Rattle.rules.specs.Loading.{LoadAnswer, done, refused_at, counted, ◌then◌, Request, EntityRequest, Load, load_begun, batch_of, initial_entities, summed, size_of_answer}
 use Rattle.rules.specs.LoadCalls.{after_answers}
-use Rattle.rules.specs.TrieLaws.{Ordered, ordered_true}
-use Rattle.rules.specs.TripLaws.{entry_ordered}
+use Rattle.rules.proofs.TrieLaws.{Ordered, ordered_true}
+use Rattle.rules.proofs.TripLaws.{entry_ordered}
 use Rattle.rows.specs.Words.{row_in, step_in}
 use Rattle.rows.specs.States.{rows_of, good_rows, lawful_entry, all_words}
 use Rattle.row_walk.specs.Batches.{BatchWritten}

@@ -6,7 +6,7 @@ use Rattle.rules.specs.Numbers.{Answer, accepted, refused}
 use Rattle.rules.specs.Tries.{Row, manifest, entries_in, nodes_in, union}
 use Rattle.rules.specs.Facts.{compared}
 use Rattle.rules.specs.Building.{add}
-use Rattle.rules.specs.Demand3.{refused_exactly}
+use Rattle.rules.proofs.Demand3.{refused_exactly}
 use Rattle.rows.specs.States.{form_of, words_of, lawful_state, storing}
 use Rattle.rows.specs.declared.Kind.{Kind}
 use Rattle.words.specs.Runs.{refusing}

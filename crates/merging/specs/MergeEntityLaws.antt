@@ -9,7 +9,7 @@ use Rattle.rules.specs.Listing.{◌>>=◌}
 use Rattle.rules.specs.Values.{Attributes, merged_attributes, Entity, merged_entities}
 use Rattle.rules.specs.ValueRows.{ValueRow, attribute_rows}
 use Rattle.rules.specs.ValueRowTests.{Level, level, attributes_from, is_value_row, levels_after, passes, lawful_value_rows}
-use Rattle.rules.specs.ValueRowTestLaws.{lawful_merge, lawful_merged}
+use Rattle.rules.proofs.ValueRowTestLaws.{lawful_merge, lawful_merged}
 use Rattle.words.specs.Runs.{Wrote}
 use Rattle.values.specs.ValueWords.{depth_from, key_from, kind_from, number_from, value_row_in, value_rows_of, value_word}
 use Rattle.merging.specs.Merges.{WroteRows, MergedInto, merged_entity_rows}

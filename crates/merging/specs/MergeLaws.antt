@@ -6,10 +6,10 @@ use Rattle.std.proofs.Math.Option.{Option, none, some}
 use Rattle.std.proofs.lemmas.List.Edits.{sets}
 use Rattle.rules.specs.Facts.{by_test, by_option, both_true}
 use Rattle.rules.specs.Tries.{Next, first, second, same, next, same_list}
-use Rattle.rules.specs.TrieLaws.{Says, next_says, says_next}
-use Rattle.rules.specs.PlaceLaws.{same-list}
+use Rattle.rules.proofs.TrieLaws.{Says, next_says, says_next}
+use Rattle.rules.proofs.PlaceLaws.{same-list}
 use Rattle.rules.specs.ValueRows.{placed_row, inside_at, opened, inside_after, alone_row, agree_rows, both_rows, merge_rows}
-use Rattle.rules.specs.ValueRowLaws.{turn_left, turn_right, turn_both, alone_taken, alone_none, Under, written_on, under_end, under_begun}
+use Rattle.rules.proofs.ValueRowLaws.{turn_left, turn_right, turn_both, alone_taken, alone_none, Under, written_on, under_end, under_begun}
 use Rattle.words.specs.Runs.{Wrote}
 use Rattle.words.specs.SeqLaws.{take-sets}
 use Rattle.words.specs.RunLaws.{wrote_ended, wrote_length}

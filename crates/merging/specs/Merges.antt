@@ -4,7 +4,7 @@ use Rattle.std.proofs.Math.Option.{Option, none, some}
 use Rattle.std.proofs.lemmas.List.Edits.{sets}
 use Rattle.rules.specs.Tries.{Next, first, second, same, same_list}
 use Rattle.rules.specs.ValueRows.{ValueRow, onto_rows, merge_rows}
-use Rattle.rules.specs.ValueRowLaws.{Comes}
+use Rattle.rules.proofs.ValueRowLaws.{Comes}
 use Rattle.values.specs.ValueWords.{depth_from, key_from, value_row_in, value_rows_of, value_word}
 use Rattle.merging.specs.declared.Merged.{Merged}
 use Rattle.merging.specs.declared.Merged.TheVariants.{To, Different}

@@ -5,11 +5,11 @@ use Rattle.std.proofs.Math.Option.{some, some-injective, none-ne-some}
 use Rattle.std.proofs.Math.Seq.{drop-cons}
 use Rattle.rules.specs.Facts.{by_test, compared, both_true, cond-some, same_test}
 use Rattle.rules.specs.Text.{decimal_of}
-use Rattle.rules.specs.TextLaws.{decimal_written, decimal_up_to_empty}
+use Rattle.rules.proofs.TextLaws.{decimal_written, decimal_up_to_empty}
 use Rattle.rules.specs.Tries.{step_of, same_list}
-use Rattle.rules.specs.PlaceLaws.{same-list}
+use Rattle.rules.proofs.PlaceLaws.{same-list}
 use Rattle.rules.specs.Listing.{place_in}
-use Rattle.rules.specs.ListingLaws.{bind_some, place_read}
+use Rattle.rules.proofs.ListingLaws.{bind_some, place_read}
 use Rattle.rules.specs.Names.{Named, name_kinds, name_in, is_name_byte, all_name_bytes, is_name, key_from, same_name, is_taken}
 use Rattle.name_table.specs.Words.{name_word, named_in}
 

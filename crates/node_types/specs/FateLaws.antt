@@ -5,7 +5,7 @@ use Rattle.std.proofs.Math.Option.{Option, none, some}
 use Rattle.rules.specs.Schema.{Item, literal_line, context_line}
 use Rattle.rules.specs.Tries.{Row, kind_of, id_of, action_of}
 use Rattle.rules.specs.Typing.{type_named, root_type, field_type, shape_of, of_shape, is_field, has_fields, Fate, stays, dropped, wrong, fate, fate_below}
-use Rattle.rules.specs.TypingLaws.{Small, field_small, root_small}
+use Rattle.rules.proofs.TypingLaws.{Small, field_small, root_small}
 use Rattle.rows.specs.Words.{type_from, number_for, row_in, depth_in, step_in}
 use Rattle.rows.specs.States.{rows_of}
 use Rattle.schema.specs.Items.{items_of}

@@ -11,7 +11,7 @@ use Rattle.std.proofs.Common.{ap, ◌∙◌}
 use borrow.Author.Tests.{ltb-true, leb-true, leb-false, eqb-true, eqb-false, eq-eqb, ne_eqb, le-leb, lt-leb}
 use Rattle.std.proofs.Math.Dec.{eqb}
 use Rattle.rules.specs.Facts.{by_test, compared, cond-true}
-use Rattle.rules.specs.TypeLaws.{type_section, lawful_first}
+use Rattle.rules.proofs.TypeLaws.{type_section, lawful_first}
 use Rattle.rules.specs.Schema.{
   Item,
   set_type,

@@ -17,7 +17,7 @@ use Rattle.rules.specs.Typing.{
   of_principal,
   of_resource,
 }
-use Rattle.rules.specs.TypeLaws.{types_in, type_missing, Ascends, lawful_ascends}
+use Rattle.rules.proofs.TypeLaws.{types_in, type_missing, Ascends, lawful_ascends}
 use Rattle.schema.specs.Items.{item_in, items_of, good_items}
 use Rattle.type_table.specs.TypeTableLaws.{
   items_at,

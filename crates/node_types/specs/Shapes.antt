@@ -1,7 +1,7 @@
 -- What a type says of fields, as attributes between two places of a schema's words; and what becomes of a node.
 use Rattle.std.specs.Prelude.{ℕ, ◌+◌, ◌≤◌, ◌≡◌, List, length}
 use Rattle.rules.specs.Typing.{Shape, known, leaf, not_strict, Fate, stays, dropped, wrong}
-use Rattle.rules.specs.TypeLaws.{Ascends}
+use Rattle.rules.proofs.TypeLaws.{Ascends}
 use Rattle.schema.specs.Items.{items_of}
 use Rattle.node_types.specs.declared.shape.Shape.{Shape as ShapeFound}
 use Rattle.node_types.specs.declared.shape.Shape.TheVariants.{Known, Leaf, NotStrict}

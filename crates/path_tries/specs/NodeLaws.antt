@@ -16,11 +16,11 @@ use Rattle.std.proofs.Math.Seq.{length-sets, drop-cons}
 use Rattle.rules.specs.Facts.{by_test, compared, larger, larger_max}
 use Rattle.rules.specs.Numbers.{accepted, refused, most_steps}
 use Rattle.rules.specs.Tries.{Row, is_step, is_root, is_row, contribution, count, entries_in, nodes_in, union, union_within}
-use Rattle.rules.specs.TrieLaws.{union_turns, union_nil_left, union_nil_right, union_sum-length}
+use Rattle.rules.proofs.TrieLaws.{union_turns, union_nil_left, union_nil_right, union_sum-length}
 use Rattle.rules.specs.Listing.{read}
 use Rattle.rules.specs.Paths.{Path, deeper, chain, to_root_access_trie_with_leaf, add_access_path, union_all, path_tries, add_paths}
-use Rattle.rules.specs.TypeLaws.{chain_length, deeper_length, is_no_trie, longest}
-use Rattle.rules.specs.StepLaws.{Each, Stepped, IsPath, AllPaths, Plain, each_append, turns_plain, field_step, stepped_some, all_length}
+use Rattle.rules.proofs.TypeLaws.{chain_length, deeper_length, is_no_trie, longest}
+use Rattle.rules.proofs.StepLaws.{Each, Stepped, IsPath, AllPaths, Plain, each_append, turns_plain, field_step, stepped_some, all_length}
 use Rattle.rows.specs.Words.{depth_in, mark_in, step_in, type_from, type_in, row_in, word_of, is_word}
 use Rattle.union.specs.Unions.{union_words, union_into, Roomy}
 use Rattle.rows.specs.WordLaws.{node_low, all_words_cons, words_rows, row_word}

@@ -3,7 +3,7 @@ use Rattle.std.specs.Prelude.{ℕ, ◌+◌, ◌^◌, ◌≤◌, ◌≡◌, Bool,
 use Rattle.rules.specs.Numbers.{most_steps}
 use Rattle.rules.specs.Tries.{Row, is_step}
 use Rattle.rules.specs.Paths.{Path, Leaf, chain, deeper}
-use Rattle.rules.specs.StepLaws.{AllPaths}
+use Rattle.rules.proofs.StepLaws.{AllPaths}
 use Rattle.rows.specs.Words.{word_of, is_word, depth_in, step_in}
 use Rattle.rows.specs.States.{rows_of, rows_in}
 use Rattle.words.specs.Runs.{words_in}

@@ -9,9 +9,9 @@ use Rattle.rules.specs.Listing.{read, row_of, ◌>>=◌}
 use Rattle.rules.specs.Schema.{Item}
 use Rattle.rules.specs.Steps.{Result, step_line}
 use Rattle.rules.specs.Building.{add}
-use Rattle.rules.specs.BuildingLaws.{after_lawful}
-use Rattle.rules.specs.AnalysisLaws.{ended_lawful}
-use Rattle.rules.specs.PolicyLaws.{request_below}
+use Rattle.rules.proofs.BuildingLaws.{after_lawful}
+use Rattle.rules.proofs.AnalysisLaws.{ended_lawful}
+use Rattle.rules.proofs.PolicyLaws.{request_below}
 use Rattle.rules.specs.Policies.{request_in, policy, closed, policy_line, add_at, add_policy}
 use Rattle.text.specs.Answers.{line_at}
 use Rattle.text.proofs.Laws.{whole_line, cut_line}

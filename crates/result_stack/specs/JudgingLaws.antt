@@ -6,8 +6,8 @@ use Rattle.rules.specs.Numbers.{Answer, refused}
 use Rattle.rules.specs.Tries.{Row}
 use Rattle.rules.specs.Paths.{Path, Leaf, nodes_of, path_tries}
 use Rattle.rules.specs.Steps.{Result, judged, is_too_deep, empty_paths}
-use Rattle.rules.specs.StepLaws.{any_too_deep, stepped_some, each_then, or_neither, Each, IsPath, AllPaths}
-use Rattle.rules.specs.TypeLaws.{deepest, path_deep}
+use Rattle.rules.proofs.StepLaws.{any_too_deep, stepped_some, each_then, or_neither, Each, IsPath, AllPaths}
+use Rattle.rules.proofs.TypeLaws.{deepest, path_deep}
 use Rattle.rows.specs.Words.{word_of}
 use Rattle.rows.specs.States.{rows_of, rows_in}
 use Rattle.wrapped_paths.specs.Code.{code}

@@ -13,10 +13,10 @@ use Rattle.std.proofs.lemmas.List.Edits.{sets-eq}
 use Rattle.std.proofs.Math.Seq.{length-sets, drop-append_seam}
 use Rattle.rules.specs.Numbers.{accepted, refused}
 use Rattle.rules.specs.Tries.{Row, at, union}
-use Rattle.rules.specs.TrieLaws.{Ordered, ordered_true, union_sum-length}
+use Rattle.rules.proofs.TrieLaws.{Ordered, ordered_true, union_sum-length}
 use Rattle.rules.specs.Paths.{Paths, nodes_of, union_all}
 use Rattle.rules.specs.Steps.{Result, result, judged, is_too_deep, two_step}
-use Rattle.rules.specs.StepLaws.{Each, Plain, IsTrie, GoodResult, AllGood, all_length}
+use Rattle.rules.proofs.StepLaws.{Each, Plain, IsTrie, GoodResult, AllGood, all_length}
 use Rattle.rows.specs.Words.{row_in, word_of}
 use Rattle.rows.specs.WordLaws.{words_rows, row_word}
 use Rattle.rows.specs.States.{rows_of, rows_in, holding}

@@ -4,8 +4,8 @@ use Rattle.rules.specs.Numbers.{Answer, accepted, refused}
 use Rattle.rules.specs.Tries.{Row}
 use Rattle.rules.specs.Paths.{Path, Paths, Empty, nodes_of, union_all, add_paths}
 use Rattle.rules.specs.Steps.{Result, result, judged}
-use Rattle.rules.specs.StepLaws.{Each, AllGood, IsTrie}
-use Rattle.rules.specs.TypeLaws.{marked_leaf}
+use Rattle.rules.proofs.StepLaws.{Each, AllGood, IsTrie}
+use Rattle.rules.proofs.TypeLaws.{marked_leaf}
 use Rattle.rows.specs.Words.{word_of}
 use Rattle.rows.specs.States.{rows_in}
 use Rattle.wrapped_paths.specs.Code.{codes, nodes_of_all, code as code_of}

@@ -17,7 +17,7 @@ use Rattle.rules.specs.Tries.{Row, ids, kind_of}
 use Rattle.rules.specs.ValueRows.{ValueRow}
 use Rattle.rules.specs.Loading.{Request, EntityRequest, Event, yielded, ancestor, bad, is_context_root, entity_named, at_roots, initial_entities, batch_of}
 use Rattle.rules.specs.WalkRows.{MetRows, kept_rows_at, at_node_rows, walk_rows, in_context_rows}
-use Rattle.rules.specs.WalkRowLaws.{context_rows}
+use Rattle.rules.proofs.WalkRowLaws.{context_rows}
 use Rattle.rows.specs.Words.{row_in, depth_in, step_in}
 use Rattle.rows.specs.States.{rows_of}
 use Rattle.values.specs.ValueWords.{value_rows_of, request_word}

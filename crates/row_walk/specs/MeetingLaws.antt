@@ -6,7 +6,7 @@ use Rattle.std.proofs.Math.Option.{Option}
 use borrow.Author.Tests.{le-leb, lt-leb}
 use Rattle.rules.specs.Facts.{compared, capped, capped_min}
 use Rattle.rules.specs.Tries.{Row as TrieRow}
-use Rattle.rules.specs.WalkLaws.{take-map}
+use Rattle.rules.proofs.WalkLaws.{take-map}
 use Rattle.rules.specs.ValueRows.{ValueRow}
 use Rattle.rules.specs.WalkRows.{MetRows, kept_rows_at, at_node_rows, walk_rows}
 use Rattle.rows.specs.Words.{row_in, depth_in}

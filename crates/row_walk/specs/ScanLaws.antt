@@ -10,7 +10,7 @@ use Rattle.rules.specs.ValueRows.{ValueRow}
 use Rattle.rules.specs.Listing.{◌>>=◌}
 use Rattle.rules.specs.Loading.{ancestor, has_child}
 use Rattle.rules.specs.WalkRows.{ids_at}
-use Rattle.rules.specs.WalkRowLaws.{ids_above, ids_deeper, ids_entity, ids_other}
+use Rattle.rules.proofs.WalkRowLaws.{ids_above, ids_deeper, ids_entity, ids_other}
 use Rattle.row_walk.specs.RowWalks.{child_test, ancestors_at, ids_if_held}
 
 -- the words from a place on are that word and those behind it, as rows of either kind

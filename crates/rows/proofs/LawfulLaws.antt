@@ -14,8 +14,8 @@ use Rattle.rules.specs.Numbers.{most_steps}
 use Rattle.rules.specs.Tries.{Form, is_row, at, follows, ordered, entries_in, nodes_in}
 use Rattle.rules.specs.Facts.{by_test}
 use Rattle.rules.specs.Walks.{walked}
-use Rattle.rules.specs.WalkLaws.{kept_stored, went_start, orderly, OrderlyTo, orderly_end, orderly_next, orderly_refused}
-use Rattle.rules.specs.TrieLaws.{follows_true}
+use Rattle.rules.proofs.WalkLaws.{kept_stored, went_start, orderly, OrderlyTo, orderly_end, orderly_next, orderly_refused}
+use Rattle.rules.proofs.TrieLaws.{follows_true}
 use Rattle.rows.specs.Words.{depth_in, step_in, is_word, row_in}
 use Rattle.rows.specs.States.{all_words, rows_of, good_rows, may_follow, lawful_state, Counted}
 use Rattle.words.specs.Runs.{words_in}

@@ -7,7 +7,7 @@ use Rattle.std.proofs.Math.Seq.{length-sets}
 use Rattle.rules.specs.Numbers.{Answer, accepted, refused}
 use Rattle.rules.specs.Facts.{both_true}
 use Rattle.rules.specs.Tries.{Row, ordered, entries_in, nodes_in, lawful}
-use Rattle.rules.specs.TrieLaws.{Ordered, ordered_true}
+use Rattle.rules.proofs.TrieLaws.{Ordered, ordered_true}
 use Rattle.words.specs.Runs.{words_in}
 use Rattle.words.specs.RunLaws.{held_count}
 use Rattle.words.specs.declared.Reply.TheVariants.{Done}

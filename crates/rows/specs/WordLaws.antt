@@ -7,7 +7,7 @@ use Rattle.std.proofs.lemmas.Bool.{false≢true, eqb-false}
 use Rattle.std.proofs.Math.Option.{Option, none, some}
 use Rattle.rules.specs.Facts.{by_test, cond-true}
 use Rattle.rules.specs.Tries.{Row, Next, first, second, same, next, is_step, is_root, is_row, is_type, untyped, is_entry, joined}
-use Rattle.rules.specs.TrieLaws.{node_step, Before, deeper, smaller, SamePlace, Says, next_says, is_row_joined}
+use Rattle.rules.proofs.TrieLaws.{node_step, Before, deeper, smaller, SamePlace, Says, next_says, is_row_joined}
 use Rattle.rows.specs.Words.{depth_in, mark_in, step_in, type_from, number_for, type_in, row_in, word_of, is_word, rank_in, next_word, joined_word}
 use Rattle.rows.specs.States.{all_words}
 

@@ -10,71 +10,31 @@
 --   elim e [ case ↦ a | .. ]     what e is decides; each case names the parts of e
 --   eqb, leb, ltb                the tests for equal, at most, below; && || not join them
 --   do x ← e; rest               where e is none the whole is none, otherwise x is what e has; `>>=` says the same
---   accepted a, refused n p      an answer: a result, or the refusal n at place p; andThen goes on with a result
---   a ++ b, take n l, drop n l   a and then b; the first n of l; l without them; getD l n d is the n-th from 0, or d where there is none
+--   accepted a, refused n p      an answer: a result, or the refusal n at place p; and_then goes on with a result
+--   a ++ b, take n l, drop n l   a and then b; the first n of l; l without them; get_or l n d is the n-th from 0, or d where there is none
 --   abbrev, unfoldable           a name that is the same as what it stands for; one that a proof opens only where it says so
 --   pub, mod, use                seen from other files; files; names taken from them
 -- A quoted 'sentence' is document 01's; a name in `backticks` is the Rust's.
 pub mod Numbers
 pub mod Text
-pub mod TextLaws
 pub mod Lines
 pub mod Tries
 pub mod Facts
 pub mod Walks
-pub mod WalkLaws
-pub mod TrieLaws
-pub mod PlaceLaws
 pub mod Building
 pub mod Listing
-pub mod BuildingLaws
-pub mod ListingLaws
-pub mod Demand3
-pub mod Demand3Listed
 pub mod Schema
-pub mod LineLaws
 pub mod Paths
 pub mod Steps
-pub mod StepLaws
-pub mod SchemaLaws
-pub mod AnalysisLaws
-pub mod TypeLaws
 pub mod Typing
-pub mod TypingLaws
-pub mod TypingPlaceLaws
 pub mod Policies
-pub mod PolicyLaws
-pub mod PolicyCalls
-pub mod Demand3Policies
-pub mod Starred
-pub mod Examples
-pub mod PolicyExamples
-pub mod TypingExamples
 pub mod Values
 pub mod ValueRows
-pub mod ValueRowLaws
 pub mod ValueRowTests
-pub mod ValueRowTestLaws
 pub mod Loading
 pub mod WalkRows
-pub mod WalkRowLaws
-pub mod ValueRowExamples
-pub mod ValueRowTestExamples
 pub mod LoadCalls
 pub mod Trips
-pub mod TripLaws
-pub mod LoadLaws
-pub mod LoadTheorems
-pub mod CourseLaws
-pub mod TripTheorems
-pub mod TripExamples
-pub mod LoadingExamples
-pub mod LoadCallExamples
-pub mod MergeLaws
-pub mod SliceLaws
-pub mod TakeLaws
 pub mod ValueTexts
 pub mod Names
-pub mod ValueTextLaws
-pub mod ValueTextExamples
-pub mod NameExamples
+pub mod Demand3Listed

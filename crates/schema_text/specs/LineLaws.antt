@@ -4,9 +4,9 @@ use Rattle.std.proofs.Common.{add-one, arith, sym, ap, ◌∙◌, ne_eqb, le-leb
 use Rattle.std.proofs.Math.Option.{none, some, some-injective}
 use Rattle.rules.specs.Facts.{by_option}
 use Rattle.rules.specs.Text.{decimal_of, fields_of}
-use Rattle.rules.specs.TextLaws.{decimal_written}
+use Rattle.rules.proofs.TextLaws.{decimal_written}
 use Rattle.rules.specs.Listing.{is_letter}
-use Rattle.rules.specs.ListingLaws.{bind_some}
+use Rattle.rules.proofs.ListingLaws.{bind_some}
 use Rattle.text.proofs.NameLaws.{ascending_first}
 use Rattle.rules.specs.Schema.{ascending, names_of, value_of, type_of, item_of}
 use Rattle.schema_text.specs.Fields.{named_by, fields_after_kind}

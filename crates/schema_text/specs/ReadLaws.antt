@@ -8,11 +8,11 @@ use Rattle.std.proofs.lemmas.List.Edits.{sets}
 use Rattle.rules.specs.Facts.{cond-some}
 use Rattle.rules.specs.Numbers.{Answer, accepted, refused}
 use Rattle.rules.specs.Lines.{Folded, fold_text}
-use Rattle.rules.specs.LineLaws.{gathering, gathered, item_after, item_line, items_folded}
+use Rattle.rules.proofs.LineLaws.{gathering, gathered, item_after, item_line, items_folded}
 use Rattle.rules.specs.Text.{bytes, lines_of, fields_of, decimal_of}
-use Rattle.rules.specs.TextLaws.{decimal_written}
+use Rattle.rules.proofs.TextLaws.{decimal_written}
 use Rattle.rules.specs.Listing.{◌>>=◌, is_letter, place_in}
-use Rattle.rules.specs.ListingLaws.{bind_some}
+use Rattle.rules.proofs.ListingLaws.{bind_some}
 use Rattle.rules.specs.Schema.{Item, Known, item, unknown, value_of, type_of, pair_of, item_of, fits, beyond, read_schema}
 use Rattle.text.specs.Answers.{line_at}
 use Rattle.text.proofs.Laws.{whole_line, cut_line}

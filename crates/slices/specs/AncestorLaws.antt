@@ -4,9 +4,9 @@ use Rattle.std.proofs.Common.{add-one, arith, sym, ap, ◌∙◌, length-append,
 use Rattle.std.proofs.lemmas.List.Edits.{sets}
 use Rattle.std.proofs.Math.Seq.{drop-cons}
 use Rattle.std.proofs.lemmas.List.{set-get_or}
-use Rattle.rules.specs.MergeLaws.{IdsFrom}
+use Rattle.rules.proofs.MergeLaws.{IdsFrom}
 use Rattle.rules.specs.Loading.{EntityRequest, with_ids}
-use Rattle.rules.specs.SliceLaws.{ids_to, ids_from, ids_append}
+use Rattle.rules.proofs.SliceLaws.{ids_to, ids_from, ids_append}
 use Rattle.words.specs.Runs.{Wrote}
 use Rattle.words.specs.RunLaws.{taken_back, wrote_length}
 use Rattle.slices.specs.Slices.{rows_asked, set_in, ids_for}

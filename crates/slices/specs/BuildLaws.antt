@@ -6,9 +6,9 @@ use Rattle.std.proofs.Math.Option.{Option, none, some, none-ne-some, some-ne-non
 use Rattle.std.proofs.Math.Seq.{append_snoc}
 use Rattle.rules.specs.Facts.{by_test, by_option, compared}
 use Rattle.rules.specs.Values.{Entity}
-use Rattle.rules.specs.MergeLaws.{merged_of}
+use Rattle.rules.proofs.MergeLaws.{merged_of}
 use Rattle.rules.specs.Loading.{EntityRequest, Loaded, loaded, loaded_as, with_ancestors}
-use Rattle.rules.specs.SliceLaws.{answers_to, SliceFrom, SliceOf, ids_to, with_more, ancestors_loaded, ancestors_ascend, before_first}
+use Rattle.rules.proofs.SliceLaws.{answers_to, SliceFrom, SliceOf, ids_to, with_more, ancestors_loaded, ancestors_ascend, before_first}
 use Rattle.words.specs.Runs.{Wrote}
 use Rattle.words.specs.RunLaws.{wrote_more}
 use Rattle.slices.specs.Slices.{

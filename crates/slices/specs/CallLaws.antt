@@ -5,11 +5,11 @@ use Rattle.std.proofs.Math.Option.{Option, none, some, some-injective}
 use Rattle.std.proofs.lemmas.List.Edits.{sets, sets-eq}
 use Rattle.std.proofs.lemmas.Bool.{eqb-false}
 use Rattle.rules.specs.Facts.{by_test, compared}
-use Rattle.rules.specs.StepLaws.{Each}
+use Rattle.rules.proofs.StepLaws.{Each}
 use Rattle.rules.specs.Values.{Entity}
-use Rattle.rules.specs.MergeLaws.{bind_given, merged_of}
+use Rattle.rules.proofs.MergeLaws.{bind_given, merged_of}
 use Rattle.rules.specs.Loading.{done, EntityRequest, Loaded, loaded, loaded_as, size_of_answer, summed, with_ids, with_ancestors}
-use Rattle.rules.specs.SliceLaws.{answers_to, SliceFrom, SliceOf, ids_to, ancestors_loaded, ancestors_ascend, before_first}
+use Rattle.rules.proofs.SliceLaws.{answers_to, SliceFrom, SliceOf, ids_to, ancestors_loaded, ancestors_ascend, before_first}
 use Rattle.answers.specs.Answers.{read_item, StandsAt}
 use Rattle.answers.specs.AnswerLaws.{headed, set_ids}
 use Rattle.answers.specs.LentLaws.{absent_stands, entity_stands, set_stands}

@@ -3,9 +3,9 @@ use Rattle.std.specs.Prelude.{ℕ, suc, ◌+◌, ◌-◌, ◌^◌, ◌≤◌, �
 use Rattle.std.proofs.Common.{add-one, arith, sym, ◌∙◌}
 use Rattle.std.proofs.Math.Option.{some, none-ne-some, some-injective}
 use Rattle.rules.specs.Values.{Entity}
-use Rattle.rules.specs.MergeLaws.{merged_of}
+use Rattle.rules.proofs.MergeLaws.{merged_of}
 use Rattle.rules.specs.Loading.{with_ids}
-use Rattle.rules.specs.SliceLaws.{with_more}
+use Rattle.rules.proofs.SliceLaws.{with_more}
 use Rattle.words.specs.Runs.{Wrote}
 use Rattle.words.specs.RunLaws.{wrote_length, wrote_more}
 use Rattle.words.specs.SeqLaws.{set_before}

@@ -5,11 +5,11 @@ use Rattle.std.proofs.Math.Option.{none, some}
 use Rattle.std.proofs.lemmas.Bool.{eqb-false, not-true}
 use Rattle.rules.specs.Facts.{by_test, both_true}
 use Rattle.rules.specs.Values.{Entity}
-use Rattle.rules.specs.StepLaws.{Each, each_map}
-use Rattle.rules.specs.ValueRowLaws.{Every}
-use Rattle.rules.specs.ValueRowTestLaws.{lawful_read}
-use Rattle.rules.specs.MergeLaws.{GoodEntity}
-use Rattle.rules.specs.SliceLaws.{answer_to, answers_to, answers_good as good-answers}
+use Rattle.rules.proofs.StepLaws.{Each, each_map}
+use Rattle.rules.proofs.ValueRowLaws.{Every}
+use Rattle.rules.proofs.ValueRowTestLaws.{lawful_read}
+use Rattle.rules.proofs.MergeLaws.{GoodEntity}
+use Rattle.rules.proofs.SliceLaws.{answer_to, answers_to, answers_good as good-answers}
 use Rattle.values.specs.ValueWords.{row_asked}
 use Rattle.answers.specs.AnswerLaws.{set_ids}
 use Rattle.slices.specs.Slices.{entity_at, answer_in, rows_asked, answers_in, EntityStands, Heard, answers_for}

@@ -21,7 +21,7 @@ use Rattle.rules.specs.ValueRows.{
   merge_onto,
   merge_rows,
 }
-use Rattle.rules.specs.MergeLaws.{bind_given}
+use Rattle.rules.proofs.MergeLaws.{bind_given}
 use Rattle.words.specs.Runs.{Wrote}
 use Rattle.words.specs.RunLaws.{taken_back}
 use Rattle.values.specs.ValueWords.{value_row_in, value_rows_of, value_word}

@@ -2,13 +2,13 @@
 use Rattle.std.specs.Prelude.{ℕ, ◌+◌, ◌^◌, ◌≤◌, ◌<◌, ◌≡◌, ◌≢◌, true, cond, List, [], ◌∷◌, ◌++◌, map, eqb, length, take, drop, get_or}
 use Rattle.std.proofs.Math.Option.{Option, none, some}
 use Rattle.rules.specs.Tries.{ids}
-use Rattle.rules.specs.StepLaws.{Each}
+use Rattle.rules.proofs.StepLaws.{Each}
 use Rattle.rules.specs.Values.{Entity, values_in_attributes}
 use Rattle.rules.specs.ValueRows.{attribute_rows}
 use Rattle.rules.specs.ValueRowTests.{lawful_value_rows}
 use Rattle.rules.specs.Loading.{EntityRequest, Loaded}
-use Rattle.rules.specs.MergeLaws.{IdsFrom}
-use Rattle.rules.specs.SliceLaws.{answers_to, SliceOf, ids_to}
+use Rattle.rules.proofs.MergeLaws.{IdsFrom}
+use Rattle.rules.proofs.SliceLaws.{answers_to, SliceOf, ids_to}
 use Rattle.words.specs.Runs.{Wrote}
 use Rattle.values.specs.ValueWords.{value_rows_of, value_word, row_asked}
 use Rattle.merging.specs.MergeEntityLaws.{entity_of}

@@ -8,13 +8,13 @@ use Rattle.std.proofs.lemmas.List.Edits.{sets, sets-eq}
 use Rattle.std.proofs.Math.Seq.{length-sets}
 use Rattle.rules.specs.Values.{Entity, merged_entities, values_in_attributes}
 use Rattle.rules.specs.ValueRows.{ValueRow, attribute_rows, merge_rows}
-use Rattle.rules.specs.PlaceLaws.{same-list}
-use Rattle.rules.specs.StepLaws.{Each}
-use Rattle.rules.specs.ValueRowLaws.{fields_no_left}
+use Rattle.rules.proofs.PlaceLaws.{same-list}
+use Rattle.rules.proofs.StepLaws.{Each}
+use Rattle.rules.proofs.ValueRowLaws.{fields_no_left}
 use Rattle.rules.specs.ValueRowTests.{attributes_from, passes, lawful_value_rows}
-use Rattle.rules.specs.ValueRowTestLaws.{read_run, lawful_read, lawful_rows_count, lawful_merge, lawful_merged}
-use Rattle.rules.specs.MergeLaws.{bind_given, GoodEntity, MergedFrom, merged_from, merged_all, merged_of}
-use Rattle.rules.specs.SliceLaws.{answers_to}
+use Rattle.rules.proofs.ValueRowTestLaws.{read_run, lawful_read, lawful_rows_count, lawful_merge, lawful_merged}
+use Rattle.rules.proofs.MergeLaws.{bind_given, GoodEntity, MergedFrom, merged_from, merged_all, merged_of}
+use Rattle.rules.proofs.SliceLaws.{answers_to}
 use Rattle.words.specs.Runs.{Wrote}
 use Rattle.words.specs.SeqLaws.{set_before}
 use Rattle.values.specs.ValueWords.{value_row_in, value_rows_of, value_word}

@@ -5,8 +5,8 @@ use Rattle.rules.specs.Tries.{ids}
 use Rattle.rules.specs.Values.{Entity, values_in_attributes}
 use Rattle.rules.specs.ValueRows.{ValueRow, merge_rows}
 use Rattle.rules.specs.Loading.{with_ids}
-use Rattle.rules.specs.MergeLaws.{IdsFrom, merged_of}
-use Rattle.rules.specs.SliceLaws.{answers_to, ids_to, with_more}
+use Rattle.rules.proofs.MergeLaws.{IdsFrom, merged_of}
+use Rattle.rules.proofs.SliceLaws.{answers_to, ids_to, with_more}
 use Rattle.words.specs.Runs.{Wrote}
 use Rattle.values.specs.ValueWords.{value_rows_of}
 use Rattle.slices.specs.declared.entity.NextAnswer.{NextAnswer}

@@ -7,9 +7,9 @@ use Rattle.std.proofs.lemmas.Bool.{lt-leb}
 use Rattle.std.proofs.Math.Seq.{take-length}
 use Rattle.rules.specs.Facts.{by_test, same_test}
 use Rattle.rules.specs.Text.{bytes, fields_of, decimal_of, TAB}
-use Rattle.rules.specs.TextLaws.{parted_some}
+use Rattle.rules.proofs.TextLaws.{parted_some}
 use Rattle.rules.specs.Tries.{same_list}
-use Rattle.rules.specs.PlaceLaws.{same-list}
+use Rattle.rules.proofs.PlaceLaws.{same-list}
 use Rattle.rules.specs.Schema.{ascending}
 use Rattle.text.specs.Answers.{NamesRead}
 use Rattle.text.specs.declared.Names.{Names}

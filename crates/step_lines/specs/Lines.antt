@@ -4,7 +4,7 @@ use Rattle.std.proofs.Math.Option.{Option, none, some}
 use Rattle.rules.specs.Text.{bytes}
 use Rattle.rules.specs.Tries.{step_of, is_root}
 use Rattle.rules.specs.Listing.{place_in, ◌>>=◌}
-use Rattle.rules.specs.StepLaws.{Each}
+use Rattle.rules.proofs.StepLaws.{Each}
 use Rattle.rules.specs.Steps.{Step, root, none_line, attr, union_line, drop_line, full, in_line, set, rec}
 use Rattle.step_lines.specs.declared.Step.{Step as StepRead}
 use Rattle.step_lines.specs.declared.Step.TheVariants.{Root, None, Attr, Union, Drop, Full, In, Set, Rec, Bad}

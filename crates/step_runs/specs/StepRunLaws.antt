@@ -8,11 +8,11 @@ use Rattle.rules.specs.Facts.{by_option, compared}
 use Rattle.rules.specs.Text.{fields_of}
 use Rattle.rules.specs.Tries.{Row}
 use Rattle.rules.specs.Listing.{read}
-use Rattle.rules.specs.ListingLaws.{refused_not}
+use Rattle.rules.proofs.ListingLaws.{refused_not}
 use Rattle.rules.specs.Schema.{Item, from_type}
 use Rattle.rules.specs.Paths.{get_or_has_attr, full_type_required, add_taken, RecordLiteral, SetLiteral}
 use Rattle.rules.specs.Steps.{Result, result, from_root, default_result, restored, union_results, empty_paths, in_result, wrapped, Step, root, none_line, attr, union_line, drop_line, full, in_line, set as set_of, rec, step_from, judged, attr_step, rec_step, full_step, apply, stepped, step_line, run, ended}
-use Rattle.rules.specs.StepLaws.{Each, AllGood, GoodSchema, judged_accepted, step_good, apply_good}
+use Rattle.rules.proofs.StepLaws.{Each, AllGood, GoodSchema, judged_accepted, step_good, apply_good}
 use Rattle.text.specs.Answers.{line_at}
 use Rattle.text.proofs.Laws.{whole_line, cut_line}
 use Rattle.text.proofs.FoldLaws.{CameTo, came_start, came_end, came_cut, came_refused, came_next}

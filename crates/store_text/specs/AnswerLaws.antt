@@ -13,7 +13,7 @@ use Rattle.std.proofs.lemmas.List.{length-map}
 use Rattle.std.proofs.lemmas.List.Edits.{sets}
 use Rattle.std.proofs.Math.Seq.{drop-cons, drop-append-add}
 use Rattle.rules.specs.Facts.{by_test}
-use Rattle.rules.specs.MergeLaws.{IdsFrom}
+use Rattle.rules.proofs.MergeLaws.{IdsFrom}
 use Rattle.rules.specs.ValueTexts.{EntityRead}
 use Rattle.words.specs.Runs.{Wrote}
 use Rattle.words.specs.RunLaws.{wrote_more, wrote_ended}

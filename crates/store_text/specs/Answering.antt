@@ -1,7 +1,7 @@
 -- What a store answers (docs/FORMS.md, 'Store', 'Answers in' and 'Ancestors answers in').
 use Rattle.std.specs.Prelude.{ℕ, ◌+◌, ◌*◌, ◌%◌, ◌^◌, ◌≤◌, ◌<◌, ◌≡◌, Bool, true, false, cond, List, [], ◌∷◌, ◌++◌, map, eqb, length, drop}
 use Rattle.std.proofs.Math.Option.{Option, none, some}
-use Rattle.rules.specs.MergeLaws.{IdsFrom}
+use Rattle.rules.proofs.MergeLaws.{IdsFrom}
 use Rattle.rules.specs.ValueTexts.{EntityRead}
 use Rattle.words.specs.Runs.{Wrote}
 use Rattle.values.specs.ValueWords.{value_word}

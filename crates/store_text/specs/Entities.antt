@@ -1,11 +1,11 @@
 -- What holds of the entities of a store whose lines have passed, and of the order of their elements.
 use Rattle.std.specs.Prelude.{ℕ, ◌≤◌, ◌≡◌, true, cond, List, [], ◌∷◌, ltb, length}
 use Rattle.std.proofs.Math.Option.{none, some}
-use Rattle.rules.specs.MergeLaws.{IdsFrom}
+use Rattle.rules.proofs.MergeLaws.{IdsFrom}
 use Rattle.rules.specs.ValueRows.{ValueRow}
 use Rattle.rules.specs.ValueRowTests.{is_value_row}
 use Rattle.rules.specs.ValueTexts.{EntityRead, unordered_in, least_of}
-use Rattle.rules.specs.ValueTextLaws.{Came}
+use Rattle.rules.proofs.ValueTextLaws.{Came}
 use Rattle.store_text.specs.Words.{store_words}
 
 -- what holds of each of some

@@ -4,12 +4,12 @@ use Rattle.std.proofs.Common.{arith, length-append}
 use Rattle.std.proofs.Math.Option.{some, none-ne-some, some-injective}
 use Rattle.rules.specs.Facts.{by_test}
 use Rattle.rules.specs.Text.{fields_of, decimal_of, decimal_up_to, TAB}
-use Rattle.rules.specs.TextLaws.{joined_by, joined_parted, decimal_written}
+use Rattle.rules.proofs.TextLaws.{joined_by, joined_parted, decimal_written}
 use Rattle.rules.specs.Listing.{is_letter}
-use Rattle.rules.specs.ListingLaws.{bind_some}
+use Rattle.rules.proofs.ListingLaws.{bind_some}
 use Rattle.rules.specs.ValueRowTests.{is_value_row}
 use Rattle.rules.specs.ValueTexts.{StoreLine, entity_line, parent_line, ancestor_line, attribute_line, id_line, store_line_of, value_row_of}
-use Rattle.rules.specs.ValueTextLaws.{row_of_form}
+use Rattle.rules.proofs.ValueTextLaws.{row_of_form}
 
 -- what holds of each line that is read: its id is a decimal, or its row is of its form
 abbrev pub Formed : StoreLine → Type 0

@@ -11,7 +11,7 @@ use Rattle.rules.specs.Facts.{by_test, both_true}
 use Rattle.rules.specs.ValueRows.{ValueRow}
 use Rattle.rules.specs.ValueRowTests.{Level, is_value_row, in_turn, inside_value, level_at, levels_after}
 use Rattle.rules.specs.ValueTexts.{EntityRead, field_level, unordered, unordered_in, lesser, least_of}
-use Rattle.rules.specs.ValueTextLaws.{may_pass}
+use Rattle.rules.proofs.ValueTextLaws.{may_pass}
 use Rattle.values.specs.ValueWords.{value_row_in, value_rows_of, value_word}
 use Rattle.value_text.specs.Rows.{Misplaced}
 use Rattle.value_text.specs.LineLaws.{row_again}

@@ -5,11 +5,11 @@ use mathlib.Core.List.{List, [], ◌∷◌, ◌++◌, map, map-append, append_as
 use Rattle.std.proofs.Math.Option.{none, some}
 use Rattle.std.proofs.lemmas.Bool.{lt-leb}
 use Rattle.rules.specs.Facts.{by_test, both_true, compared}
-use Rattle.rules.specs.MergeLaws.{IdsFrom}
+use Rattle.rules.proofs.MergeLaws.{IdsFrom}
 use Rattle.rules.specs.ValueRows.{ValueRow}
 use Rattle.rules.specs.ValueRowTests.{is_value_row}
 use Rattle.rules.specs.ValueTexts.{StoreLine, entity_line, parent_line, ancestor_line, attribute_line, EntityRead, entity_read, StoreRead, store_read, is_above, without_rows, of_store, no_rows, may_come, with_row}
-use Rattle.rules.specs.ValueTextLaws.{came_none, came_row}
+use Rattle.rules.proofs.ValueTextLaws.{came_none, came_row}
 use Rattle.values.specs.ValueWords.{value_word}
 use Rattle.store_text.specs.LineLaws.{Formed}
 use Rattle.store_text.specs.Words.{parent_word, ancestor_word, lines_behind, store_words}

@@ -7,9 +7,9 @@ use Rattle.std.proofs.Math.Seq.{length-sets, take-append_seam}
 use Rattle.rules.specs.Facts.{by_test, by_option, compared, accepted_same, then_accepted}
 use Rattle.rules.specs.Numbers.{Answer, accepted, refused}
 use Rattle.rules.specs.Lines.{Folded, folded, fold_lines}
-use Rattle.rules.specs.ListingLaws.{refused_not}
+use Rattle.rules.proofs.ListingLaws.{refused_not}
 use Rattle.rules.specs.Text.{lines_of, fields_of, LF}
-use Rattle.rules.specs.TextLaws.{joined_by, joined_parted}
+use Rattle.rules.proofs.TextLaws.{joined_by, joined_parted}
 use Rattle.rules.specs.ValueTexts.{StoreLine, StoreRead, EntityRead, store_read, entities_in, store_line_of, store_line, unordered_in, least_of, read_store}
 use Rattle.words.specs.Runs.{words_in}
 use Rattle.words.specs.RunLaws.{held_count}

@@ -10,7 +10,7 @@ use lib.Seq.{take_all}
 use Rattle.rules.specs.Facts.{compared}
 use Rattle.rules.specs.Text.{fields_of, TAB}
 use Rattle.rules.specs.Listing.{place_in}
-use Rattle.rules.specs.ListingLaws.{place_read}
+use Rattle.rules.proofs.ListingLaws.{place_read}
 use Rattle.text.specs.Answers.{field_at, first_field}
 use Rattle.text.specs.Before.{before as earlier}
 use Rattle.text.specs.declared.Field.{Field}

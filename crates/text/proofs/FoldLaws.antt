@@ -7,7 +7,7 @@ use lib.ListN.{length, drop, drop_of_length-le, length-drop}
 use Rattle.rules.specs.Numbers.{Answer, accepted, refused}
 use Rattle.rules.specs.Text.{lines_of}
 use Rattle.rules.specs.Lines.{folded, fold_lines}
-use Rattle.rules.specs.LineLaws.{fold_end, fold_cut, fold_next, fold_refused}
+use Rattle.rules.proofs.LineLaws.{fold_end, fold_cut, fold_next, fold_refused}
 use Rattle.text.proofs.Laws.{LineTo}
 
 -- The lines from a place on, the first of a number, came to a state at a later place: the others go on from it.

@@ -13,7 +13,7 @@ use lib.Dec.{eqb, ltb}
 use lib.ListN.{length, get_or, take, drop, drop_of_length-le, length-append, length-drop}
 use lib.Seq.{drop-cons, drop-drop, take-append_seam, drop-append-add}
 use Rattle.rules.specs.Text.{parted, onto, lines_of, fields_of, number_from, decimal_up_to, decimal_of, decimal, LF, TAB}
-use Rattle.rules.specs.TextLaws.{Free, free_empty, free_more, parted_free, parted_first, parted_some, parted_split, free_decimal, number_from_digit, number_from_none, decimal_up_to_one, decimal_up_to_more, decimal_written, joined_by, joined_parted}
+use Rattle.rules.proofs.TextLaws.{Free, free_empty, free_more, parted_free, parted_first, parted_some, parted_split, free_decimal, number_from_digit, number_from_none, decimal_up_to_one, decimal_up_to_more, decimal_written, joined_by, joined_parted}
 use Rattle.rules.specs.Facts.{by_test, by_option, compared}
 use Rattle.rules.specs.Listing.{is_letter}
 use Rattle.text.specs.Answers.{line_at, first_line, field_at, first_field, number_of, number_to, first_number, number_at, ending}

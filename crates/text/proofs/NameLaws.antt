@@ -12,9 +12,9 @@ use lib.ListN.{length, get_or, take, drop, set, length-append, length-drop, leng
 use lib.Seq.{append_snoc, drop-cons, drop-length, drop-set-lt, get_or-set_same, take_all, take-nil, take-append-le}
 use Rattle.rules.specs.Facts.{by_test, by_option, compared}
 use Rattle.rules.specs.Text.{parted, fields_of, decimal_of, TAB}
-use Rattle.rules.specs.TextLaws.{parted_some, decimal_written, decimal_up_to_empty}
+use Rattle.rules.proofs.TextLaws.{parted_some, decimal_written, decimal_up_to_empty}
 use Rattle.rules.specs.Listing.{◌>>=◌}
-use Rattle.rules.specs.ListingLaws.{bind_some}
+use Rattle.rules.proofs.ListingLaws.{bind_some}
 use Rattle.rules.specs.Schema.{ascending}
 use Rattle.rules.specs.Steps.{reversed}
 use Rattle.text.specs.Answers.{names_counted, NamesKept, NamesRead}

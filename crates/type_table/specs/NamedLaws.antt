@@ -6,8 +6,8 @@ use Rattle.std.proofs.lemmas.List.{length-map}
 use Rattle.rules.specs.Facts.{by_test}
 use Rattle.rules.specs.Paths.{attribute_type}
 use Rattle.rules.specs.Schema.{attributes_of}
-use Rattle.rules.specs.TypeLaws.{Ascends, attribute_past, attributes_first}
-use Rattle.rules.specs.WalkLaws.{take-map}
+use Rattle.rules.proofs.TypeLaws.{Ascends, attribute_past, attributes_first}
+use Rattle.rules.proofs.WalkLaws.{take-map}
 use Rattle.schema.specs.Items.{item_in, items_of}
 use Rattle.words.specs.Keys.{searched, later}
 use Rattle.words.specs.declared.Search.{Search}

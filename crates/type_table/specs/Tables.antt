@@ -4,7 +4,7 @@ use Rattle.std.proofs.Math.Option.{Option, none, some}
 use Rattle.rules.specs.Tries.{Row}
 use Rattle.rules.specs.Schema.{from_type, attribute_line}
 use Rattle.rules.specs.Paths.{type_below}
-use Rattle.rules.specs.TypeLaws.{types_in, deepest}
+use Rattle.rules.proofs.TypeLaws.{types_in, deepest}
 use Rattle.rules.specs.Facts.{capped}
 use Rattle.schema.specs.Items.{item_in, items_of, good_items}
 use Rattle.words.specs.Keys.{searched}

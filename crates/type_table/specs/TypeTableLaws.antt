@@ -11,7 +11,7 @@ use Rattle.rules.specs.Listing.{read}
 use Rattle.rules.specs.Tries.{Row}
 use Rattle.rules.specs.Schema.{Item, last_type, attribute_line, unknown, lawful_items, from_type, attributes_of}
 use Rattle.rules.specs.Paths.{deeper, children_of, kind_at, element_at, attributes_at}
-use Rattle.rules.specs.TypeLaws.{TypeLines, AttributesBelow, types_in, deepest, type_here, type_lines, type_children, types_last, types_last_other, kind-at, element-at, attributes-at, attributes_on, attributes_below, deeper_append, deeper_length, deeper_deeper, children_append, children_deepest, children_length, deepest_append, children_deepest_capped, children_length_capped}
+use Rattle.rules.proofs.TypeLaws.{TypeLines, AttributesBelow, types_in, deepest, type_here, type_lines, type_children, types_last, types_last_other, kind-at, element-at, attributes-at, attributes_on, attributes_below, deeper_append, deeper_length, deeper_deeper, children_append, children_deepest, children_length, deepest_append, children_deepest_capped, children_length_capped}
 use Rattle.rows.specs.Words.{word_of}
 use Rattle.schema.specs.Items.{item_in, items_of, is_item, all_items, good_items}
 use Rattle.words.specs.Runs.{Wrote}

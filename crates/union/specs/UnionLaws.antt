@@ -4,7 +4,7 @@ use Rattle.std.proofs.Common.{arith, sym, ap, ap₂, ◌∙◌, ⊎_elim}
 use borrow.Author.Tests.{ltb-true, ltb-false, lt-ltb, le-ltb, le-leb, lt-leb}
 use Rattle.rules.specs.Facts.{by_test}
 use Rattle.rules.specs.Tries.{union, entries_in, nodes_in}
-use Rattle.rules.specs.TrieLaws.{union_nil_left, union_nil_right, union_first, union_second, union_same, union_sum-length, union_sum_entries, union_sum_nodes}
+use Rattle.rules.proofs.TrieLaws.{union_nil_left, union_nil_right, union_first, union_second, union_same, union_sum-length, union_sum_entries, union_sum_nodes}
 use Rattle.rows.specs.Words.{row_in, is_word, rank_in, joined_word}
 use Rattle.union.specs.Unions.{union_words_onto, union_words, union_into, Roomy, union_of}
 use Rattle.rows.specs.States.{all_words, form_of, words_of, rows_of, lawful_state, Counted}

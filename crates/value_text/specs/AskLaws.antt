@@ -6,7 +6,7 @@ use Rattle.std.proofs.Math.Option.{none, some}
 use Rattle.std.proofs.lemmas.Bool.{lt-leb}
 use Rattle.rules.specs.Numbers.{Answer, accepted, refused, and_then}
 use Rattle.rules.specs.Text.{lines_of, fields_of, LF}
-use Rattle.rules.specs.TextLaws.{parted_some}
+use Rattle.rules.proofs.TextLaws.{parted_some}
 use Rattle.rules.specs.ValueRows.{ValueRow}
 use Rattle.rules.specs.ValueTexts.{Asked, RequestRead, asked_of, request_read, or_one, value_from_lines, read_request}
 use Rattle.text.specs.Answers.{line_at}

@@ -5,7 +5,7 @@ use Rattle.std.proofs.Common.{arith, sym, ap, ◌∙◌, eq-eqb, ne_eqb, lt-ltb,
 use Rattle.std.proofs.Math.Option.{Option, none, some}
 use Rattle.rules.specs.Facts.{by_test, by_option}
 use Rattle.rules.specs.Text.{fields_of, decimal_of, TAB}
-use Rattle.rules.specs.TextLaws.{parted_some, parted_first, parted_free, free_decimal, decimal_read, decimal_written, joined_by, joined_parted}
+use Rattle.rules.proofs.TextLaws.{parted_some, parted_first, parted_free, free_decimal, decimal_read, decimal_written, joined_by, joined_parted}
 use Rattle.rules.specs.Listing.{◌>>=◌, is_letter, place_in}
 use Rattle.rules.specs.ValueRows.{value_row}
 use Rattle.rules.specs.ValueTexts.{kind_letters, value_row_of, asked_of}

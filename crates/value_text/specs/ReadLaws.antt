@@ -9,12 +9,12 @@ use Rattle.std.proofs.lemmas.List.Edits.{sets}
 use Rattle.rules.specs.Facts.{then_accepted, accepted_same}
 use Rattle.rules.specs.Numbers.{Answer, accepted, refused, and_then}
 use Rattle.rules.specs.Lines.{Folded, fold_lines}
-use Rattle.rules.specs.LineLaws.{fold_kept}
+use Rattle.rules.proofs.LineLaws.{fold_kept}
 use Rattle.rules.specs.Listing.{◌>>=◌}
 use Rattle.rules.specs.Text.{lines_of, fields_of}
 use Rattle.rules.specs.ValueRows.{ValueRow}
 use Rattle.rules.specs.ValueTexts.{ValueRead, value_row_of, field_level, no_rows, row_taken, has_room, or_one, value_line, unordered, least_of, in_order, value_from_lines}
-use Rattle.rules.specs.ValueTextLaws.{may_pass, Came, came_none, came_line}
+use Rattle.rules.proofs.ValueTextLaws.{may_pass, Came, came_none, came_line}
 use Rattle.text.specs.Answers.{line_at}
 use Rattle.text.proofs.Laws.{whole_line, cut_line}
 use Rattle.text.proofs.FoldLaws.{CameFrom, came_here, came_end, came_cut, came_refused, came_next}

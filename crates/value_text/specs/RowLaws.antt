@@ -12,7 +12,7 @@ use Rattle.rules.specs.Text.{fields_of}
 use Rattle.rules.specs.ValueRows.{ValueRow}
 use Rattle.rules.specs.ValueRowTests.{Level, is_value_row, inside_value, beyond_value, ahead_of, in_turn, fits_level, level_at, levels_after}
 use Rattle.rules.specs.ValueTexts.{value_row_of, field_level, may_come, unordered, lesser, least_of}
-use Rattle.rules.specs.ValueTextLaws.{may_pass}
+use Rattle.rules.proofs.ValueTextLaws.{may_pass}
 use Rattle.values.specs.ValueWords.{depth_from, key_from, value_row_in, value_rows_of}
 use Rattle.values.specs.Lawful.{PastInside, is_ahead_at, level_in, levels_in, row_at, rows_behind, Opened}
 use Rattle.values.specs.LawfulLaws.{words_left, after_taken}

@@ -12,7 +12,7 @@ use Rattle.std.proofs.Math.ListN.{drop, drop_of_length-le, get_or-map}
 use Rattle.std.proofs.lemmas.List.{length-map}
 use Rattle.rules.specs.Facts.{both_true}
 use Rattle.rules.specs.Tries.{same}
-use Rattle.rules.specs.WalkLaws.{take-map}
+use Rattle.rules.proofs.WalkLaws.{take-map}
 use Rattle.rules.specs.ValueRowTests.{
   level,
   level_at,

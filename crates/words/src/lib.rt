@@ -1,4 +1,6 @@
 // Runs of words: copied, searched, compared; and what an operation on lent words answers.
+#![tactic(auto)]
+
 ghost use Rattle.std.specs.Prelude.{◌≡◌, ◌+◌, ◌≤◌, ◌<◌, length, take, get_or};
 ghost use Rattle.std.proofs.lemmas.List.Edits.{sets};
 ghost use Rattle.rules.specs.Facts.{capped, larger as largerOf};

@@ -10,10 +10,10 @@ use Rattle.std.proofs.lemmas.List.Edits.{sets-eq}
 use Rattle.std.proofs.Math.Seq.{length-sets, length-take-le}
 use Rattle.rules.specs.Numbers.{refused}
 use Rattle.rules.specs.Tries.{Row, union}
-use Rattle.rules.specs.TrieLaws.{union_nil_left, union_nil_right}
+use Rattle.rules.proofs.TrieLaws.{union_nil_left, union_nil_right}
 use Rattle.rules.specs.Paths.{RecordLiteral, SetLiteral, no_field, field, nodes_of, nodes_of_fields, union_all}
 use Rattle.rules.specs.Steps.{Result, result, judged, is_too_deep, union_results, two_step, set_step, drop_step, empty_paths, Wrapped, wrapped, rec_step}
-use Rattle.rules.specs.StepLaws.{Each, IsTrie, GoodResult, AllGood, each_split, each_map, empty_trie, union_trie, trie_commutative, trie_associative, trie_shallow, tries_trie}
+use Rattle.rules.proofs.StepLaws.{Each, IsTrie, GoodResult, AllGood, each_split, each_map, empty_trie, union_trie, trie_commutative, trie_associative, trie_shallow, tries_trie}
 use Rattle.words.specs.Runs.{Wrote}
 use Rattle.wrapped_paths.specs.Code.{count_in, names_in, code, code_fields, codes, nodes_of_all, Standing, Measures}
 use Rattle.wrapped_paths.specs.CodeLaws.{codes_append}

@@ -17,7 +17,7 @@ use Rattle.rules.specs.Paths.{
   paths_in,
   get_or_has_attr,
 }
-use Rattle.rules.specs.StepLaws.{AllPaths, grown_in}
+use Rattle.rules.proofs.StepLaws.{AllPaths, grown_in}
 use Rattle.wrapped_paths.specs.declared.WrappedAccessPaths.{WrappedAccessPaths}
 use Rattle.wrapped_paths.specs.declared.WrappedAccessPaths.TheVariants.{
   Empty as EmptyHead,

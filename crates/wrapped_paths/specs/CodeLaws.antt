@@ -10,7 +10,7 @@ use Rattle.std.proofs.lemmas.List.{length-map}
 use Rattle.std.proofs.Math.Seq.{take-append_seam, drop-append_seam}
 use Rattle.rules.specs.Tries.{kind_of, id_of, is_step}
 use Rattle.rules.specs.Paths.{Path, Paths, Empty, AccessPath, Union, RecordLiteral, SetLiteral, Fields, no_field, field, nodes_of, nodes_of_fields, paths_in, paths_in_fields}
-use Rattle.rules.specs.StepLaws.{Each, Stepped, IsPath, AllPaths, each_split}
+use Rattle.rules.proofs.StepLaws.{Each, Stepped, IsPath, AllPaths, each_split}
 use Rattle.wrapped_paths.specs.declared.WrappedAccessPaths.{WrappedAccessPaths}
 use Rattle.wrapped_paths.specs.declared.WrappedAccessPaths.TheVariants.{
   Empty as EmptyHead,

@@ -12,7 +12,7 @@ use Rattle.rules.specs.Paths.{
   field_of,
   field_or,
 }
-use Rattle.rules.specs.StepLaws.{Each, Stepped, grown_in}
+use Rattle.rules.proofs.StepLaws.{Each, Stepped, grown_in}
 use Rattle.words.specs.Runs.{Wrote}
 use Rattle.wrapped_paths.specs.declared.WrappedAccessPaths.{WrappedAccessPaths}
 use Rattle.wrapped_paths.specs.declared.WrappedAccessPaths.TheVariants.{

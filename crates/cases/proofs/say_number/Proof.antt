@@ -1,7 +1,7 @@
 -- `cases::say_number` stays within `out`: a number of 64 bits has at most 20 digits.
 use native.Mathlib.Omega.{arith}
 use borrow.Author.Rules.{rules}
-use Rattle.rules.specs.TextLaws.{length_decimal_in}
+use Rattle.rules.proofs.TextLaws.{length_decimal_in}
 use Rattle.io.proofs.Counting.{prefix_len_of_le}
 use Rattle.cases.proofs.say_number.Statement.{statement}
 use Rattle.cases.proofs.say_number.Tie as tie

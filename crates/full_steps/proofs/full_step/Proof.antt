@@ -7,7 +7,7 @@ use native.Mathlib.Omega.{arith}
 use borrow.Author.Tests.{not-true, not-false}
 use lib.Seq.{length-take-le}
 use Rattle.rules.specs.Steps.{Result}
-use Rattle.rules.specs.TypeLaws.{types_in}
+use Rattle.rules.proofs.TypeLaws.{types_in}
 use Rattle.schema.specs.Items.{items_of}
 use Rattle.wrapped_paths.specs.Code.{codes}
 use Rattle.type_table.specs.Tables.{GoodTypes}

@@ -4,13 +4,13 @@ use borrow.Author.Rules.{rules}
 use Prim.Native.Nat.{◌+◌, ◌≤◌, ◌<◌, ◌-◌}
 use lib.ListN.{get_or, length}
 use Rattle.rules.specs.Paths.{add_access_path, type_to_access_trie}
-use Rattle.rules.specs.TypeLaws.{types_in}
+use Rattle.rules.proofs.TypeLaws.{types_in}
 use Rattle.rows.specs.States.{rows_in}
 use Rattle.wrapped_paths.specs.Code.{steps_at, path_at, AllWithin}
 use Rattle.path_tries.specs.Nodes.{Became}
 use mathlib.Core.Path.{◌≡◌, refl, sym, ◌∙◌}
 use lib.Seq.{length-take-le}
-use Rattle.rules.specs.StepLaws.{IsPath}
+use Rattle.rules.proofs.StepLaws.{IsPath}
 use borrow.Author.Tests.{not-true, not-false}
 use Rattle.schema.specs.Items.{items_of}
 use Rattle.full_types.specs.Pairs.{pair_place, pair_type}

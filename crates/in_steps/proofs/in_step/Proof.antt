@@ -9,7 +9,7 @@ use borrow.Author.Tests.{not-true, not-false}
 use lib.ListN.{take, drop}
 use lib.Seq.{length-take-le}
 use Rattle.rules.specs.Steps.{Result, in_result}
-use Rattle.rules.specs.TypeLaws.{longest}
+use Rattle.rules.proofs.TypeLaws.{longest}
 use Rattle.wrapped_paths.specs.Code.{codes, paths_at, Found}
 use Rattle.path_tries.specs.Nodes.{any_deep}
 use Rattle.result_stack.specs.Stacks.{stack_paths, Held}

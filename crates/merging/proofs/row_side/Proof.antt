@@ -3,7 +3,7 @@
 use mathlib.Core.Path.{◌≡◌, sym}
 use native.Mathlib.Omega.{arith}
 use Rattle.rules.specs.Tries.{first, second, same}
-use Rattle.rules.specs.TrieLaws.{deeper, smaller}
+use Rattle.rules.proofs.TrieLaws.{deeper, smaller}
 use Rattle.values.specs.ValueWords.{depth_from}
 use Rattle.merging.specs.MergeLaws.{side_said}
 use borrow.Author.Rules.{rules}

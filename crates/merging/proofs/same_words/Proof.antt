@@ -7,7 +7,7 @@ use lib.ListN.{length, get_or}
 use lib.Seq.{ext_get_or}
 use borrow.Author.Count.{below_more}
 use borrow.Author.Rules.{rules}
-use Rattle.rules.specs.PlaceLaws.{same-list}
+use Rattle.rules.proofs.PlaceLaws.{same-list}
 use Rattle.merging.specs.MergeLaws.{not_same}
 use Rattle.merging.proofs.same_words.Statement.{statement}
 use Rattle.merging.proofs.same_words.Tie as tie

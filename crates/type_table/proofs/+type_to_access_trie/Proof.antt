@@ -6,7 +6,7 @@ use mathlib.Core.Bool.{true}
 use mathlib.Core.Path.{◌≡◌, sym, ap, ◌∙◌}
 use lib.ListN.{length, get_or, length-set}
 use Rattle.rules.specs.Schema.{Item}
-use Rattle.rules.specs.TypeLaws.{deepest}
+use Rattle.rules.proofs.TypeLaws.{deepest}
 use Rattle.words.specs.RunLaws.{wrote_length}
 use Rattle.type_table.specs.Tables.{type_rows, attribute_at}
 use Rattle.type_table.specs.TypeTableLaws.{TypeStands, TrieWriting, tabled_stands, tabled_inside, attribute_inside, passing_below, key_small, good_all, writing_none, writing_all, writing_room, writing_shallow, writing_next}

@@ -7,7 +7,7 @@ use mathlib.Core.Bool.{true}
 use mathlib.Core.Path.{◌≡◌, sym, ap, ◌∙◌}
 use lib.ListN.{take, get_or, length}
 use Rattle.rules.specs.Schema.{Item}
-use Rattle.rules.specs.TypeLaws.{types_in}
+use Rattle.rules.proofs.TypeLaws.{types_in}
 use Rattle.schema.specs.Items.{items_of}
 use Rattle.type_table.specs.Tables.{attribute_at, TypeMeasured}
 use Rattle.type_table.specs.TypeTableLaws.{TypeStands, Sizing, sizing_none, sizing_small, sizing_next, sizing_all, stands_here, attribute_inside, passing_below}

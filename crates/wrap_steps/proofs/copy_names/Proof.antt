@@ -4,7 +4,7 @@ use Prim.Native.Nat.{◌-◌, ◌<◌}
 use native.Mathlib.Omega.{arith}
 use lib.ListN.{length}
 use Rattle.words.specs.RunLaws.{Copying, copying_first, copying_length, copying_next, copying_all}
-use Rattle.rules.specs.StepLaws.{each_at}
+use Rattle.rules.proofs.StepLaws.{each_at}
 use borrow.Author.Rules.{rules}
 use Rattle.wrap_steps.proofs.copy_names.Statement.{statement}
 use Rattle.wrap_steps.proofs.copy_names.Tie as tie

@@ -4,7 +4,7 @@ use Prim.Native.Nat.{◌-◌, ◌+◌, ◌≤◌}
 use native.Mathlib.Omega.{arith}
 use mathlib.Core.Path.{◌≡◌, refl, sym, ◌∙◌}
 use lib.ListN.{length}
-use Rattle.rules.specs.StepLaws.{grown_in}
+use Rattle.rules.proofs.StepLaws.{grown_in}
 use Rattle.wrapped_paths.specs.Code.{code}
 use Rattle.wrapped_paths.specs.declared.Turn.TheVariants.{Next}
 use Rattle.wrapped_paths.specs.Turns.{Turned, sides_of}

@@ -9,7 +9,7 @@ use borrow.Author.Rules.{rules}
 use lib.ListN.{length, take, drop, get_or, length-map}
 use lib.Seq.{length-take-le}
 use Rattle.rules.specs.Loading.{batch_of}
-use Rattle.rules.specs.SliceLaws.{answers_to}
+use Rattle.rules.proofs.SliceLaws.{answers_to}
 use Rattle.rules.specs.WalkRows.{remaining_rows}
 use Rattle.rows.specs.Words.{row_in}
 use Rattle.rows.specs.States.{rows_of}

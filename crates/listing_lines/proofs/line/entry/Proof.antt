@@ -5,7 +5,7 @@ use native.Mathlib.Omega.{arith}
 use mathlib.Core.List.{[], ◌∷◌}
 use mathlib.Core.Path.{sym, ◌∙◌}
 use Rattle.rules.specs.Text.{TAB, LF, bytes, decimal_of, decimal}
-use Rattle.rules.specs.TextLaws.{decimal_read}
+use Rattle.rules.proofs.TextLaws.{decimal_read}
 use Rattle.rules.specs.Listing.{row_of}
 use Rattle.text.proofs.Laws.{NumberEnds, number_ends, number_unended}
 use Rattle.listing_lines.specs.LineLaws.{decimal_free, row_number, row_ends, row_unread, row_unended, entry_no_principal, entry_no_action, entry_no_resource}

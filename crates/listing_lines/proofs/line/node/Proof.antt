@@ -5,7 +5,7 @@ use native.Mathlib.Omega.{arith}
 use mathlib.Core.List.{[], ◌∷◌}
 use mathlib.Core.Path.{sym, ap, ◌∙◌}
 use Rattle.rules.specs.Text.{TAB, LF, bytes, decimal_of, decimal}
-use Rattle.rules.specs.TextLaws.{decimal_read}
+use Rattle.rules.proofs.TextLaws.{decimal_read}
 use Rattle.rules.specs.Listing.{row_of, place_in, letters}
 use Rattle.text.proofs.Laws.{NumberEnds, number_ends, number_unended}
 use Rattle.listing_lines.specs.Lines.{kind_read}

@@ -8,7 +8,7 @@ use mathlib.Core.Path.{◌≡◌, sym, ap, ◌∙◌}
 use lib.ListN.{length, take, drop}
 use lib.Seq.{length-take-le}
 use Rattle.rules.specs.Text.{fields_of, TAB}
-use Rattle.rules.specs.TextLaws.{parted_some}
+use Rattle.rules.proofs.TextLaws.{parted_some}
 use Rattle.text.proofs.FieldLaws.{Ends, field_ends, fields_last, fields_whole}
 use Rattle.rules.specs.Names.{named_of}
 use Rattle.name_table.specs.Lines.{key_read}

@@ -8,7 +8,7 @@ use lib.ListN.{drop, get_or}
 use Rattle.rules.specs.Schema.{Item}
 use Rattle.rules.specs.Tries.{kind_of, id_of}
 use Rattle.rules.specs.Typing.{Fate, field_type, fate, fate_below}
-use Rattle.rules.specs.TypingLaws.{Small, lawful_small}
+use Rattle.rules.proofs.TypingLaws.{Small, lawful_small}
 use Rattle.rows.specs.Words.{type_from, number_for, row_in}
 use Rattle.rows.specs.States.{rows_of}
 use Rattle.schema.specs.Items.{items_of}

@@ -9,7 +9,7 @@ use Prim.Native.Nat.{◌+◌, ◌-◌}
 use native.Mathlib.Omega.{arith}
 use lib.Seq.{drop-length}
 use Rattle.rules.specs.WalkRows.{field_row}
-use Rattle.rules.specs.WalkRowLaws.{scan_above, scan_here, scan_deeper, scan_other}
+use Rattle.rules.proofs.WalkRowLaws.{scan_above, scan_here, scan_deeper, scan_other}
 use Rattle.values.specs.ValueWords.{value_row_in, value_rows_of}
 use Rattle.row_walk.specs.ScanLaws.{rows_left}
 use Rattle.row_walk.proofs.scan.field_row.Statement.{statement}

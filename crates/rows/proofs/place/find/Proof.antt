@@ -10,7 +10,7 @@ use lib.Seq.{drop-cons}
 use lib.ListN.{length, drop, get_or, drop_of_length-le}
 use borrow.Author.Rules.{rules}
 use Rattle.rules.specs.Tries.{found}
-use Rattle.rules.specs.PlaceLaws.{Sought, sought_first, sought_last, sought_below, sought_other, sought_step, sought_here}
+use Rattle.rules.proofs.PlaceLaws.{Sought, sought_first, sought_last, sought_below, sought_other, sought_step, sought_here}
 use Rattle.rows.specs.States.{rows_of}
 use Rattle.rows.specs.Words.{row_in}
 use Rattle.rows.proofs.place.find.Statement.{statement}

@@ -6,7 +6,7 @@ use Prim.Native.Nat.{◌+◌, ◌-◌}
 use lib.ListN.{length, take, drop, length-drop}
 use mathlib.Core.List.{[], ◌∷◌}
 use Rattle.rules.specs.Text.{fields_of, TAB}
-use Rattle.rules.specs.TextLaws.{parted_some}
+use Rattle.rules.proofs.TextLaws.{parted_some}
 use Rattle.text.proofs.FieldLaws.{Ends, field_ends, fields_last}
 use Rattle.rules.specs.Schema.{item_of}
 use Rattle.schema_text.specs.LineLaws.{type_line}

@@ -4,7 +4,7 @@ use mathlib.Core.Path.{sym, ◌∙◌}
 use Prim.Native.Nat.{◌+◌}
 use lib.ListN.{drop}
 use Rattle.rules.specs.Text.{TAB}
-use Rattle.rules.specs.TextLaws.{parted_some}
+use Rattle.rules.proofs.TextLaws.{parted_some}
 use Rattle.text.proofs.FieldLaws.{Ends, field_ends, fields_whole}
 use Rattle.schema_text.specs.LineLaws.{value_names, value_one, value_more, value_none}
 use borrow.Author.Rules.{rules}

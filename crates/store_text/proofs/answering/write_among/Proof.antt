@@ -6,7 +6,7 @@ use mathlib.Core.List.{map}
 use mathlib.Core.Logic.{⊎_elim}
 use mathlib.Core.Path.{◌≡◌, refl, ◌∙◌}
 use lib.ListN.{length, get_or, length-map, length-set, get_or-map}
-use Rattle.rules.specs.MergeLaws.{IdsFrom}
+use Rattle.rules.proofs.MergeLaws.{IdsFrom}
 use Rattle.store_text.specs.Answering.{id_in}
 use Rattle.store_text.specs.AnswerLaws.{AmongMerged, merging_none, merging_asked, merging_us, merging_below, merging_same, merging_above}
 use borrow.Author.Rules.{rules}

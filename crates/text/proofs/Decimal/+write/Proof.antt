@@ -7,7 +7,7 @@ use mathlib.Core.List.{[], ◌∷◌, ◌++◌}
 use mathlib.Core.Path.{◌≡◌, ap, ◌∙◌}
 use lib.ListN.{length, length-append, length-set}
 use Rattle.rules.specs.Text.{decimal}
-use Rattle.rules.specs.TextLaws.{decimal_in_digit, decimal_in_tenth}
+use Rattle.rules.proofs.TextLaws.{decimal_in_digit, decimal_in_tenth}
 use Rattle.words.specs.SeqLaws.{sets_snoc}
 use borrow.Fn.Kinds.{In}
 use borrow.Fn.PlainCycle.{Measures, is, falls, and}

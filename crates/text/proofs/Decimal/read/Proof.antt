@@ -10,7 +10,7 @@ use lib.Dec.{eqb}
 use mathlib.Core.Path.{◌≡◌, sym, ap, ◌∙◌}
 use lib.ListN.{length, get_or}
 use Rattle.rules.specs.Text.{decimal_of}
-use Rattle.rules.specs.TextLaws.{decimal_up_to_empty, decimal_up_to_zero}
+use Rattle.rules.proofs.TextLaws.{decimal_up_to_empty, decimal_up_to_zero}
 use Rattle.text.proofs.Laws.{ending_at, decimal_to, to_within}
 use Rattle.text.proofs.Decimal.read.Statement.{statement}
 use Rattle.text.proofs.Decimal.read.Tie as tie

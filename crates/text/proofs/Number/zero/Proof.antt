@@ -5,7 +5,7 @@ use mathlib.Core.List.{◌∷◌}
 use mathlib.Core.Path.{refl, sym}
 use native.Mathlib.Omega.{arith}
 use Rattle.rules.specs.Text.{decimal_up_to, decimal_of, number_from}
-use Rattle.rules.specs.TextLaws.{decimal_up_to_zero}
+use Rattle.rules.proofs.TextLaws.{decimal_up_to_zero}
 use Rattle.text.proofs.Laws.{number_past, number_found, number_bad}
 use Rattle.text.proofs.Number.zero.Statement.{statement}
 use Rattle.text.proofs.Number.zero.Tie as tie

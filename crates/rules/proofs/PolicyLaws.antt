@@ -25,16 +25,16 @@ use Rattle.rules.specs.Numbers.{Answer, accepted, refused, and_then}
 use Rattle.rules.specs.Text.{lines_of, fields_of}
 use Rattle.rules.specs.Facts.{by_test, by_option, cond-some, both_true, accepted_same, then_accepted}
 use Rattle.rules.specs.Lines.{Folded, folded, fold_lines}
-use Rattle.rules.specs.LineLaws.{fold_kept, fold_alike}
+use Rattle.rules.proofs.LineLaws.{fold_kept, fold_alike}
 use Rattle.rules.specs.Tries.{Row, ids, is_entry, is_row}
 use Rattle.rules.specs.Listing.{row_of}
-use Rattle.rules.specs.ListingLaws.{bind_some, refused_not, row_is_row}
+use Rattle.rules.proofs.ListingLaws.{bind_some, refused_not, row_is_row}
 use Rattle.rules.specs.Schema.{Item}
 use Rattle.rules.specs.Steps.{Result, step_line, ended}
-use Rattle.rules.specs.StepLaws.{Each, AllGood, GoodSchema}
-use Rattle.rules.specs.AnalysisLaws.{line_keeps, ended_lawful}
+use Rattle.rules.proofs.StepLaws.{Each, AllGood, GoodSchema}
+use Rattle.rules.proofs.AnalysisLaws.{line_keeps, ended_lawful}
 use Rattle.rules.specs.Building.{add, after, build, keep, accepted_of, Contributions}
-use Rattle.rules.specs.BuildingLaws.{accepted_most, build_append, accepted_append}
+use Rattle.rules.proofs.BuildingLaws.{accepted_most, build_append, accepted_append}
 use Rattle.rules.specs.Policies.{
   request_in,
   Begun,

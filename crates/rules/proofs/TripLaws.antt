@@ -18,13 +18,13 @@ use Rattle.rules.specs.Numbers.{most_steps}
 use Rattle.rules.specs.Facts.{by_test}
 use Rattle.rules.specs.Tries.{Row, kind_of, id_of, at, is_entry, ordered}
 use Rattle.rules.specs.Listing.{◌>>=◌}
-use Rattle.rules.specs.TrieLaws.{Ordered, ordered_true, true_ordered, length_at, take_above}
+use Rattle.rules.proofs.TrieLaws.{Ordered, ordered_true, true_ordered, length_at, take_above}
 use Rattle.rules.specs.Trips.{EachOf, none_left, and_each, Pairs, no_pair, with, Distinct, nodes_asked, all_fields, is_primary, field_steps, place_at, primaries, most_fields, Primary, rows_below, past_row, past_subtree, found_in, BoundedTrips, looks, visits, remaining_visits, context_visits, initial_visits, row_visits, row_finds, when_done, batch_visits, ancestors_visits, Under, root_under, WalkedOnce}
 use Rattle.rules.specs.Values.{Value, plain, extension, entity_id, set_of, record_of, Elements, no_element, element, Attributes, Entity, attribute_in}
 use Rattle.rules.specs.Typing.{is_field}
 use Rattle.rules.specs.Loading.{LoadAnswer, done, refused_at, counted, ◌then◌, Request, EntityRequest, Event, yielded, ancestor, bad, has_field_child, has_ancestors_trie, ids_in, Met, comes_to, comes_to_nothing, refused14, or14, value_rule, at_node, kept_at, walk_nodes, remaining_entities, is_context_root, in_context, at_roots, initial_entities, batch_of, Loaded, entered, AnswersTaken, take_answers, size_of_answer, summed, Load, load_begun, trips_for, batch_answered, after_batches, loaded_as, with_id, Wanted, take_id, take_events, is_marked, take_row, take_rows}
 use Rattle.rules.specs.LoadCalls.{Entry, nodes_ahead, entry_for}
-use Rattle.rules.specs.SliceLaws.{then_done}
+use Rattle.rules.proofs.SliceLaws.{then_done}
 
 -- Each of a list, and each two.
 
@@ -55,9 +55,10 @@ module _ {A : Type 0} where
 
   -- what holds of each of one list with each of another, the other way round
   each_swap :
-      {R S : A → A → Type 0} {xs : List A}
+      {R S : A → A → Type 0}
       → ((x y : A) → R x y → S y x)
       → (ys : List A)
+      → {xs : List A}
       → EachOf (λ x. EachOf (R x) ys) xs
       → EachOf (λ y. EachOf (S y) xs) ys
   each_swap f ys none_left = each_all ys (λ y. none_left)

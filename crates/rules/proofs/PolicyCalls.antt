@@ -8,12 +8,12 @@ use Rattle.std.proofs.Math.Option.{Option, none, some}
 use Rattle.std.proofs.lemmas.Bool.{eqb-false}
 use Rattle.rules.specs.Numbers.{Answer, accepted, and_then, answer_by, first_of}
 use Rattle.rules.specs.Text.{LF, parted, onto, lines_of, fields_of}
-use Rattle.rules.specs.TextLaws.{Free, free_empty, free_more, parted_first, parted_some, joined_by, joined_parted, parted_split}
+use Rattle.rules.proofs.TextLaws.{Free, free_empty, free_more, parted_first, parted_some, joined_by, joined_parted, parted_split}
 use Rattle.rules.specs.Facts.{by_test, by_option, accepted_same, then_accepted}
 use Rattle.rules.specs.Lines.{Folded, fold_lines}
-use Rattle.rules.specs.LineLaws.{fold_end, fold_next}
+use Rattle.rules.proofs.LineLaws.{fold_end, fold_next}
 use Rattle.rules.specs.Tries.{Row, contribution}
-use Rattle.rules.specs.ListingLaws.{refused_not}
+use Rattle.rules.proofs.ListingLaws.{refused_not}
 use Rattle.rules.specs.Schema.{Item, from_type}
 use Rattle.rules.specs.Paths.{RecordLiteral, SetLiteral, nodes_of, get_or_has_attr, full_type_required, add_taken}
 use Rattle.rules.specs.Steps.{
@@ -52,7 +52,7 @@ use Rattle.rules.specs.Steps.{
   analyse,
 }
 use Rattle.rules.specs.Policies.{request_in, Begun, begin, Policy, policy, closed, policy_step, policy_line, contributions_of}
-use Rattle.rules.specs.PolicyLaws.{gather_at, in_front, finish, finish_behind}
+use Rattle.rules.proofs.PolicyLaws.{gather_at, in_front, finish, finish_behind}
 
 -- ---- a step that is accepted is accepted at any place
 

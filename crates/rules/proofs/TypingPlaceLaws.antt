@@ -3,15 +3,16 @@
 use Rattle.std.specs.Prelude.{ℕ, zero, suc, ◌+◌, ◌-◌, ◌≤◌, ◌<◌, ◌≡◌, ◌⊎◌, ◌↔◌, Bool, true, false, cond, eqb, length, take, get_or}
 use Rattle.std.proofs.Common.{arith, ◌∙◌, inl, inr, ⊎_elim, take_all, eqb-true}
 use Rattle.std.proofs.Math.Path.{refl, sym, ap}
-use Rattle.std.proofs.Math.Logic.{Iff·symm, Iff·trans, ⊎_map}
+use Rattle.std.proofs.Math.Logic.{⊎_map}
+use mathlib.Core.Logic.Iff
 use Rattle.std.proofs.lemmas.Bool.{false≢true, eqb-false}
 use mathlib.Core.List.{List, [], ◌∷◌, ◌++◌, map}
 use Rattle.std.proofs.Math.Option.{Option, none, some, some-injective}
 use Rattle.rules.specs.Numbers.{accepted}
 use Rattle.rules.specs.Facts.{by_test, by_option, compared, and-false}
 use Rattle.rules.specs.Tries.{Row, is_entry, at, Has, Marked, ordered, count, nodes_in, joined, union}
-use Rattle.rules.specs.WalkLaws.{kept_length, kept_own, kept_above, kept_down}
-use Rattle.rules.specs.TrieLaws.{
+use Rattle.rules.proofs.WalkLaws.{kept_length, kept_own, kept_above, kept_down}
+use Rattle.rules.proofs.TrieLaws.{
   Ordered,
   ordered_true,
   length_at,
@@ -63,7 +64,7 @@ use Rattle.rules.specs.Typing.{
   way_type,
   known_way,
 }
-use Rattle.rules.specs.TypingLaws.{
+use Rattle.rules.proofs.TypingLaws.{
   Types,
   type_above,
   below,
@@ -670,13 +671,13 @@ module _
         (typing_in_order items of-schema (union a b) out o e)
         (union_ordered a-out [] b-out a-order b-order)
         (λ place.
-        Iff·trans
+        Iff.trans
         (known_either (of-a place).0 (of-b place).0 (of_union place).0 (union_has a [] b oa ob place))
-        (Iff·symm (union_has a-out [] b-out a-order b-order place)))
+        (Iff.symm (union_has a-out [] b-out a-order b-order place)))
         (λ place.
-        Iff·trans
+        Iff.trans
         (known_either (of-a place).1 (of-b place).1 (of_union place).1 (union_marked a [] b oa ob place))
-        (Iff·symm (union_marked a-out [] b-out a-order b-order place))) in
+        (Iff.symm (union_marked a-out [] b-out a-order b-order place))) in
         same_typed items out (union a-out b-out) [] rows (typing_places items (union a b) out o e)
         (turns_places items (union_turns a-out b-out) [] (ordered_true [] a-out a-order) (ordered_true [] b-out b-order)
         (typing_places items a a-out oa ea)

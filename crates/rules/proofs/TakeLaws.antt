@@ -1,12 +1,12 @@
 -- Answers taken row by row, with the answers before them in place of the slice (`taken_by`, `all_taken_by`), and laws that this is the same.
 use Rattle.std.specs.Prelude.{ℕ, suc, ◌+◌, ◌≡◌, refl, Bool, cond, List, [], ◌∷◌, ◌++◌, length, take, drop}
-use Rattle.std.proofs.Common.{arith, add-zero, add-suc, suc-add, ◌∙◌, append_assoc, append-nil, length-append}
+use Rattle.std.proofs.Common.{arith, add-zero, add-suc, suc-add, sym, ap, ◌∙◌, append_assoc, append-nil, length-append}
 use Rattle.std.proofs.Math.Option.{Option, none, some}
 use Rattle.std.proofs.Math.Seq.{drop-nil}
 use Rattle.rules.specs.Tries.{Row}
 use Rattle.rules.specs.Values.{Entity}
-use Rattle.rules.specs.ValueRowLaws.{Every}
-use Rattle.rules.specs.StepLaws.{Each, each_append}
+use Rattle.rules.proofs.ValueRowLaws.{Every}
+use Rattle.rules.proofs.StepLaws.{Each, each_append}
 use Rattle.rules.specs.Loading.{
   LoadAnswer,
   done,
@@ -22,8 +22,8 @@ use Rattle.rules.specs.Loading.{
   take_answer,
   take_answers,
 }
-use Rattle.rules.specs.MergeLaws.{GoodEntity, each_merges, there}
-use Rattle.rules.specs.SliceLaws.{answers_to, SliceOf, slice_none, slice_some, entered_test}
+use Rattle.rules.proofs.MergeLaws.{GoodEntity, each_merges, there}
+use Rattle.rules.proofs.SliceLaws.{answers_to, SliceOf, slice_none, slice_some, entered_test}
 
 -- What an answer comes to, by the rows asked and answered before it: the rows that are found, 14, or 13 where it does not merge with an
 -- earlier answer to the same entity.
@@ -133,7 +133,10 @@ pub taken_append :
 unfolding all_taken_by
 taken_append nodes asked before place [] answers others = rw (drop-nil {A = EntityRequest} (length answers))
 taken_append nodes asked before place (row ∷ rows) [] others =
-    rw (append-nil asked, append-nil before, add-zero place) (same (all_taken_by nodes asked before place (row ∷ rows) others))
+    same (all_taken_by nodes asked before place (row ∷ rows) others)
+    ∙ ap (λ (a : List EntityRequest). all_taken_by nodes a before place (row ∷ rows) others then (λ more. done more)) (sym (append-nil asked))
+    ∙ ap (λ (b : List (Option Entity)). all_taken_by nodes (asked ++ []) b place (row ∷ rows) others then (λ more. done more)) (sym (append-nil before))
+    ∙ ap (λ (p : ℕ). all_taken_by nodes (asked ++ []) (before ++ []) p (row ∷ rows) others then (λ more. done more)) (sym (add-zero place))
   where
     same : (o : LoadAnswer (List EntityRequest)) → o ≡ (o then (λ more. done more))
     same (done found) = refl

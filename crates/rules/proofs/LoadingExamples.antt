@@ -1,6 +1,6 @@
 -- Worked loads that the checker computes.
 use Rattle.std.specs.Prelude.{ℕ, ◌≡◌, refl, true, false, List, [], ◌∷◌}
-use Rattle.std.proofs.Math.Option.{Option, none, some}
+use Rattle.std.proofs.Math.Option.{Option, some}
 use Rattle.rules.specs.Tries.{Row, step_of, request_of, same_list}
 use Rattle.rules.specs.Listing.{read}
 use Rattle.rules.specs.Values.{Value, plain, entity_id, no_attribute, attribute, Entity, attribute_in, put_attribute, merged_values, merged_attributes, spelled, spelled_elements, spelled_attributes, values_in, values_in_elements, values_in_attributes}

@@ -1,7 +1,7 @@
 -- What a load leaves in its slice: exactly the entities answered, each with what its answers come to (`load_slice`), and then with the
 -- ancestors answered (`loaded_exactly`). An answer is refused by 13 where it does not merge with an earlier one (`entered_each`).
 use Rattle.std.specs.Prelude.{ℕ, suc, ◌≤◌, ◌<◌, ◌≡◌, ◌↔◌, ◌≢◌, ◌⊎◌, Bool, true, false, cond, ◌&&◌, ltb, eqb, length}
-use Rattle.std.proofs.Common.{arith, sym, ◌∙◌, inl, inr, ⊎_elim, length-append, eqb-true, lt-ltb, le-ltb, eq-eqb, ne_eqb}
+use Rattle.std.proofs.Common.{arith, sym, subst, ◌∙◌, inl, inr, ⊎_elim, length-append, eqb-true, lt-ltb, le-ltb, eq-eqb, ne_eqb}
 use Rattle.std.proofs.Math.Path.{refl, ap}
 use mathlib.Core.List.Memᴰ.{append_cases as left-or-right}
 use mathlib.Core.List.Memᴰ.{append_left as in_left}
@@ -25,10 +25,10 @@ use Rattle.std.proofs.lemmas.Bool.{eqb-false}
 use Rattle.rules.specs.Facts.{by_test, by_option, compared}
 use Rattle.rules.specs.Tries.{Row}
 use Rattle.rules.specs.Listing.{◌>>=◌}
-use Rattle.rules.specs.StepLaws.{Each}
+use Rattle.rules.proofs.StepLaws.{Each}
 use Rattle.rules.specs.Values.{Entity, merged_entities}
-use Rattle.rules.specs.ValueRowLaws.{bind_some, Every}
-use Rattle.rules.specs.MergeLaws.{
+use Rattle.rules.proofs.ValueRowLaws.{bind_some, Every}
+use Rattle.rules.proofs.MergeLaws.{
   there,
   there_given,
   there_none,
@@ -548,7 +548,7 @@ same_loaded least (l ∷ a) (k ∷ b) ha hb same =
     (λ not_more.
     let ids : l.id ≡ k.id = omega arith in
     let values : l.value ≡ k.value =
-    some-injective l.value k.value (sym (is-there l a) ∙ same l.id ∙ rw ids (is-there k b)) in
+    some-injective l.value k.value (sym (is-there l a) ∙ same l.id ∙ subst (λ (id : ℕ). loaded_as id (k ∷ b) ≡ some k.value) (sym ids) (is-there k b)) in
     let firsts : l ≡ k = λ i. record { id = ids i; value = values i } in
     let rests : a ≡ b =
     same_loaded (suc l.id) a b ha.1 (rw ids hb.1)

@@ -57,7 +57,7 @@ use Rattle.rules.specs.Listing.{
   read_listing,
 }
 use Rattle.rules.specs.Facts.{by_test, by_option, and-false, cond-some, cond_other, cond-none, accepted_same}
-use Rattle.rules.specs.TextLaws.{
+use Rattle.rules.proofs.TextLaws.{
   Free,
   free_empty,
   free_more,
@@ -74,7 +74,7 @@ use Rattle.rules.specs.TextLaws.{
   decimal_written,
   free_decimal,
 }
-use Rattle.rules.specs.TrieLaws.{Follows, follows_true, true_follows, Ordered, ordered_true, true_ordered, entry_unmarked, node_step, bare}
+use Rattle.rules.proofs.TrieLaws.{Follows, follows_true, true_follows, Ordered, ordered_true, true_ordered, entry_unmarked, node_step, bare}
 
 -- A line that is read.
 

@@ -9,10 +9,10 @@ use Rattle.std.proofs.Math.Seq.{take-append-add, append_snoc}
 use Rattle.std.proofs.lemmas.Bool.{eqb-false}
 use Rattle.rules.specs.Numbers.{accepted, first_of, most_steps, answer_by}
 use Rattle.rules.specs.Text.{bytes, decimal_of}
-use Rattle.rules.specs.TextLaws.{decimal_written}
+use Rattle.rules.proofs.TextLaws.{decimal_written}
 use Rattle.rules.specs.Facts.{by_test, by_option, cond-true, cond-some, cond-none, accepted_same}
 use Rattle.rules.specs.Tries.{Row, is_step, is_root, is_entry, is_row, kind_of, step_of, literals, at, ordered, contribution, union}
-use Rattle.rules.specs.TrieLaws.{
+use Rattle.rules.proofs.TrieLaws.{
   Follows,
   Ordered,
   ordered_true,
@@ -33,8 +33,8 @@ use Rattle.rules.specs.TrieLaws.{
   union_left_length,
 }
 use Rattle.rules.specs.Listing.{read, ◌>>=◌, place_in}
-use Rattle.rules.specs.ListingLaws.{bind_some, place_read, refused_not}
-use Rattle.rules.specs.TypeLaws.{deepest, path_deep, union_too_deep}
+use Rattle.rules.proofs.ListingLaws.{bind_some, place_read, refused_not}
+use Rattle.rules.proofs.TypeLaws.{deepest, path_deep, union_too_deep}
 use Rattle.rules.specs.Schema.{
   Item,
   Known,

@@ -6,8 +6,8 @@ use Rattle.std.proofs.Math.Bool.{and-eq-true_iff}
 use Rattle.std.proofs.Math.Option.{Option, none, some}
 use Rattle.rules.specs.Facts.{by_test, compared}
 use Rattle.rules.specs.Tries.{Next, first, second, same, next, same_list}
-use Rattle.rules.specs.TrieLaws.{Before, deeper, smaller, Says, next_says, says_next}
-use Rattle.rules.specs.PlaceLaws.{same-list}
+use Rattle.rules.proofs.TrieLaws.{Before, deeper, smaller, Says, next_says, says_next}
+use Rattle.rules.proofs.PlaceLaws.{same-list}
 use Rattle.rules.specs.Listing.{◌>>=◌}
 use Rattle.rules.specs.Values.{
   Value,

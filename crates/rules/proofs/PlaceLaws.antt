@@ -11,8 +11,8 @@ use Rattle.std.proofs.Math.Seq.{take_all, length-take-le}
 use Rattle.std.proofs.lemmas.List.{take-append-le}
 use Rattle.rules.specs.Facts.{by_test, compared}
 use Rattle.rules.specs.Tries.{Row, at, Has, Marked, ordered, same_list, found}
-use Rattle.rules.specs.WalkLaws.{kept_down}
-use Rattle.rules.specs.TrieLaws.{Ordered, ordered_true, length_at, step_at, above_at, marked_stands, first_stands, take_above}
+use Rattle.rules.proofs.WalkLaws.{kept_down}
+use Rattle.rules.proofs.TrieLaws.{Ordered, ordered_true, length_at, step_at, above_at, marked_stands, first_stands, take_above}
 
 -- What `found` answers.
 
@@ -231,6 +231,7 @@ module _ (p : List ℕ) (x : ℕ) where
   -- the place above one that rows have is that of a row too, or leads to the place before them
   above_had : (s : List ℕ) (rows : List Row) → Ordered s rows → Has s rows (p ++ (x ∷ [])) → (p ≡ take (length p) s) ⊎ Has s rows p
   unfolding Ordered Has
+  above_had s [] _ had = elim had [ ]
   above_had s (row ∷ rows) (whole, after, shallow, rest) (inl here) =
       let there : p ≡ take row.depth s = last_step p (take row.depth s) x row.step here in
       let deep : length p ≡ row.depth = ap length there ∙ length-take-le row.depth s after.near in

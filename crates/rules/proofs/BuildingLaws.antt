@@ -3,7 +3,8 @@
 use Rattle.std.specs.Prelude.{ℕ, ◌≤◌, ◌<◌, ◌≡◌, ◌⊎◌, ◌↔◌, true, leb, length}
 use Rattle.std.proofs.Common.{arith, ap, ⊎_elim, leb-true, lt-ltb, le-ltb, le-leb}
 use Rattle.std.proofs.Math.Path.{refl}
-use Rattle.std.proofs.Math.Logic.{inl, inr, Iff·rfl, Iff·symm, Iff·trans}
+use Rattle.std.proofs.Math.Logic.{inl, inr}
+use mathlib.Core.Logic.Iff
 use Rattle.std.proofs.Math.Bool.{and-eq-true_iff}
 use mathlib.Core.List.Memᴰ.{cases_cons as here-or-later}
 use mathlib.Core.List.Memᴰ.{head as here}
@@ -33,7 +34,7 @@ use Rattle.rules.specs.Tries.{
   lawful,
   union,
 }
-use Rattle.rules.specs.TrieLaws.{
+use Rattle.rules.proofs.TrieLaws.{
   bare,
   union_ordered,
   union_has,
@@ -201,11 +202,11 @@ module _ (P : List Row → Type 0) (shared : Shared P) where
           {answer : Answer (List Row)}
           → Judged (union m c) answer
           → (P (after m answer) ⊎ Some P cs) ↔ (P m ⊎ Some P (keep answer c cs))
-      go (many_entries h) = Iff·rfl
-      go (many_nodes h) = Iff·rfl
+      go (many_entries h) = Iff.rfl
+      go (many_nodes h) = Iff.rfl
       go (within fits) =
           let union-shares = shared.of_union m c (lawful_ordered manifest m lm) (lawful_ordered contribution c lc) in
-          simp (union-shares, some_more, either) (Iff·symm (more_first Iff·rfl))
+          simp (union-shares, some_more, either) (Iff.symm (more_first Iff.rfl))
 
   -- a build has P exactly if the manifest that it starts from has it, or an accepted contribution
   build_some :
@@ -216,7 +217,7 @@ module _ (P : List Row → Type 0) (shared : Shared P) where
   unfolding build accepted_of Contributions
   build_some [] m lm lcs = (inl, elim [ inl has ↦ has | inr (c, member, has) ↦ absurd (none_in_empty member) ])
   build_some (c ∷ cs) m lm lcs =
-      Iff·trans
+      Iff.trans
       (build_some cs (after m (add m c)) (after_lawful m c lm lcs.0) lcs.1)
       (after_some m c (accepted_of (after m (add m c)) cs) lm lcs.0)
 
@@ -280,7 +281,7 @@ module _ (m : List Row) (lm : lawful manifest m ≡ true) where
       )
 
 -- each of some contributions is lawful, and runs of which each is lawful are contributions
-each_lawful : {cs : List (List Row)} {c : List Row} → Contributions cs → Member c cs → lawful contribution c ≡ true
+each_lawful : {c : List Row} {cs : List (List Row)} → Contributions cs → Member c cs → lawful contribution c ≡ true
 unfolding Contributions
 each_lawful lcs (here e) = rw e lcs.0
 each_lawful lcs (later member) = each_lawful lcs.1 member

@@ -59,7 +59,7 @@ use Rattle.rules.specs.LoadCalls.{
   take_ancestors,
   result_of,
 }
-use Rattle.rules.specs.SliceLaws.{done_same, then_done}
+use Rattle.rules.proofs.SliceLaws.{done_same, then_done}
 use Rattle.rules.specs.Trips.{
   CallOf,
   calls_batch,
@@ -85,7 +85,7 @@ use Rattle.rules.specs.Trips.{
   WithinBound,
   CountsWithin,
 }
-use Rattle.rules.specs.TripLaws.{
+use Rattle.rules.proofs.TripLaws.{
   GoingLoad,
   is_answered,
   going_bounded,
@@ -95,7 +95,7 @@ use Rattle.rules.specs.TripLaws.{
   pairs_left,
   nodes_append,
 }
-use Rattle.rules.specs.LoadLaws.{going_begun, going_answered}
+use Rattle.rules.proofs.LoadLaws.{going_begun, going_answered}
 
 -- Which turn a call that is done was made at, and what came of it.
 
@@ -629,7 +629,10 @@ module _ (all : ℕ) (request : Request) (nodes : List Row) (t : Transcript) (ha
     called_stands (calls_batch c e) = hand_stands c e
     called_stands (calls_answer answers c e) =
         let (turn, next, taken, is) = take_done t load answers c e in
-        rw (is, append-nil handed, add-zero calls) (next_stands answers next turn taken)
+        let left : StandsAt all request nodes (answered_with t load answers next).left (handed ++ []) (calls + 0) (answered_with t load answers next).counts =
+        rw (append-nil handed, add-zero calls) (next_stands answers next turn taken) in
+        let P : Called (List EntityRequest) → Type 0 = λ d. StandsAt all request nodes d.left (handed ++ []) (calls + 0) d.counts in
+        subst P (sym is) left
     called_stands (calls_ancestors c e) =
         let (turn, left, counts) = ask_done t load c e in
         let (none_wait, so, none_made, one) = rw turn at h.stands in
@@ -833,10 +836,12 @@ module _ (t : Transcript) (load : Load) (order : ordered (t.request.type ∷ [])
       → CallOf t load u more call tells
       → CountsWithin (bound_of t.request.type t.nodes) tells
   call_within (calls_batch c e) =
-      rw (hand_done t load c e).1 (counts_within t.request.type t.nodes answers_awaited load worked_going)
+      let P : Called (List EntityRequest) → Type 0 = λ d. CountsWithin (bound_of t.request.type t.nodes) d.counts in
+      subst P (sym (hand_done t load c e).1) (counts_within t.request.type t.nodes answers_awaited load worked_going)
   call_within (calls_answer answers c e) =
       let (turn, next, taken, is) = take_done t load answers c e in
-      rw is
+      let P : Called (List EntityRequest) → Type 0 = λ d. CountsWithin (bound_of t.request.type t.nodes) d.counts in
+      subst P (sym is)
       (counts_within t.request.type t.nodes (turn_for next) next
       (going_answered (t.request.type ∷ []) t.nodes order load answers next worked_going taken))
   call_within (calls_ancestors c e) =

@@ -8,9 +8,9 @@ use Rattle.rules.specs.Numbers.{accepted}
 use Rattle.rules.specs.Facts.{by_test, by_option, both_true, cond-true, cond-some, accepted_same, then_accepted}
 use Rattle.rules.specs.Text.{lines_of, fields_of, decimal_of}
 use Rattle.rules.specs.Lines.{fold_lines}
-use Rattle.rules.specs.LineLaws.{fold_kept}
+use Rattle.rules.proofs.LineLaws.{fold_kept}
 use Rattle.rules.specs.Listing.{is_letter, place_in}
-use Rattle.rules.specs.ListingLaws.{bind_some, refused_not}
+use Rattle.rules.proofs.ListingLaws.{bind_some, refused_not}
 use Rattle.rules.specs.ValueRows.{ValueRow, value_row}
 use Rattle.rules.specs.ValueRowTests.{Level, is_value_row, in_turn, comes, level_at, levels_after, fits_level, passes, lawful_value_rows}
 use Rattle.rules.specs.ValueTexts.{
@@ -300,7 +300,7 @@ unfolding Every unordered_in
 every_lawful place [] came ordered = tt
 every_lawful place (e ∷ es) came ordered =
     let (here, rest) = append_nothing (unordered field_level _ e.value.rows) _ ordered in
-    (ordered_passes field_level _ e.value.rows came.0.0 here, every_lawful _ es came.1 rest)
+    (ordered_passes field_level _ e.value.rows came.0.0 here, every_lawful (suc place + length e.parents + length e.ancestors + length e.value.rows) es came.1 rest)
 
 pub store_lawful : (text : List ℕ) (es : List EntityRead) → read_store text ≡ accepted es → Every LawfulEntity es
 unfolding Every

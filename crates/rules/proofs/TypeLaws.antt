@@ -11,7 +11,7 @@ use Rattle.std.proofs.Math.ListN.{length-append}
 use borrow.Author.Tests.{ltb-true, leb-true, eqb-true, eqb-false, le-ltb, le-leb, lt-leb, eq-eqb, ne_eqb}
 use Rattle.rules.specs.Facts.{by_test, compared, cond-true, larger, capped, larger_max, capped_min, larger_above}
 use Rattle.rules.specs.Tries.{Row, union}
-use Rattle.rules.specs.TrieLaws.{Turns, no_left, no_right, left, right, both, union_turns}
+use Rattle.rules.proofs.TrieLaws.{Turns, no_left, no_right, left, right, both, union_turns}
 use Rattle.rules.specs.Schema.{
   Item,
   set_type,

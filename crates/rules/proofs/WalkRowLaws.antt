@@ -8,7 +8,7 @@ use Rattle.rules.specs.Listing.{◌>>=◌}
 use Rattle.rules.specs.Values.{Value, Elements, element, Attributes, attribute_in}
 use Rattle.rules.specs.ValueRows.{ValueRow, attribute_rows}
 use Rattle.rules.specs.ValueRowTests.{value_from, elements_from, attributes_from}
-use Rattle.rules.specs.ValueRowTestLaws.{read_value, read_run}
+use Rattle.rules.proofs.ValueRowTestLaws.{read_value, read_run}
 use Rattle.rules.specs.Typing.{is_field}
 use Rattle.rules.specs.Loading.{Request, Event, ancestor, bad, has_field_child, has_ancestors_trie, ids_in, Met, comes_to as met_fields, or14 as unless_fields, value_rule, at_node, kept_at, walk_nodes, remaining_entities, in_context}
 use Rattle.rules.specs.WalkRows.{field_row, ids_at, MetRows, comes_to, comes_to_nothing, or14, row_rule, rule_at, at_node_rows, kept_rows_at, walk_rows, remaining_rows, in_context_rows}

@@ -11,7 +11,7 @@ use Rattle.rules.specs.Tries.{ids}
 use Rattle.rules.specs.Listing.{◌>>=◌}
 use Rattle.rules.specs.Values.{Value, plain, extension, entity_id, set_of, record_of, Elements, no_element, element, Attributes, no_attribute, attribute, record_in, same_value, if_same, with_attribute, merged_values, merged_attributes, values_in, values_in_elements, values_in_attributes}
 use Rattle.rules.specs.ValueRows.{ValueRow, value_row, set_kind, record_kind, value_rows, element_rows, attribute_rows, merge_rows, Past, AscendingIn, Ascending}
-use Rattle.rules.specs.ValueRowLaws.{Shallow, Deep, rows_inside, own_row, rows-of, deep_append, deep_elements, deep_fields, deep_inside, shallow_suc, shallow_elements, shallow_fields, fields_left, fields_right, fields_both, fields_no_left, fields_no_right, merged_leaf, one_pass, Every}
+use Rattle.rules.proofs.ValueRowLaws.{Shallow, Deep, rows_inside, own_row, rows-of, deep_append, deep_elements, deep_fields, deep_inside, shallow_suc, shallow_elements, shallow_fields, fields_left, fields_right, fields_both, fields_no_left, fields_no_right, merged_leaf, one_pass, Every}
 use Rattle.rules.specs.ValueRowTests.{value_from, elements_from, attributes_from, Level, level, is_value_row, fits_level, level_at, inside_value, beyond_value, by_row, is_first, earlier_rows, ahead_of, in_turn, comes, level_below, levels_after, passes, lawful_value_rows, Earlier, Proper, ProperElements, ProperFields}
 
 -- The count of rows is the count of values.

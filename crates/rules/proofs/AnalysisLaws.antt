@@ -6,14 +6,14 @@ use Rattle.std.proofs.lemmas.Bool.{eqb-false}
 use Rattle.rules.specs.Numbers.{accepted}
 use Rattle.rules.specs.Text.{lines_of, fields_of}
 use Rattle.rules.specs.Facts.{by_option, accepted_same, then_accepted}
-use Rattle.rules.specs.LineLaws.{fold_kept}
+use Rattle.rules.proofs.LineLaws.{fold_kept}
 use Rattle.rules.specs.Tries.{Row, ids, ordered, count, entries_in, nodes_in, contribution, lawful}
-use Rattle.rules.specs.TrieLaws.{Ordered, ordered_true, true_ordered}
+use Rattle.rules.proofs.TrieLaws.{Ordered, ordered_true, true_ordered}
 use Rattle.rules.specs.Listing.{read}
-use Rattle.rules.specs.ListingLaws.{refused_not}
+use Rattle.rules.proofs.ListingLaws.{refused_not}
 use Rattle.rules.specs.Schema.{Item}
 use Rattle.rules.specs.Steps.{Result, step_from, stepped, step_line, run, ended, analyse}
-use Rattle.rules.specs.StepLaws.{Each, Plain, IsTrie, AllGood, GoodSchema, step_good, apply_good}
+use Rattle.rules.proofs.StepLaws.{Each, Plain, IsTrie, AllGood, GoodSchema, step_good, apply_good}
 
 -- ---- a trie behind an entry
 

@@ -5,7 +5,7 @@ use Rattle.rules.specs.Numbers.{Answer, accepted, refused, answer_by, first_of}
 use Rattle.rules.specs.Text.{bytes, parted, number_from, decimal_up_to, decimal_of, decimal_in}
 use Rattle.rules.specs.Lines.{folded, fold_lines, fold_text}
 use Rattle.rules.specs.Walks.{Rule, walked, walk}
-use Rattle.rules.specs.WalkLaws.{all_in, orderly}
+use Rattle.rules.proofs.WalkLaws.{all_in, orderly}
 use Rattle.rules.specs.Tries.{Row, Form, at, request_of, step_of, union, union_onto, next, ordered, count, lawful, manifest, contribution}
 use Rattle.rules.specs.Listing.{listing, line_of, place_in, row_of, rows_from, read_listing, read}
 

@@ -26,8 +26,8 @@ use Rattle.rules.specs.Trips.{
   WalkedOnce,
   ancestors_visits,
 }
-use Rattle.rules.specs.TripLaws.{ancestors_once}
-use Rattle.rules.specs.CourseLaws.{course_told, course_ended, course_bound, course_nodes, call_within}
+use Rattle.rules.proofs.TripLaws.{ancestors_once}
+use Rattle.rules.proofs.CourseLaws.{course_told, course_ended, course_bound, course_nodes, call_within}
 
 none_handed : (handed : List (List EntityRequest)) → length handed ≤ 0 → handed ≡ []
 none_handed [] h = refl

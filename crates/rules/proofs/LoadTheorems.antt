@@ -8,7 +8,7 @@ use Rattle.rules.specs.Values.{Entity}
 use Rattle.rules.specs.Loading.{done, Request, EntityRequest, Load, load_begun, batch_answered, after_batches, trips_for}
 use Rattle.rules.specs.LoadCalls.{Transcript, worked_out}
 use Rattle.rules.specs.Trips.{most_fields}
-use Rattle.rules.specs.TripLaws.{bounded, is_answered}
+use Rattle.rules.proofs.TripLaws.{bounded, is_answered}
 
 -- 1. The load of the same transcript is the same.
 pub same_load : (t u : Transcript) → t ≡ u → worked_out t ≡ worked_out u

@@ -3,18 +3,18 @@
 -- items text` are the contributions of one text. `GoodSchema items`: the items of a schema's text that is accepted (part 4).
 use Rattle.std.specs.Prelude.{ℕ, ◌≡◌, refl, ◌↔◌}
 use Rattle.std.proofs.Common.{sym, ap, ◌∙◌}
-use Rattle.std.proofs.Math.Logic.{Iff·trans}
+use mathlib.Core.Logic.Iff
 use mathlib.Core.List.{List, [], Memᴰ as Member}
 use Rattle.rules.specs.Numbers.{accepted}
 use Rattle.rules.specs.Tries.{Row, Has, Marked}
 use Rattle.rules.specs.Building.{build, accepted_of, Contributions}
 use Rattle.rules.specs.Listing.{listing}
 use Rattle.rules.specs.Schema.{Item, read_schema}
-use Rattle.rules.specs.SchemaLaws.{schema_text_good}
-use Rattle.rules.specs.StepLaws.{GoodSchema}
-use Rattle.rules.specs.Demand3.{order_free, exactly_those}
+use Rattle.rules.proofs.SchemaLaws.{schema_text_good}
+use Rattle.rules.proofs.StepLaws.{GoodSchema}
+use Rattle.rules.proofs.Demand3.{order_free, exactly_those}
 use Rattle.rules.specs.Policies.{contributions_of, add_policy, add_policies}
-use Rattle.rules.specs.PolicyLaws.{text_lawful, texts_lawful, contributions_of_all, policy_adds, policies_add, given_members, same_given}
+use Rattle.rules.proofs.PolicyLaws.{text_lawful, texts_lawful, contributions_of_all, policy_adds, policies_add, given_members, same_given}
 
 -- a contribution of some texts: one of the contributions of one of them
 abbrev pub ContributionOf : List Item → List (List ℕ) → List Row → Type 0
@@ -57,7 +57,7 @@ module _ (items : List Item) (schema : GoodSchema items) where
   policies_exactly_those texts rows e place =
       let (cs, given, (all, built)) = (policies_add items texts [] rows).0 e in
       let (has, marked) = rw (all, ← built) at (exactly_those cs (texts_lawful items schema texts cs given) place) in
-      (Iff·trans has (of_texts cs given (λ c. Has [] c place)), Iff·trans marked (of_texts cs given (λ c. Marked [] c place)))
+      (Iff.trans has (of_texts cs given (λ c. Has [] c place)), Iff.trans marked (of_texts cs given (λ c. Marked [] c place)))
     where
       of_texts :
           (cs : List (List Row))

@@ -10,13 +10,13 @@ use Rattle.std.proofs.Math.Seq.{append_snoc}
 use Rattle.rules.specs.Numbers.{Answer, accepted, refused, and_then, answer_by}
 use Rattle.rules.specs.Facts.{by_test, by_option, accepted_same, then_accepted}
 use Rattle.rules.specs.Text.{parted, lines_of, fields_of, LF}
-use Rattle.rules.specs.TextLaws.{parted_some}
+use Rattle.rules.proofs.TextLaws.{parted_some}
 use Rattle.rules.specs.Lines.{Folded, folded, fold_lines}
 use Rattle.rules.specs.Tries.{Row, Form}
 use Rattle.rules.specs.Walks.{Walked, turn}
-use Rattle.rules.specs.WalkLaws.{walked_to, listed, turn_past}
+use Rattle.rules.proofs.WalkLaws.{walked_to, listed, turn_past}
 use Rattle.rules.specs.Listing.{Sofar, row_of, past, refusal, row_in_front, rows_from}
-use Rattle.rules.specs.ListingLaws.{refused_not}
+use Rattle.rules.proofs.ListingLaws.{refused_not}
 use Rattle.rules.specs.Schema.{Item, Known, item_of, fits, beyond, ahead, items_from}
 
 -- ---- the next line

@@ -3,7 +3,7 @@ use Rattle.std.specs.Prelude.{ℕ, suc, ◌+◌, ◌^◌, ◌≤◌, ◌<◌, �
 use native.Mathlib.Omega.{arith}
 use Rattle.std.proofs.Common.{le_refl, le_of_lt, ap, inl, inr, ⊎_elim, ltb-true, ltb-false, leb-true, eqb-true, lt-ltb, le-ltb, le-leb, eq-eqb}
 use Rattle.std.proofs.Math.Path.{refl, sym}
-use Rattle.std.proofs.Math.Logic.{Iff·rfl, Iff·symm, Iff·trans}
+use mathlib.Core.Logic.Iff
 use Rattle.std.proofs.Math.Bool.{and-eq-true_iff, or-false, or_self, or_comm}
 use mathlib.Core.List.{List, [], ◌∷◌, map}
 use Rattle.std.proofs.Math.Option.{none}
@@ -23,7 +23,7 @@ use Rattle.rules.specs.Facts.{
   earlier_irrefl,
   earlier_at,
 }
-use Rattle.rules.specs.WalkLaws.{kept_length, kept_own, kept_above, kept_down, Stepwise}
+use Rattle.rules.proofs.WalkLaws.{kept_length, kept_own, kept_above, kept_down, Stepwise}
 use Rattle.rules.specs.Tries.{
   Row,
   ids,
@@ -296,13 +296,13 @@ always row = true
 -- to have a place is that any row stands there, and to mark it that a marked row does
 pub has_stands : (s : List ℕ) (rows : List Row) (place : List ℕ) → Has s rows place ↔ Stands always s rows place
 unfolding Has Stands
-has_stands s [] place = Iff·rfl
+has_stands s [] place = Iff.rfl
 has_stands s (row ∷ rows) place = either (λ e. (e, refl), λ h. h.0) (has_stands (at s row) rows place)
 
 pub marked_stands : (s : List ℕ) (rows : List Row) (place : List ℕ) → Marked s rows place ↔ Stands (λ row. row.mark) s rows place
 unfolding Marked Stands
-marked_stands s [] place = Iff·rfl
-marked_stands s (row ∷ rows) place = either Iff·rfl (marked_stands (at s row) rows place)
+marked_stands s [] place = Iff.rfl
+marked_stands s (row ∷ rows) place = either Iff.rfl (marked_stands (at s row) rows place)
 
 -- after x, rows that come after x have the places that they have before x
 stands_past :
@@ -336,7 +336,7 @@ turns_stand test joins (right {x = x} {y = y} {a = a} h more) s place oa ob =
     (turns_stand test joins more (at s y) place (ordered_past s y x a ob.1 h oa) ob.3))
 turns_stand test joins (both {x = x} {y = y} h more) s place oa ob =
     rw (at_same s x y h, joins x y)
-    (Iff·trans (either_test (test x) (test y))
+    (Iff.trans (either_test (test x) (test y))
     (more_first (more_second (turns_stand test joins more (at s x) place oa.3 (rw (at_same s x y h) at ob.3)))))
 
 -- Rows are known by their places.
@@ -531,8 +531,8 @@ module _
         same_rows (union (union a b) c) s (union a (union b c))
         (union_ordered (union a b) s c oab oc)
         (union_ordered a s (union b c) oa obc)
-        (λ place. simp (union_has, either) (Iff·symm (more_first Iff·rfl)))
-        (λ place. simp (union_marked, either) (Iff·symm (more_first Iff·rfl)))
+        (λ place. simp (union_has, either) (Iff.symm (more_first Iff.rfl)))
+        (λ place. simp (union_marked, either) (Iff.symm (more_first Iff.rfl)))
 
 -- How many rows there are in a union.
 

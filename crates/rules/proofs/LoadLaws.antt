@@ -4,10 +4,10 @@ use Rattle.std.proofs.Common.{arith, length-append}
 use Rattle.std.proofs.Math.Option.{Option}
 use Rattle.rules.specs.Facts.{by_test}
 use Rattle.rules.specs.Tries.{Row, at, ordered}
-use Rattle.rules.specs.TrieLaws.{ordered_true}
+use Rattle.rules.proofs.TrieLaws.{ordered_true}
 use Rattle.rules.specs.Values.{Entity}
 use Rattle.rules.specs.Trips.{primaries, is_primary}
-use Rattle.rules.specs.TripLaws.{GoingLoad, Answered, is_answered, going_next, going_first, going_bounded}
+use Rattle.rules.proofs.TripLaws.{GoingLoad, Answered, is_answered, going_next, going_first, going_bounded}
 use Rattle.rules.specs.Loading.{done, Request, AnswersTaken, Load, load_begun, batch_answered, take_answers, trips_for}
 
 -- the primary nodes are some of the nodes

@@ -5,12 +5,12 @@ use Rattle.std.proofs.Common.{sym}
 use Rattle.std.proofs.Math.Option.{some, none-ne-some, some-injective}
 use Rattle.rules.specs.Numbers.{Answer, accepted, refused}
 use Rattle.rules.specs.Text.{bytes, lines_of, fields_of, decimal_of}
-use Rattle.rules.specs.TextLaws.{decimal_written}
+use Rattle.rules.proofs.TextLaws.{decimal_written}
 use Rattle.rules.specs.Facts.{by_test, by_option, cond-some, accepted_same}
 use Rattle.rules.specs.Listing.{is_letter, place_in}
-use Rattle.rules.specs.ListingLaws.{bind_some, refused_not}
+use Rattle.rules.proofs.ListingLaws.{bind_some, refused_not}
 use Rattle.rules.specs.Schema.{Item, Known, unknown, type_of, pair_of, item_of, fits, beyond, lawful_items, ahead, items_from, read_schema, value_of}
-use Rattle.rules.specs.StepLaws.{Each, each_then, GoodSchema}
+use Rattle.rules.proofs.StepLaws.{Each, each_then, GoodSchema}
 
 -- ---- lines that are accepted
 

@@ -17,9 +17,9 @@ use mathlib.Core.List.{
 use Rattle.std.proofs.Math.Option.{Option, none, some, none-ne-some, some-ne-none, some-injective}
 use Rattle.rules.specs.Facts.{by_test, by_option, compared, cond-some}
 use Rattle.rules.specs.Tries.{same_list}
-use Rattle.rules.specs.PlaceLaws.{same-list}
+use Rattle.rules.proofs.PlaceLaws.{same-list}
 use Rattle.rules.specs.Listing.{◌>>=◌}
-use Rattle.rules.specs.StepLaws.{Each}
+use Rattle.rules.proofs.StepLaws.{Each}
 use Rattle.rules.specs.Values.{
   Value,
   plain,
@@ -43,7 +43,7 @@ use Rattle.rules.specs.Values.{
   values_in_attributes,
 }
 use Rattle.rules.specs.ValueRows.{attribute_rows, merge_rows, Past, AscendingIn, Ascending}
-use Rattle.rules.specs.ValueRowLaws.{
+use Rattle.rules.proofs.ValueRowLaws.{
   bind_some,
   past_trans,
   fields_left,
@@ -59,7 +59,7 @@ use Rattle.rules.specs.ValueRowLaws.{
   Every,
 }
 use Rattle.rules.specs.ValueRowTests.{ProperFields}
-use Rattle.rules.specs.ValueRowTestLaws.{proper_ascending}
+use Rattle.rules.proofs.ValueRowTestLaws.{proper_ascending}
 
 -- Three that are merged: grouped either way they give the same, and they merge exactly where each two of them do.
 

@@ -35,11 +35,11 @@ use Rattle.rules.specs.Tries.{
   manifest,
   lawful,
 }
-use Rattle.rules.specs.TrieLaws.{Follows, Ordered, ordered_true, true_ordered, bare, length_at, above_at, take_above}
+use Rattle.rules.proofs.TrieLaws.{Follows, Ordered, ordered_true, true_ordered, bare, length_at, above_at, take_above}
 use Rattle.rules.specs.Walks.{Walked, walked, passes_over, walk}
-use Rattle.rules.specs.WalkLaws.{walk_passed, walk_next, walk_refused}
+use Rattle.rules.proofs.WalkLaws.{walk_passed, walk_next, walk_refused}
 use Rattle.rules.specs.Listing.{row_in_front}
-use Rattle.rules.specs.ListingLaws.{refused_not}
+use Rattle.rules.proofs.ListingLaws.{refused_not}
 use Rattle.rules.specs.Schema.{
   Item,
   Known,
@@ -63,7 +63,7 @@ use Rattle.rules.specs.Schema.{
   attributes_of,
 }
 use Rattle.rules.specs.Paths.{kind_at, element_at, attributes_at, attribute_type}
-use Rattle.rules.specs.TypeLaws.{types_in, types_few}
+use Rattle.rules.proofs.TypeLaws.{types_in, types_few}
 use Rattle.rules.specs.Typing.{
   of_principal,
   of_resource,

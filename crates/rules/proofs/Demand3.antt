@@ -7,7 +7,7 @@ use Rattle.rules.specs.Numbers.{accepted, refused}
 use Rattle.rules.specs.Tries.{Row, Has, Marked, entries_in, nodes_in, manifest, lawful, union}
 use Rattle.rules.specs.Building.{add, after, build, accepted_of, Contributions}
 use Rattle.rules.specs.Listing.{listing}
-use Rattle.rules.specs.BuildingLaws.{
+use Rattle.rules.proofs.BuildingLaws.{
   same_accepted,
   same_listing,
   built_has,
