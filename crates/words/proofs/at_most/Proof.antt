@@ -5,13 +5,13 @@ use Rattle.rules.specs.Facts.{capped}
 use Rattle.words.proofs.at_most.Statement.{statement}
 use Rattle.words.proofs.at_most.Tie as tie
 
-returns : tie.Need-returns
+returns-then-n-most : tie.Need-returns-then-n-most
 unfolding capped
-returns c = rw (lt-ltb c.before.args.n c.before.args.most c.if1.true)
+returns-then-n-most c = rw (lt-ltb c.before.args.n c.before.args.most c.if-n-most.true)
 
-returns-2 : tie.Need-returns-2
+returns-else-n-most : tie.Need-returns-else-n-most
 unfolding capped
-returns-2 c = rw (le-ltb c.before.args.n c.before.args.most c.if1.false)
+returns-else-n-most c = rw (le-ltb c.before.args.n c.before.args.most c.if-n-most.false)
 
-pub at-most-spec : {M : Type 1} → statement M
-at-most-spec = tie.close (tie.spec returns returns-2)
+pub at_most_spec : {M : Type 1} → statement M
+at_most_spec = tie.close (tie.spec returns-then-n-most returns-else-n-most)

@@ -8,23 +8,23 @@ use borrow.Author.Rules.{rules}
 use Rattle.words.proofs.copy_rows.Statement.{statement}
 use Rattle.words.proofs.copy_rows.Tie as tie
 
-shared-slice-read-end : tie.Need-shared-slice-read-end
-shared-slice-read-end c = search rules
+bounds-from-0 : tie.Need-bounds-from-0
+bounds-from-0 c = search rules
 
-add-end : tie.Need-overflow-add-end
-add-end c = search rules
+overflow_add-end : tie.Need-overflow_add-end
+overflow_add-end c = search rules
 
-slice-aggregate-copy-words : tie.Need-slice-aggregate-copy-words
-slice-aggregate-copy-words c = sym (length-take-le _ _ (search rules))
+slice_bounds-copy_words-end : tie.Need-slice_bounds-copy_words-end
+slice_bounds-copy_words-end c = sym (length-take-le _ _ (search rules))
 
-copy-words-requires : tie.Need-copy-words-requires
-copy-words-requires c κs = simp length-take (omega arith)
+copy_words-requires : tie.Need-copy_words-requires
+copy_words-requires c κs = simp length-take (omega arith)
 
-same_length : tie.Need-same-length
-same_length c = search rules
+shape_of-to : tie.Need-shape_of-to
+shape_of-to c = search rules
 
 returns : tie.Need-returns
 returns c = search rules
 
-pub copy-rows-spec : {M : Type 1} → statement M
-copy-rows-spec = tie.close (tie.spec shared-slice-read-end add-end slice-aggregate-copy-words copy-words-requires same_length returns)
+pub copy_rows_spec : {M : Type 1} → statement M
+copy_rows_spec = tie.close (tie.spec bounds-from-0 overflow_add-end slice_bounds-copy_words-end copy_words-requires shape_of-to returns)

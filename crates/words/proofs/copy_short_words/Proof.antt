@@ -8,63 +8,47 @@ use borrow.Author.Rules.{rules}
 use Rattle.words.proofs.copy_short_words.Statement.{statement}
 use Rattle.words.proofs.copy_short_words.Tie as tie
 
-abbrev invariant-loop : tie.invariant-loop
-invariant-loop words out₀ to i₀ out i = Copying words out₀ to out i
+abbrev invariant-loop-i : tie.invariant-loop-i
+invariant-loop-i words out₀ to i₀ out i = Copying words out₀ to out i
 
-abbrev decreases-loop : tie.decreases-loop
-decreases-loop words out₀ to i₀ out i = length words - i
+abbrev decreases-loop-i : tie.decreases-loop-i
+decreases-loop-i words out₀ to i₀ out i = length words - i
 
-loop-holds : tie.Need-loop-init invariant-loop decreases-loop
-loop-holds c = copying_first _ _ _
+loop-i-init : tie.Need-loop-i-init invariant-loop-i decreases-loop-i
+loop-i-init c = copying_first _ _ _
 
-mul-out : tie.Need-overflow-mul-out invariant-loop decreases-loop
-mul-out c = search rules
+offset_bounds-words-i : tie.Need-offset_bounds-words-i invariant-loop-i decreases-loop-i
+offset_bounds-words-i c = search rules
 
-shared-slice-read-out : tie.Need-shared-slice-read-out invariant-loop decreases-loop
-shared-slice-read-out c = search rules
+bounds-words-i : tie.Need-bounds-words-i invariant-loop-i decreases-loop-i
+bounds-words-i c = search rules
 
-add-out : tie.Need-overflow-add-out invariant-loop decreases-loop
-add-out c = omega (arith, copying_length c.before.before.loop.invariant, c.before.before.before.requires)
+overflow_add-out : tie.Need-overflow_add-out invariant-loop-i decreases-loop-i
+overflow_add-out c = omega (arith, copying_length c.before.before.loop-i.invariant, c.before.before.before.requires)
 
-mul-out-2 : tie.Need-overflow-mul-out-2 invariant-loop decreases-loop
-mul-out-2 c = omega (arith, copying_length c.before.before.loop.invariant, c.before.before.before.requires)
+offset_bounds-out-to : tie.Need-offset_bounds-out-to invariant-loop-i decreases-loop-i
+offset_bounds-out-to c = omega (arith, copying_length c.before.before.loop-i.invariant, c.before.before.before.requires)
 
-slice-write-out : tie.Need-slice-write-out invariant-loop decreases-loop
-slice-write-out c = omega (arith, copying_length c.before.before.loop.invariant, c.before.before.before.requires)
+bounds-out-to : tie.Need-bounds-out-to invariant-loop-i decreases-loop-i
+bounds-out-to c = omega (arith, copying_length c.before.before.loop-i.invariant, c.before.before.before.requires)
 
-add-i : tie.Need-overflow-add-i invariant-loop decreases-loop
-add-i c = search rules
+overflow_add-i : tie.Need-overflow_add-i invariant-loop-i decreases-loop-i
+overflow_add-i c = search rules
 
-loop-less : tie.Need-loop-smaller invariant-loop decreases-loop
-loop-less c = search rules
+loop-i-smaller : tie.Need-loop-i-smaller invariant-loop-i decreases-loop-i
+loop-i-smaller c = search rules
 
-loop-again : tie.Need-loop-preserved invariant-loop decreases-loop
-loop-again c = copying_next c.before.before.loop.invariant c.before.loop-test.true
+loop-i-preserved : tie.Need-loop-i-preserved invariant-loop-i decreases-loop-i
+loop-i-preserved c = copying_next c.before.before.loop-i.invariant c.before.loop-i-test.true
 
-add-result : tie.Need-overflow-add-result invariant-loop decreases-loop
-add-result c = omega (arith, c.before.loop.invariant.so_many, c.before.before.requires, c.before.before)
+overflow_add-result : tie.Need-overflow_add-result invariant-loop-i decreases-loop-i
+overflow_add-result c = omega (arith, c.before.loop-i.invariant.so_many, c.before.before.requires, c.before.before)
 
-same_length : tie.Need-same-length invariant-loop decreases-loop
-same_length c = copying_length c.before.loop.invariant
+shape_of-out : tie.Need-shape_of-out invariant-loop-i decreases-loop-i
+shape_of-out c = copying_length c.before.loop-i.invariant
 
-returns : tie.Need-returns invariant-loop decreases-loop
-returns c = copying_all c.before.loop.invariant c.loop-test.false
+returns : tie.Need-returns invariant-loop-i decreases-loop-i
+returns c = copying_all c.before.loop-i.invariant c.loop-i-test.false
 
-pub copy-short-words-spec : {M : Type 1} → statement M
-copy-short-words-spec =
-    tie.close
-    (tie.spec
-    invariant-loop
-    decreases-loop
-    loop-holds
-    mul-out
-    shared-slice-read-out
-    add-out
-    mul-out-2
-    slice-write-out
-    add-i
-    loop-less
-    loop-again
-    add-result
-    same_length
-    returns)
+pub copy_short_words_spec : {M : Type 1} → statement M
+copy_short_words_spec = tie.close (tie.spec invariant-loop-i decreases-loop-i loop-i-init offset_bounds-words-i bounds-words-i overflow_add-out offset_bounds-out-to bounds-out-to overflow_add-i loop-i-smaller loop-i-preserved overflow_add-result shape_of-out returns)

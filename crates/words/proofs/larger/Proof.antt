@@ -5,13 +5,13 @@ use Rattle.rules.specs.Facts.{larger}
 use Rattle.words.proofs.larger.Statement.{statement}
 use Rattle.words.proofs.larger.Tie as tie
 
-returns : tie.Need-returns
+returns-then-a-b : tie.Need-returns-then-a-b
 unfolding larger
-returns c = rw (lt-ltb c.before.args.a c.before.args.b c.if1.true)
+returns-then-a-b c = rw (lt-ltb c.before.args.a c.before.args.b c.if-a-b.true)
 
-returns-2 : tie.Need-returns-2
+returns-else-a-b : tie.Need-returns-else-a-b
 unfolding larger
-returns-2 c = rw (le-ltb c.before.args.a c.before.args.b c.if1.false)
+returns-else-a-b c = rw (le-ltb c.before.args.a c.before.args.b c.if-a-b.false)
 
-pub larger-spec : {M : Type 1} → statement M
-larger-spec = tie.close (tie.spec returns returns-2)
+pub larger_spec : {M : Type 1} → statement M
+larger_spec = tie.close (tie.spec returns-then-a-b returns-else-a-b)
