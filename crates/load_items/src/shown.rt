@@ -1,7 +1,6 @@
 // Words of a load shown: rows asked, ancestors requests, slices and values.
 use answers::Head;
-use cases::print;
-use libc::STDOUT_FILENO;
+use cases::{STDOUT_FILENO, print};
 use values::ValueRow;
 
 // The most words that are shown.
