@@ -27,4 +27,4 @@ returns-then-levels-level c =
 pub returns : goal.returns
 returns c =
     comes_fits c.args.words.now c.args.at c.args.levels.now (good-row (goal.at.returns c).Else-not-is_value_row) (omega arith) (omega arith)
-    (rw c.depth-depth.ensures at c.fits2.ensures)
+    (rw c.depth-depth.ensures at c.fits.ensures)

@@ -1,5 +1,4 @@
 -- `values::lawful::earlier` meets its contract: the rows that are passed are the same in both runs. Assumes nothing.
-use Prim.Native.Nat.{◌-◌}
 use Rattle.values.specs.LawfulLaws.{compared_none, compared_all, compared_short, compared_first, compared_second, compared_next}
 use Rattle.values.proofs.lawful.earlier.Goals as goal
 

@@ -1,5 +1,5 @@
 -- `values::lawful::is_lawful` meets its contract: the rows that are passed came at the levels that the front of `levels` keeps.
-use Prim.Native.Nat.{◌-◌, ◌<◌}
+use Prim.Native.Nat.{◌<◌}
 use native.Mathlib.Omega.{arith}
 use mathlib.Core.Path.{◌≡◌, refl, sym, ◌∙◌}
 use lib.ListN.{length, take, length-set}

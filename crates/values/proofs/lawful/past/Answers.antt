@@ -1,5 +1,4 @@
 -- `values::lawful::past` meets its contract: the rows that are passed are deeper, so what is past the others is past them too.
-use Prim.Native.Nat.{◌-◌}
 use native.Mathlib.Omega.{arith}
 use Rattle.values.specs.LawfulLaws.{past_none, past_here, past_deeper}
 use Rattle.values.proofs.lawful.past.Goals as goal
