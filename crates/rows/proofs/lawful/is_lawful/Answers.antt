@@ -1,7 +1,7 @@
 -- `rows::lawful::is_lawful` meets its contract: the part that is passed on has the state's words, and each test is one of `lawful_state`'s.
 use native.Mathlib.Nat.{add-sub_cancel}
 use native.Mathlib.Omega.{arith}
-use borrow.Author.Tests.{le-leb, lt-leb}
+use borrow.Author.Tests.{not-true, not-false, le-leb, lt-leb}
 use mathlib.Core.Bool.{cond, ◌&&◌, and-true, and-false}
 use mathlib.Core.Path.{◌≡◌, sym, ◌∙◌}
 use lib.Dec.{leb, eqb}
@@ -26,12 +26,12 @@ found-judged :
     let a = c.args in
     lawful_state (form_of a.kind) a.state.now ≡ c.count_rows-found.result.ordered && limits_met (form_of a.kind) c.count_rows-found.result.entries c.count_rows-found.result.nodes
 found-judged c =
-    let (judged, counts) = (c.count_rows-found.ensures.ordered_value, c.count_rows-found.ensures.entries_value, c.count_rows-found.ensures.nodes_value) in
-    lawful_found _ _ (omega arith) (rw add-sub_cancel) judged counts.0 counts.1
+    let found = c.count_rows-found.ensures in
+    lawful_found _ _ (omega arith) (rw add-sub_cancel) found.ordered_value found.entries_value found.nodes_value
 
 pub returns-then-not-found : goal.returns-then-not-found
 returns-then-not-found c =
-    sym (found-judged (goal.at.returns-then-not-found c).After-count_rows-found ∙ rw (c.if-not-found.true))
+    sym (found-judged (goal.at.returns-then-not-found c).After-count_rows-found ∙ rw ((not-true _ c.if-not-found.true)))
 
 pub returns-then-limits-found : goal.returns-then-limits-found
 returns-then-limits-found c =
@@ -45,8 +45,8 @@ entries-judged :
     lawful_state (form_of a.kind) a.state.now ≡ cond c.limits-limits.result.single (eqb c.count_rows-found.result.entries 1) (leb c.count_rows-found.result.entries c.limits-limits.result.entries)
 entries-judged c =
     let (single, entries, nodes) = c.limits-limits.ensures in
-    (let found-judged-here : let a = c.args in lawful_state (form_of a.kind) a.state.now ≡ c.count_rows-found.result.ordered && limits_met (form_of a.kind) c.count_rows-found.result.entries c.count_rows-found.result.nodes = let (judged, counts) = (c.count_rows-found.ensures.ordered_value, c.count_rows-found.ensures.entries_value, c.count_rows-found.ensures.nodes_value) in lawful_found _ _ (omega arith) (rw add-sub_cancel) judged counts.0 counts.1 in found-judged-here)
-    ∙ rw (c.if-not-found.false, ← single, ← entries, ← nodes, le-leb _ _ c.if-limits-found.false, and-true)
+    lawful_found _ _ (omega arith) (rw add-sub_cancel) c.count_rows-found.ensures.ordered_value c.count_rows-found.ensures.entries_value c.count_rows-found.ensures.nodes_value
+    ∙ rw ((not-false _ c.if-not-found.false), ← single, ← entries, ← nodes, le-leb _ _ c.if-limits-found.false, and-true)
 
 pub returns-then-limits : goal.returns-then-limits
 returns-then-limits c = sym (entries-judged (goal.at.returns-then-limits c).Else-limits-found ∙ rw c.if-limits.true)

@@ -1,9 +1,8 @@
 -- `rows::place::find` meets its contract. The loop's invariant: the rows from `i` on have the answer, and `matched` is how many of the
 -- place's steps lead to the row before them.
-use Prim.Native.Nat.{◌+◌, ◌-◌}
+use Prim.Native.Nat.{◌+◌}
 use native.Mathlib.Omega.{arith}
 use mathlib.Core.List.{[], ◌∷◌}
-use mathlib.Core.Logic.{⊎_elim}
 use mathlib.Core.Path.{◌≡◌, sym, ◌∙◌}
 use native.Mathlib.Numerals.{add-one}
 use lib.Seq.{drop-cons}
@@ -13,7 +12,7 @@ use Rattle.rules.proofs.PlaceLaws.{Sought, sought_first, sought_last, sought_bel
 use Rattle.rows.specs.States.{rows_of}
 use Rattle.rows.specs.Words.{row_in}
 use Rattle.rows.proofs.place.find.Goals as goal
-use Rattle.rows.proofs.place.find.Goals.{After-depth-depth}
+use Rattle.rows.proofs.place.find.Goals.{After-depth-depth, then-depth-matched+then-depth-place+then-place-depth+else-matched-place, then-depth-matched+then-depth-place+else-place-depth, then-depth-matched+else-depth-place, else-depth-matched}
 
 pub loop-i-init : goal.loop-i-init
 loop-i-init c = (omega arith, sought_first _ _ c.requires)
@@ -40,14 +39,12 @@ pub loop-i-preserved : goal.loop-i-preserved
 loop-i-preserved c =
     let q = next_row (goal.at.loop-i-preserved c).After-depth-depth in (
       omega arith,
-      ⊎_elim
-          (λ w. rw (w.6, c.depth-depth.ensures) (sought_step q (omega arith) (omega arith) ((rw c.depth-depth.ensures at w.4.taken) ∙ w.3.ensures) (omega arith)))
-          (⊎_elim
-          (λ w. rw (w.5, c.depth-depth.ensures) (sought_other q (omega arith) (λ _ e. w.4.left (rw c.depth-depth.ensures (e ∙ sym w.3.ensures)))))
-          (⊎_elim
-          (λ w. rw (w.2, c.depth-depth.ensures) (sought_other q (omega arith) (λ h. omega arith)))
-          (λ w. rw w.1 (sought_below q (omega arith)))))
-          c.if-depth-matched.branch,
+      elim c.if-depth-matched.branch [
+        | then-depth-matched+then-depth-place+then-place-depth+else-matched-place w ↦ rw (w.matched-is, c.depth-depth.ensures) (sought_step q (omega arith) (omega arith) ((rw c.depth-depth.ensures at w.if-place-depth.true) ∙ w.step.ensures) (omega arith))
+        | then-depth-matched+then-depth-place+else-place-depth w ↦ rw (w.matched-is, c.depth-depth.ensures) (sought_other q (omega arith) (λ _ e. w.if-place-depth.false (rw c.depth-depth.ensures (e ∙ sym w.step.ensures))))
+        | then-depth-matched+else-depth-place w ↦ rw (w.matched-is, c.depth-depth.ensures) (sought_other q (omega arith) (λ h. omega arith))
+        | else-depth-matched w ↦ rw w.matched-is (sought_below q (omega arith))
+      ],
     )
 
 pub returns : goal.returns

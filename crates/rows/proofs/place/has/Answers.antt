@@ -10,18 +10,15 @@ use Rattle.rows.specs.StateLaws.{count_within, rows_ordered, has_short, has_unla
 use Rattle.rows.proofs.place.has.Goals as goal
 use Rattle.rows.proofs.place.has.Goals.{Else-not-is_lawful, Else-state-words}
 
-abbrev start : tie.After-words → tie.Start
-start c = c.before.before.before
-
 -- what the tests that were passed say
-long : (c : Else-state-words) → let s = (start c.before).args in words_of s.kind ≤ length s.state.now
+long : (c : Else-state-words) → let s = c.args in words_of s.kind ≤ length s.state.now
 long c = omega (arith, c.words.ensures, c.if-state-words.false)
 
-lawful-state : (c : Else-not-is_lawful) → let s = (start c.before.before.before).args in lawful_state (form_of s.kind) s.state.now ≡ true
+lawful-state : (c : Else-not-is_lawful) → let s = c.args in lawful_state (form_of s.kind) s.state.now ≡ true
 lawful-state c = sym c.is_lawful.ensures ∙ c.if-not-is_lawful.false
 
-count-in : (c : Else-not-is_lawful) → let s = (start c.before.before.before).args in get_or s.state.now 0 0 < length s.state.now
-count-in c = count_within _ _ ((let lawful-state-here : let s = (start c.before.before.before).args in lawful_state (form_of s.kind) s.state.now ≡ true = sym c.is_lawful.ensures ∙ c.if-not-is_lawful.false in lawful-state-here))
+count-in : (c : Else-not-is_lawful) → let s = c.args in get_or s.state.now 0 0 < length s.state.now
+count-in c = count_within _ _ (lawful-state c)
 
 pub returns-then-state-words : goal.returns-then-state-words
 returns-then-state-words c = sym (has_short _ _ _ (omega (arith, c.words.ensures, c.if-state-words.true)))
