@@ -42,7 +42,7 @@ pub loop-left-init : goal.loop-left-init
 loop-left-init c = (refl, (c.requires.1, extending_first _ _ _ _ _))
 
 pub offset_bounds-code-from : goal.offset_bounds-code-from
-offset_bounds-code-from c = omega (arith, going_within (going (goal.at.offset_bounds-code-from c).At-loop-left) c.loop-left-test.true, c.before.before.before.before.before)
+offset_bounds-code-from c = omega (arith, going_within (going (goal.at.offset_bounds-code-from c).At-loop-left) c.loop-left-test.true)
 
 pub bounds-code-from : goal.bounds-code-from
 bounds-code-from c = going_within (going (goal.at.bounds-code-from c).At-loop-left) c.loop-left-test.true
@@ -63,7 +63,7 @@ pub note_path-grown-requires : goal.note_path-grown-requires
 note_path-grown-requires c = omega (arith, going_more (going (goal.at.note_path-grown-requires c).At-loop-left) c.loop-left-test.true, c.loop-left.invariant.1.0, c.requires.0.result.few_nodes)
 
 pub overflow_add-left : goal.overflow_add-left
-overflow_add-left c = omega (arith, going_few (after (goal.at.overflow_add-left c).After-sides), c.sides.ensures, c.before.before.before.before.before.before.before.before.before.before.before.before.before.before.before.before.before.before.before)
+overflow_add-left c = omega (arith, going_few (after (goal.at.overflow_add-left c).After-sides), c.sides.ensures)
 
 pub loop-left-smaller : goal.loop-left-smaller
 loop-left-smaller c = omega (arith, going_within (going (goal.at.loop-left-smaller c).At-loop-left) c.loop-left-test.true, going_on (going (goal.at.loop-left-smaller c).At-loop-left) c.loop-left-test.true (turned (goal.at.loop-left-smaller c).In-Next))

@@ -1,7 +1,6 @@
 use Prim.Native.Nat.{◌-◌}
 use mathlib.Core.Path.{◌≡◌}
 use lib.ListN.{length}
-use Rattle.wrapped_paths.specs.Code.{code}
 use Rattle.wrapped_paths.specs.AttrLaws.{Extending}
 use Rattle.wrapped_paths.proofs.get_or_has_attr.Given as goal
 

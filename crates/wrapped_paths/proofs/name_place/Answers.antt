@@ -1,5 +1,4 @@
 -- `wrapped_paths::name_place` meets its contract: the names that were passed are others.
-use Prim.Native.Nat.{◌-◌}
 use mathlib.Core.Path.{sym, ◌∙◌}
 use Rattle.wrapped_paths.specs.CodeLaws.{others_none, others_found, others_next, others_all}
 use Rattle.wrapped_paths.proofs.name_place.Goals as goal

@@ -2,7 +2,6 @@
 use Prim.Native.Nat.{◌+◌, ◌≤◌}
 use native.Mathlib.Omega.{arith}
 use lib.ListN.{length}
-use Rattle.wrapped_paths.specs.Code.{code}
 use Rattle.wrapped_paths.specs.AttrLaws.{LiteralAt, literal_length, literal_within, literal_standing, literal_end, literal_copy, front_standing, field_standing, stop_within, start_before, field_copy}
 use Rattle.wrapped_paths.proofs.take_field.Goals as goal
 use Rattle.wrapped_paths.proofs.take_field.Goals.{After-measure-field_end, Start}
