@@ -1,5 +1,4 @@
 -- `text::scan` meets its contract. The loop's invariant: what a scan from `at` finds is what a scan from `i` finds.
-use Prim.Native.Nat.{◌-◌}
 use native.Mathlib.Omega.{arith}
 use mathlib.Core.Path.{ap}
 use lib.ListN.{length}

@@ -1,12 +1,11 @@
 -- `text::Decimal::read` meets its contract: a field without an extra zero is a decimal where it is all digits.
 use Prim.Native.Nat.{◌≤◌}
 use native.Mathlib.Omega.{arith}
-use borrow.Author.Tests.{eqb-true, eqb-false, eq-eqb, ne_eqb}
+use borrow.Author.Tests.{eq-eqb, ne_eqb}
 use mathlib.Core.Bool.{true, false}
-use mathlib.Core.Logic.{⊎_elim}
 use lib.Dec.{eqb}
 use mathlib.Core.Path.{◌≡◌, sym, ap, ◌∙◌}
-use lib.ListN.{length, get_or}
+use lib.ListN.{length}
 use Rattle.rules.specs.Text.{decimal_of}
 use Rattle.rules.proofs.TextLaws.{decimal_up_to_empty, decimal_up_to_zero}
 use Rattle.text.proofs.Laws.{ending_at, decimal_to, to_within}
@@ -17,12 +16,12 @@ pub returns-then-n-eq0 : goal.returns-then-n-eq0
 returns-then-n-eq0 c = sym (decimal_up_to_empty 65535 c.args.field.now c.if-n-eq0.true)
 
 pub returns-then-field-eq48 : goal.returns-then-field-eq48
-returns-then-field-eq48 c = sym (decimal_up_to_zero 65535 c.args.field.now c.if-n-gt1.true (eqb-true _ _ c.if-field-eq48.true))
+returns-then-field-eq48 c = sym (decimal_up_to_zero 65535 c.args.field.now (omega arith) c.if-field-eq48.true)
 
 -- what the field writes, by its digits
 by_digits : (c : After-digits) → decimal_of c.args.field.now ≡ ending_at (length c.args.field.now) c.digits.result
 by_digits c =
-    decimal_to 9 c.args.field.now (omega arith) (omega arith) (λ more. ⊎_elim (λ w. eqb-false (get_or c.args.field.now 0 0) 48 w.2.left) (λ w. absurd (omega arith)) c.else-n-gt1.branch)
+    decimal_to 9 c.args.field.now (omega arith) (omega arith) (λ more. grind arith)
     ∙ ap (ending_at (length c.args.field.now)) (sym c.digits.ensures)
 
 pub returns-in_default : goal.returns-in_default

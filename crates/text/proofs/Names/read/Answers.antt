@@ -2,20 +2,18 @@
 use Prim.Native.Nat.{◌-◌, ◌≤◌, ◌<◌}
 use native.Mathlib.Omega.{arith}
 use mathlib.Core.List.{[], ◌∷◌, ◌++◌}
-use mathlib.Core.Logic.{⊎_elim}
 use mathlib.Core.Option.{some}
 use mathlib.Core.Path.{◌≡◌, refl, sym, ap, ◌∙◌}
 use borrow.Author.Tests.{lt-ltb, le-ltb}
 use mathlib.Core.Bool.{false}
 use lib.Dec.{ltb}
-use lib.ListN.{length, take, drop, length-set}
+use lib.ListN.{length, take, drop}
 use Rattle.rules.specs.Text.{decimal_of}
 use Rattle.text.specs.Answers.{number_of, NamesKept}
 use Rattle.text.proofs.NameLaws.{Scanned, scanned, naming_first, naming_past, naming_bad, naming_low, naming_room, naming_full, naming_next, naming_last}
 use Rattle.text.proofs.Laws.{value_most}
-use Rattle.text.proofs.Names.read.Lts as lts
 use Rattle.text.proofs.Names.read.Goals as goal
-use Rattle.text.proofs.Names.read.Goals.{After-scan-end, In-Value, Joined-count-names}
+use Rattle.text.proofs.Names.read.Goals.{After-scan-end, In-Value, Joined-count-names, then-count-names, else-count-names}
 
 -- the field that is looked at
 ends : (c : After-scan-end) → Scanned c.args.line.now c.loop-from.from c.scan-end.result
@@ -33,16 +31,16 @@ most c = value_most _ _ _ c.read.ensures c.in-Value.is
 keeps : (c : Joined-count-names) →
     NamesKept (some (c.loop-from.invariant.2.done ++ (c.in-Value.name ∷ []))) c.if-count-names.names
 keeps c =
-    ⊎_elim
-    (λ w. rw w.1 (naming_room c.loop-from.invariant.2 c.in-Value.name w.0.taken))
-    (λ w. rw w.1 (naming_full c.loop-from.invariant.2 c.in-Value.name w.0.left))
-    c.if-count-names.branch
+    elim c.if-count-names.branch [
+      | then-count-names w ↦ rw w.names-is (naming_room c.loop-from.invariant.2 c.in-Value.name w.if-count-names.true)
+      | else-count-names w ↦ rw w.names-is (naming_full c.loop-from.invariant.2 c.in-Value.name w.if-count-names.false)
+    ]
 
 -- a store leaves the length
 room : (c : Joined-count-names) →
     length c.if-count-names.names ≡ length c.args.names.now
 room c =
-    ⊎_elim (λ w. ap length w.1 ∙ simp length-set c.loop-from.invariant.1) (λ w. ap length w.1 ∙ c.loop-from.invariant.1) c.if-count-names.branch
+    c.if-count-names.auto.names ∙ c.loop-from.invariant.1
 
 pub loop-from-init : goal.loop-from-init
 loop-from-init c = (omega arith, refl, naming_first _ _)

@@ -26,7 +26,7 @@ returns-then-first-lt48 c =
     let a = c.args in
     sym
     (number_undigit a.b a.s.now c.requires a.at c.if-s-at.false
-    (λ low high. ⊎_elim (λ w. omega arith) (λ w. omega (arith, ltb-true)) c.then-first-lt48.branch))
+    (λ low high. ⊎_elim (λ w. omega arith) (λ w. omega (arith, ltb-true)) c.then-first-lt48.either))
 
 pub overflow_cast-first : goal.overflow_cast-first
 overflow_cast-first c = omega (arith, ltb-false)

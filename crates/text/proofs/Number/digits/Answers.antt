@@ -1,5 +1,4 @@
 -- `text::Number::digits` meets its contract. The loop's invariant: the bytes from `at` on come to what those from `i` on come to after `value`.
-use Prim.Native.Nat.{◌-◌}
 use native.Mathlib.Omega.{arith}
 use borrow.Author.Tests.{ltb-true, ltb-false}
 use mathlib.Core.Logic.{⊎_elim}
@@ -18,7 +17,7 @@ returns-then-digit-lt48 c =
     sym
     (c.loop-i.invariant.1
     ∙ to_bad _ _ _ _ c.loop-i-test.true c.if-digit-b.false
-    (λ low high fits. ⊎_elim (λ w. omega arith) (λ w. omega (arith, ltb-true)) c.then-digit-lt48.branch))
+    (λ low high fits. ⊎_elim (λ w. omega arith) (λ w. omega (arith, ltb-true)) c.then-digit-lt48.either))
 
 pub overflow_cast-value : goal.overflow_cast-value
 overflow_cast-value c = omega (arith, ltb-false)
