@@ -21,7 +21,7 @@ pub enum Kind {
 }
 
 // What a state may hold.
-#[derive(Drop)]
+#[derive(Clone, Copy)]
 pub struct Limits {
     pub single: bool,
     pub entries: u64,
