@@ -1,6 +1,6 @@
 /* Terbagyl: entity manifests of Cedar policies, as C calls.
  *
- * The library is libentity_manifest.a, which `rt staticlib entity_manifest` writes to target/staticlib. It is compiled for x86-64 alone, with
+ * The library is libentity_manifest.a, which `tools/staticlib` writes to target/staticlib. It is compiled for x86-64 alone, with
  * the calling convention of System V (Linux), and takes memcpy and memset from the C library. It allocates nothing and keeps nothing between
  * calls: each works in the buffers that it is lent and on the stack, so threads may call it at the same time with buffers of their own.
  *

@@ -1,5 +1,5 @@
 //! Finds the static library, or has the Rattle kit build it: TERBAGYL_LIB names a folder with libentity_manifest.a; otherwise it is the
-//! repository's target/staticlib, and `rt staticlib entity_manifest` writes it there where it is missing. One that is there is taken as it is,
+//! repository's target/staticlib, and `tools/staticlib` writes it there where it is missing. One that is there is taken as it is,
 //! so run that command again where the Rattle source changed.
 
 use std::path::{Path, PathBuf};
@@ -16,7 +16,7 @@ fn main() {
         stop(&format!("the library is compiled for x86-64 alone, and this build is for {processor}"));
     }
     let folder = match env::var_os("TERBAGYL_LIB") {
-        Some(named) => found(PathBuf::from(named), "TERBAGYL_LIB names this folder; `rt staticlib entity_manifest` makes the file"),
+        Some(named) => found(PathBuf::from(named), "TERBAGYL_LIB names this folder; `tools/staticlib` makes the file"),
         None => of_repository(),
     };
     println!("cargo:rerun-if-changed={}", folder.join(ARCHIVE).display());
@@ -31,20 +31,20 @@ fn of_repository() -> PathBuf {
     if !folder.join(ARCHIVE).is_file() {
         build(&repository);
     }
-    found(folder, "`rt staticlib entity_manifest` was to make it")
+    found(folder, "`tools/staticlib` was to make it")
 }
 
 /// Runs the kit in the repository. It proves the library first, so this takes some minutes from nothing.
 fn build(repository: &Path) {
     // what the kit prints is no instruction to cargo
-    let ran = Command::new("rt").args(["staticlib", "entity_manifest"]).current_dir(repository).stdout(Stdio::null()).status();
+    let ran = Command::new(repository.join("tools/staticlib")).stdout(Stdio::null()).status();
     match ran {
         Ok(status) if status.success() => {}
-        Ok(status) => stop(&format!("`rt staticlib entity_manifest` failed: {status}")),
+        Ok(status) => stop(&format!("`tools/staticlib` failed: {status}")),
         Err(why) if why.kind() == io::ErrorKind::NotFound => stop(&format!(
             "there is no {ARCHIVE}: set TERBAGYL_LIB to a folder that has it, or put the Rattle kit (rt) on the PATH to build it"
         )),
-        Err(why) => stop(&format!("`rt staticlib entity_manifest` could not be run: {why}")),
+        Err(why) => stop(&format!("`tools/staticlib` could not be run: {why}")),
     }
 }
 

@@ -14,7 +14,7 @@ fn main() {
     let library = folder.join("libentity_manifest.a");
     println!("cargo:rerun-if-changed={}", library.display());
     if !library.is_file() {
-        let why = format!("our library is missing: no file {}; `rt staticlib entity_manifest` makes it", library.display());
+        let why = format!("our library is missing: no file {}; `tools/staticlib` makes it", library.display());
         println!("cargo:warning=oracle: {why}");
         eprintln!("oracle: {why}");
         process::exit(1);

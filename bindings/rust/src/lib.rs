@@ -20,7 +20,7 @@
 //! # x86-64 alone
 //!
 //! The library is compiled for x86-64. The build script looks for `libentity_manifest.a` in the folder that `TERBAGYL_LIB` names, then in the
-//! repository's target/staticlib, and otherwise has the Rattle kit build it (`rt staticlib entity_manifest`). For another processor it stops,
+//! repository's target/staticlib, and otherwise has the Rattle kit build it (`tools/staticlib`). For another processor it stops,
 //! and says so.
 //!
 //! # Stack

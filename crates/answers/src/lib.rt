@@ -1,5 +1,7 @@
 // Answers and sets of ancestor ids in lent words (docs/FORMS.md, 'Answers in' and 'Ancestors answers in'): judged for their form, summed,
 // and found again by their places.
+#![tactic(auto)]
+
 ghost use Rattle.std.specs.Prelude.{◌≡◌, ◌+◌, ◌^◌, ◌≤◌, ◌<◌, length};
 ghost use Rattle.rules.specs.Loading.{summed};
 ghost use Rattle.answers.specs.Answers.{head_in, head_word, id_set, lent_from, lent_items, size_of_item, words_behind, AllRead, sum_in, PlacedAt, front_of, checked_as, is_entity, item_at, answer_at, set_at, HasScratch};
@@ -16,7 +18,7 @@ pub struct Head {
 }
 
 // What lent words hold: answers, or sets of ancestor ids.
-#[derive(Drop)]
+#[derive(Clone, Copy)]
 pub enum Lending {
     Answers,
     Sets,

@@ -1,4 +1,4 @@
-// The C names of loads. The result is 0, or the refusal's number. `value` receives what the call counts, or the refusal's place; `first` and
+// The C names of loads: crate entity_manifest_c exports each, and calls it here. The result is 0, or the refusal's number. `value` receives what the call counts, or the refusal's place; `first` and
 // `second` the batches and rows asked so far, or at most, beside 12 the expected count and the one that was got, and beside any other
 // refusal 0.
 ghost use Rattle.std.specs.Prelude.{◌≡◌, [], ◌∷◌};
@@ -50,8 +50,7 @@ fn bound_reply(bound: Bound) -> LoadReply
 }
 
 // Tells what a load takes at most.
-#[unsafe(no_mangle)]
-pub extern "C" fn terbagyl_trip_bound(
+pub fn terbagyl_trip_bound(
     manifest: &[u64],
     request: u64,
     value: &mut u64,
@@ -69,8 +68,7 @@ pub extern "C" fn terbagyl_trip_bound(
 }
 
 // Begins a load.
-#[unsafe(no_mangle)]
-pub extern "C" fn terbagyl_load_begin(
+pub fn terbagyl_load_begin(
     manifest: &[u64],
     triple: u64,
     principal: u64,
@@ -92,8 +90,7 @@ pub extern "C" fn terbagyl_load_begin(
 }
 
 // Hands out the rows that wait.
-#[unsafe(no_mangle)]
-pub extern "C" fn terbagyl_load_batch(
+pub fn terbagyl_load_batch(
     state: &mut [u64],
     out: &mut [u64],
     value: &mut u64,
@@ -106,8 +103,7 @@ pub extern "C" fn terbagyl_load_batch(
 }
 
 // Takes a batch's answers.
-#[unsafe(no_mangle)]
-pub extern "C" fn terbagyl_load_answer(
+pub fn terbagyl_load_answer(
     state: &mut [u64],
     answers: &[u64],
     value: &mut u64,
@@ -120,8 +116,7 @@ pub extern "C" fn terbagyl_load_answer(
 }
 
 // Hands out the ancestors requests.
-#[unsafe(no_mangle)]
-pub extern "C" fn terbagyl_load_ancestors(
+pub fn terbagyl_load_ancestors(
     state: &mut [u64],
     out: &mut [u64],
     value: &mut u64,
@@ -139,8 +134,7 @@ pub extern "C" fn terbagyl_load_ancestors(
 }
 
 // Takes the answered ancestors.
-#[unsafe(no_mangle)]
-pub extern "C" fn terbagyl_load_ancestors_answer(
+pub fn terbagyl_load_ancestors_answer(
     state: &mut [u64],
     sets: &[u64],
     value: &mut u64,
@@ -158,8 +152,7 @@ pub extern "C" fn terbagyl_load_ancestors_answer(
 }
 
 // Hands out the slice of a load that has ended.
-#[unsafe(no_mangle)]
-pub extern "C" fn terbagyl_load_result(
+pub fn terbagyl_load_result(
     state: &[u64],
     out: &mut [u64],
     value: &mut u64,

@@ -1,4 +1,6 @@
 // The entry of a request type in a manifest, and the trips that a load for it takes at most.
+#![tactic(auto)]
+
 mod entry;
 mod trips;
 

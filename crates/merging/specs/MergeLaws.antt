@@ -1,9 +1,8 @@
 -- Laws of the merge over words: of the set that the pass is inside, of each turn, and of the pass under way. No contract cites this file.
-use Rattle.std.specs.Prelude.{ℕ, zero, suc, ◌+◌, ◌≤◌, ◌<◌, ◌≡◌, refl, true, false, List, [], ◌∷◌, ◌++◌, map, eqb, length, take, drop, get_or, set}
+use Rattle.std.specs.Prelude.{ℕ, zero, suc, ◌+◌, ◌≤◌, ◌<◌, ◌≡◌, refl, true, false, List, [], ◌∷◌, ◌++◌, map, eqb, length, drop, get_or, set}
 use Rattle.std.proofs.Common.{le_refl, add-one, arith, sym, ap, ◌∙◌, lt-ltb, le-ltb, eq-eqb, ne_eqb, eqb-true, length-append, drop_of_length-le, drop-cons}
 use Rattle.std.proofs.lemmas.List.{map-append, length-map}
 use Rattle.std.proofs.Math.Option.{Option, none, some}
-use Rattle.std.proofs.lemmas.List.Edits.{sets}
 use Rattle.rules.specs.Facts.{by_test, by_option, both_true}
 use Rattle.rules.specs.Tries.{Next, first, second, same, next, same_list}
 use Rattle.rules.proofs.TrieLaws.{Says, next_says, says_next}

@@ -1,4 +1,6 @@
 // Merging in lent words (`merge_values`, `merge_entities`): one pass over two runs of rows, and the parents compared.
+#![tactic(auto)]
+
 ghost use Rattle.std.specs.Prelude.{◌≡◌, ◌+◌, ◌≤◌, ◌<◌, length};
 ghost use Rattle.std.proofs.Math.Option.{none};
 ghost use Rattle.rules.specs.Tries.{next, same_list};

@@ -1,5 +1,7 @@
 // The trie of the Rust (`AccessTrie`, `RootAccessTrie`) as rows in lent buffers: a row as a word, the check that a state is lawful, and
 // whether a place is there.
+#![tactic(auto)]
+
 mod lawful;
 mod place;
 mod row;
@@ -12,14 +14,14 @@ pub use place::{Held, has};
 pub use row::{RequestType, Row, StepParts};
 
 // The kinds of state: rows with their count in front.
-#[derive(Drop)]
+#[derive(Clone, Copy)]
 pub enum Kind {
     Contribution,
     Manifest,
 }
 
 // What a state may hold.
-#[derive(Drop)]
+#[derive(Clone, Copy)]
 pub struct Limits {
     pub single: bool,
     pub entries: u64,

@@ -69,7 +69,7 @@ impl StepParts {
     }
 }
 
-#[derive(Drop)]
+#[derive(Clone, Copy)]
 pub struct Row {
     pub word: u64,
 }

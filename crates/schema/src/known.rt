@@ -7,7 +7,7 @@ ghost use Rattle.schema.specs.Bounds.{known_for, Bounded};
 use crate::item::Item;
 
 // The section and what its next line may be, the number of types, and what the next attribute may be.
-#[derive(Drop)]
+#[derive(Clone, Copy)]
 pub struct Known {
     pub section: u64,
     pub lines: u64,

@@ -1,4 +1,6 @@
 // Bytes to lines, fields and decimals, and decimals back to bytes. Any bytes get an answer.
+#![tactic(auto)]
+
 ghost use Rattle.std.specs.Prelude.{◌≡◌, ◌+◌, ◌≤◌, ◌<◌, length, drop, ◌∷◌};
 ghost use Rattle.std.proofs.lemmas.List.Edits.{sets};
 ghost use Rattle.rules.specs.Text.{decimal_of, decimal, parted, fields_of};

@@ -1,5 +1,7 @@
 // The union of two runs of rows (`AccessTrie::union_mut`, `union_fields`, `RootAccessTrie::union_mut`): trie, fields and roots call one
 // another, the steps left falling. Each store takes the next row of either run, or of both where they have the same node.
+#![tactic(auto)]
+
 ghost use Rattle.std.specs.Prelude.{◌≡◌, ◌≢◌, true, [], ◌+◌, ◌*◌, ◌^◌, ◌<◌, ◌≤◌, length};
 ghost use Rattle.union.specs.Unions.{union_words, union_of, union_into, Roomy};
 ghost use Rattle.rows.specs.States.{all_words, Counted};

@@ -1,4 +1,6 @@
 // Values as rows in lent buffers (docs/FORMS.md, 'Value'): a row as a word, and the test of a run of rows. A row asked as a word.
+#![tactic(auto)]
+
 mod lawful;
 mod request;
 mod row;

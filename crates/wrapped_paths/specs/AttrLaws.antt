@@ -33,7 +33,7 @@ use Rattle.rules.specs.Paths.{
   field_or,
   get_or_has_attr,
 }
-use Rattle.rules.proofs.StepLaws.{AllPaths, Each, Stepped, IsPath, grown_in, grown_stepped, each_append, each_split}
+use Rattle.rules.proofs.StepLaws.{AllPaths, Each, IsPath, grown_in, grown_stepped, each_append, each_split}
 use Rattle.words.specs.Runs.{Wrote}
 use Rattle.wrapped_paths.specs.declared.Moved.{Moved}
 use Rattle.wrapped_paths.specs.declared.Turn.TheVariants.{Next, SetDereferenced}

@@ -1,5 +1,7 @@
 // Wrapped paths as words of 16 bits: a head and what it wraps behind it, the right side of a union and the last field of a record first. So
 // results that are pushed stand in front of those below them, and wrapping them puts a head in front.
+#![tactic(auto)]
+
 ghost use Rattle.std.specs.Prelude.{◌≡◌, [], ◌∷◌, ◌+◌, ◌^◌, ◌<◌, ◌≤◌, length, get_or};
 ghost use Rattle.wrapped_paths.specs.Code.{head_of, head_word, root_in, size_of, wraps_of, name_place, steps_at, Standing, Measures, ResultStands, FoundAt, ExtendedAt};
 ghost use Rattle.wrapped_paths.specs.Turns.{places_for, Noted, sides_of, TurnTook, Gained, Literal, FieldTaken, TurnRoom, Growing, Turned};
@@ -7,7 +9,7 @@ ghost use Rattle.wrapped_paths.specs.Turns.{places_for, Noted, sides_of, TurnToo
 use words::{copy_short_words, wide};
 
 // What a head says: a path has a root of some kind and the ids of so many steps behind it, a record so many names and then as many fields.
-#[derive(Drop)]
+#[derive(Clone, Copy)]
 pub enum WrappedAccessPaths {
     Empty,
     AccessPath(u16, usize),

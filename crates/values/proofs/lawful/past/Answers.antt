@@ -1,0 +1,18 @@
+-- `values::lawful::past` meets its contract: the rows that are passed are deeper, so what is past the others is past them too.
+use native.Mathlib.Omega.{arith}
+use Rattle.values.specs.LawfulLaws.{past_none, past_here, past_deeper}
+use Rattle.values.proofs.lawful.past.Goals as goal
+
+pub loop-i-init : goal.loop-i-init
+loop-i-init c = (c.requires, λ end past. past)
+
+pub returns-then-depth : goal.returns-then-depth
+returns-then-depth c =
+    c.loop-i.invariant.1 _ (past_here _ _ _ c.loop-i-test.true (omega arith))
+
+pub loop-i-preserved : goal.loop-i-preserved
+loop-i-preserved c =
+    (omega arith, λ end past. c.loop-i.invariant.1 end (past_deeper _ _ _ c.loop-i-test.true (omega arith) past))
+
+pub returns : goal.returns
+returns c = c.loop-i.invariant.1 _ (past_none _ _ _ (omega arith) c.loop-i-test.false)

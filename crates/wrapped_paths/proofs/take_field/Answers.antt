@@ -1,0 +1,83 @@
+-- `wrapped_paths::take_field` meets its contract: the place of a name among the names is that of its field.
+use Prim.Native.Nat.{◌+◌, ◌≤◌}
+use native.Mathlib.Omega.{arith}
+use lib.ListN.{length}
+use Rattle.wrapped_paths.specs.AttrLaws.{LiteralAt, literal_length, literal_within, literal_standing, literal_end, literal_copy, front_standing, field_standing, stop_within, start_before, field_copy}
+use Rattle.wrapped_paths.proofs.take_field.Goals as goal
+use Rattle.wrapped_paths.proofs.take_field.Goals.{After-measure-field_end, Start}
+
+-- the literal that stands there
+literal : (c : Start) → LiteralAt c.args.code.now c.requires.rest c.requires.fields c.args.at c.args.fields
+literal c = record { as_many = c.requires.as_many; coded = c.requires.coded }
+
+within : (c : Start) → c.args.at + 1 + c.args.fields ≤ length c.args.code.now
+within c = omega (arith, literal_within ((let literal-here : LiteralAt c.args.code.now c.requires.rest c.requires.fields c.args.at c.args.fields = record { as_many = c.requires.as_many; coded = c.requires.coded } in literal-here)), literal_length ((let literal-here : LiteralAt c.args.code.now c.requires.rest c.requires.fields c.args.at c.args.fields = record { as_many = c.requires.as_many; coded = c.requires.coded } in literal-here)))
+
+-- the ends of the field
+ends : (c : After-measure-field_end) → (c.measure-field.result.end ≤ c.measure-field_end.result.end) × (c.measure-field_end.result.end ≤ length c.args.code.now)
+ends c =
+    let l = (let literal-here : LiteralAt c.args.code.now c.requires.rest c.requires.fields c.args.at c.args.fields = record { as_many = c.requires.as_many; coded = c.requires.coded } in literal-here) in
+    (start_before l c.measure-end.ensures c.args.name c.name_place-place.ensures c.if-place-fields.false c.measure-field.ensures c.measure-field_end.ensures, stop_within l c.measure-end.ensures c.args.name c.name_place-place.ensures c.if-place-fields.false c.measure-field.ensures c.measure-field_end.ensures)
+
+pub overflow_add-names : goal.overflow_add-names
+overflow_add-names c = omega (arith, within (goal.at.overflow_add-names c).Start, c.before.before)
+
+pub overflow_add-first : goal.overflow_add-first
+overflow_add-first c = omega (arith, within (goal.at.overflow_add-first c).Start, c.before.before)
+
+pub measure-end-requires : goal.measure-end-requires
+measure-end-requires c = literal_standing (literal (goal.at.measure-end-requires c).Start)
+
+pub offset_bounds-code-names : goal.offset_bounds-code-names
+offset_bounds-code-names c = omega (arith, within (goal.at.offset_bounds-code-names c).Start, c.before.before.before)
+
+pub slice_bounds-name_place-end : goal.slice_bounds-name_place-end
+slice_bounds-name_place-end c = omega (arith, within (goal.at.slice_bounds-name_place-end c).Start)
+
+pub offset_bounds-code-at : goal.offset_bounds-code-at
+offset_bounds-code-at c = omega (arith, within (goal.at.offset_bounds-code-at c).Start, c.before.before.before.before.before.before)
+
+pub slice_bounds-copy_short_words-count : goal.slice_bounds-copy_short_words-count
+slice_bounds-copy_short_words-count c = omega (arith, literal_end (literal (goal.at.slice_bounds-copy_short_words-count c).Start) c.measure-end.ensures)
+
+pub slice_bounds-copy_short_words-start : goal.slice_bounds-copy_short_words-start
+slice_bounds-copy_short_words-start c = omega (arith, literal_end (literal (goal.at.slice_bounds-copy_short_words-start c).Start) c.measure-end.ensures)
+
+pub slice_bounds-copy_short_words-end : goal.slice_bounds-copy_short_words-end
+slice_bounds-copy_short_words-end c = omega (arith, literal_end (literal (goal.at.slice_bounds-copy_short_words-end c).Start) c.measure-end.ensures, literal_within (literal (goal.at.slice_bounds-copy_short_words-end c).Start))
+
+pub copy_short_words-requires : goal.copy_short_words-requires
+copy_short_words-requires c = rw (literal_copy (literal (goal.at.copy_short_words-requires c).Start) c.measure-end.ensures c.args.name c.name_place-place.ensures c.if-place-fields.true) c.requires.room
+
+pub shape_of-out-then-place-fields : goal.shape_of-out-then-place-fields
+shape_of-out-then-place-fields c = c.copy_short_words.auto.out
+
+pub returns-then-place-fields : goal.returns-then-place-fields
+returns-then-place-fields c = λ fields rest many e. let a = c.args in let l : LiteralAt a.code.now rest fields a.at a.fields = record { as_many = many; coded = e } in record { next = literal_end l c.measure-end.ensures; wrote = rw (literal_copy l c.measure-end.ensures c.args.name c.name_place-place.ensures c.if-place-fields.true) at c.copy_short_words.ensures }
+
+pub measure-field-requires : goal.measure-field-requires
+measure-field-requires c = front_standing (literal (goal.at.measure-field-requires c).Start) c.measure-end.ensures c.args.name c.name_place-place.ensures c.if-place-fields.false
+
+pub measure-field_end-requires : goal.measure-field_end-requires
+measure-field_end-requires c = field_standing (literal (goal.at.measure-field_end-requires c).Start) c.measure-end.ensures c.args.name c.name_place-place.ensures c.if-place-fields.false c.measure-field.ensures
+
+pub offset_bounds-code-field : goal.offset_bounds-code-field
+offset_bounds-code-field c = omega (arith, ends (goal.at.offset_bounds-code-field c).After-measure-field_end, c.before.before.before.before.before.before.before.before)
+
+pub slice_bounds-copy_short_words-count-2 : goal.slice_bounds-copy_short_words-count-2
+slice_bounds-copy_short_words-count-2 c = omega (arith, ends (goal.at.slice_bounds-copy_short_words-count-2 c).After-measure-field_end)
+
+pub slice_bounds-copy_short_words-start-2 : goal.slice_bounds-copy_short_words-start-2
+slice_bounds-copy_short_words-start-2 c = omega (arith, ends (goal.at.slice_bounds-copy_short_words-start-2 c).After-measure-field_end)
+
+pub slice_bounds-copy_short_words-end-2 : goal.slice_bounds-copy_short_words-end-2
+slice_bounds-copy_short_words-end-2 c = omega (arith, ends (goal.at.slice_bounds-copy_short_words-end-2 c).After-measure-field_end)
+
+pub copy_short_words-requires-2 : goal.copy_short_words-requires-2
+copy_short_words-requires-2 c = rw (field_copy (literal (goal.at.copy_short_words-requires-2 c).Start) c.measure-end.ensures c.args.name c.name_place-place.ensures c.if-place-fields.false c.measure-field.ensures c.measure-field_end.ensures) c.requires.room
+
+pub shape_of-out : goal.shape_of-out
+shape_of-out c = c.copy_short_words-2.auto.out
+
+pub returns : goal.returns
+returns c = λ fields rest many e. let a = c.args in let l : LiteralAt a.code.now rest fields a.at a.fields = record { as_many = many; coded = e } in record { next = literal_end l c.measure-end.ensures; wrote = rw (field_copy l c.measure-end.ensures c.args.name c.name_place-place.ensures c.if-place-fields.false c.measure-field.ensures c.measure-field_end.ensures) at c.copy_short_words-2.ensures }
