@@ -7,7 +7,7 @@ use files::{Stream, say, say_line};
 use pieces::{field_of, has_byte, has_fields, has_gap, is_decimal, is_word};
 
 // The text that was refused.
-#[derive(Drop)]
+#[derive(Clone, Copy)]
 pub enum Form {
     Listing,
     Steps,

@@ -7,7 +7,7 @@ use files::{DONE, Stream, To};
 pub const ROOM: usize = 8_192;
 
 // Where bytes go, how many wait in the buffer, the status of what was written, and whether names are escaped for HTML.
-#[derive(Drop)]
+#[derive(Clone, Copy)]
 pub struct Sink {
     pub out: Stream,
     pub err: Stream,
