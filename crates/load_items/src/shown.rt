@@ -42,7 +42,7 @@ impl Asked {
 }
 
 // What a call hands out.
-#[derive(Drop)]
+#[derive(Clone, Copy)]
 pub enum Handed {
     Rows,
     Requests,
@@ -50,7 +50,7 @@ pub enum Handed {
 }
 
 // How much of it is not shown yet: heads or rows asked, ids behind a head, and rows of a value.
-#[derive(Drop)]
+#[derive(Clone, Copy)]
 struct Left {
     heads: u64,
     ids: u64,
