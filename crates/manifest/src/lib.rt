@@ -1,4 +1,6 @@
 // An empty manifest, and uniting a manifest in place: with a contribution, which is adding it, or with another manifest.
+#![tactic(auto)]
+
 ghost use Rattle.std.specs.Prelude.{◌≡◌, ◌+◌, ◌<◌, ◌≤◌, length, true};
 ghost use Rattle.rules.specs.Tries.{manifest as manifestForm};
 ghost use Rattle.rows.specs.States.{lawful_state, storing};
