@@ -1,4 +1,6 @@
 // Paths into tries. A trie is a state without an entry: the count of its nodes, then their rows.
+#![tactic(auto)]
+
 ghost use Rattle.std.specs.Prelude.{◌≡◌, true, not, ◌&&◌, [], ◌∷◌, ◌+◌, ◌≤◌, eqb, length, take, get_or};
 ghost use Rattle.rules.specs.Tries.{union};
 ghost use Rattle.rules.specs.Paths.{to_root_access_trie_with_leaf, add_access_path, add_paths};
