@@ -1,5 +1,7 @@
 // Typing (`to_typed`): each node of a manifest gets the type that a schema gives it, and children that a type lacks are dropped. One walk
 // over the rows, with the type of the last row at each depth.
+#![tactic(auto)]
+
 ghost use Rattle.std.specs.Prelude.{◌≡◌, true, [], ◌≤◌, ◌<◌, length};
 ghost use Rattle.rules.specs.Typing.{typed as typed_rows};
 ghost use Rattle.rules.specs.Tries.{ordered};
