@@ -1,4 +1,6 @@
 // The step `in` on the stack, judged on its whole result.
+#![tactic(auto)]
+
 ghost use Rattle.std.specs.Prelude.{◌≡◌, false, ◌<◌};
 ghost use Rattle.rules.specs.Paths.{add_paths};
 ghost use Rattle.rules.specs.Steps.{two_step, in_result};
