@@ -9,7 +9,7 @@ use listing_reader::read_row;
 use rows::{Kind, Limits, Row};
 
 // Where reading has come to: the length of the last row's place, and how many entries and nodes there are.
-#[derive(Drop)]
+#[derive(Clone, Copy)]
 pub struct Sofar {
     pub len: usize,
     pub entries: u64,
