@@ -1,4 +1,6 @@
 // The step that adds a field to the top's paths, judged on its whole result: 6, 7, 3, 4.
+#![tactic(auto)]
+
 ghost use Rattle.std.specs.Prelude.{◌<◌};
 ghost use Rattle.rules.specs.Paths.{empty_leaf, add_paths};
 ghost use Rattle.rules.specs.Steps.{attr_step};

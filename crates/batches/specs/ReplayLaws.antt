@@ -13,7 +13,7 @@ use Rattle.std.proofs.Math.Seq.{take_all}
 use Rattle.std.proofs.lemmas.List.Edits.{sets-eq}
 use borrow.Author.Tests.{eqb-true, eqb-false, eq-eqb, ne_eqb}
 use Rattle.rules.specs.Facts.{by_test}
-use Rattle.rules.specs.Tries.{Row, ids, ordered}
+use Rattle.rules.specs.Tries.{Row, ordered}
 use Rattle.rules.specs.Values.{Entity}
 use Rattle.rules.specs.Loading.{
   LoadAnswer,

@@ -1,4 +1,6 @@
 // A batch's answers taken row by row (`find_remaining_entities`, `merge_entities`): the rows that they give, and whether they merge.
+#![tactic(auto)]
+
 mod merges;
 mod replaying;
 mod taking;

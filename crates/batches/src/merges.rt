@@ -2,7 +2,7 @@
 ghost use Rattle.std.specs.Prelude.{◌≡◌, map, ◌+◌, ◌≤◌, length};
 ghost use Rattle.rules.proofs.SliceLaws.{answers_to};
 ghost use Rattle.values.specs.ValueWords.{row_asked};
-ghost use Rattle.batches.specs.Hearings.{heard_at, AnswerStands, AllStand, agree as agreeOf, agrees_if_asked, merges_with};
+ghost use Rattle.batches.specs.Hearings.{heard_at, AnswerStands, AllStand, agree as agree_of, agrees_if_asked, merges_with};
 
 use answers::Head;
 use merging::{Merged, merge_entities};
@@ -12,7 +12,7 @@ use values::EntityRequest;
 fn agree(words: &[u64], left: usize, right: usize, scratch: &mut [u64]) -> bool
     requires { AnswerStands words.now left × AnswerStands words.now right
         × (length words.now + length words.now ≤ length scratch.old) }
-    ensures { result ≡ agreeOf (heard_at words.now left) (heard_at words.now right) }
+    ensures { result ≡ agree_of (heard_at words.now left) (heard_at words.now right) }
 {
     let first = words[left];
     if first == 0 {

@@ -1,4 +1,6 @@
 // The step `full` on the stack, judged on its whole result.
+#![tactic(auto)]
+
 ghost use Rattle.rules.specs.Steps.{full_step};
 ghost use Rattle.schema.specs.Items.{items_of};
 ghost use Rattle.type_table.specs.Tables.{GoodTypes};

@@ -1,4 +1,6 @@
 // `full_type_required`: which path takes which type. The types that wrapped paths have to meet wait on a stack, that of the next on top.
+#![tactic(auto)]
+
 ghost use Rattle.std.specs.Prelude.{◌≡◌, map, reverse, ◌+◌, ◌*◌, ◌^◌, ◌<◌, ◌≤◌, length, drop};
 ghost use Rattle.rules.specs.Schema.{attributes_of};
 ghost use Rattle.rules.specs.Paths.{Fields, has_all, attribute_type, add_access_path, type_to_access_trie, add_taken};

@@ -1,9 +1,11 @@
 // The step `in` on the stack, judged on its whole result.
+#![tactic(auto)]
+
 ghost use Rattle.std.specs.Prelude.{◌≡◌, false, ◌<◌};
 ghost use Rattle.rules.specs.Paths.{add_paths};
 ghost use Rattle.rules.specs.Steps.{two_step, in_result};
 ghost use Rattle.rules.proofs.StepLaws.{AllPaths};
-ghost use Rattle.rules.proofs.TypeLaws.{longest as longestOf, marked_leaf};
+ghost use Rattle.rules.proofs.TypeLaws.{longest as longest_of, marked_leaf};
 ghost use Rattle.rows.specs.States.{rows_in};
 ghost use Rattle.wrapped_paths.specs.Code.{AllWithin, paths_at};
 ghost use Rattle.path_tries.specs.Nodes.{Became, PathsToAdd, any_deep};
@@ -27,7 +29,7 @@ fn to_ancestor_access_trie(code: &[u16], places: &[u64], trie: &mut [u64]) -> bo
 fn with_ancestors_required(trie: &mut [u64], code: &[u16], left: &[u64], right: &[u64]) -> bool
     requires paths_to_add { PathsToAdd trie.old code.now left.now }
     requires all_within { AllWithin code.now right.now × AllPaths (paths_at code.now right.now) }
-    requires right_value { any_deep (paths_at code.now left.now) (longestOf (paths_at code.now right.now)) ≡ false }
+    requires right_value { any_deep (paths_at code.now left.now) (longest_of (paths_at code.now right.now)) ≡ false }
     ensures { Became (ancestors_required (rows_in trie.old) (paths_at code.now left.now) (paths_at code.now right.now)) trie.new result }
 {
     if left.len() == 0 {

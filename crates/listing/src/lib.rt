@@ -1,4 +1,6 @@
 // The listing of a manifest or a contribution, written and read.
+#![tactic(auto)]
+
 mod reading;
 mod whole;
 

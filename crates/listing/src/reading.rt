@@ -1,6 +1,6 @@
 // Lines to rows, each judged after those before it.
 ghost use Rattle.std.specs.Prelude.{◌≡◌, false, ◌+◌, ◌<◌, ◌≤◌, length};
-ghost use Rattle.rules.specs.Listing.{read, refusal as refusalOf};
+ghost use Rattle.rules.specs.Listing.{read, refusal as refusal_of};
 ghost use Rattle.listing_lines.specs.Lines.{RowFits};
 ghost use Rattle.listing.specs.Reads.{form_for, sofar_in, numbered, RowRoom, RowTaken, rows_by, row_words, rows_got, row_count};
 
@@ -9,7 +9,7 @@ use listing_reader::read_row;
 use rows::{Kind, Limits, Row};
 
 // Where reading has come to: the length of the last row's place, and how many entries and nodes there are.
-#[derive(Drop)]
+#[derive(Clone, Copy)]
 pub struct Sofar {
     pub len: usize,
     pub entries: u64,
@@ -33,7 +33,7 @@ pub enum GotRows {
 // The number that a row gives after others, 0 for none: 1, 2, 3, 5, 4.
 fn refusal(limits: Limits, path: &[u64], sofar: Sofar, depth: u64, step: u64) -> u64
     requires { sofar.len ≤ length path.now }
-    ensures { numbered result ≡ refusalOf (form_for limits) (sofar_in sofar path.now) (read depth step false) }
+    ensures { numbered result ≡ refusal_of (form_for limits) (sofar_in sofar path.now) (read depth step false) }
 {
     if depth == 0 {
         if limits.single {

@@ -1,4 +1,6 @@
 // A line of the listing: read as a row, and rows written as lines.
+#![tactic(auto)]
+
 mod line;
 mod writing;
 

@@ -1,4 +1,6 @@
 // A reader of the listing: the text, and its place in it. Callers use `read_row`, whose parameters are a plain slice and a number.
+#![tactic(auto)]
+
 ghost use Rattle.std.specs.Prelude.{◌≡◌, ◌<◌, length};
 ghost use Rattle.listing_lines.specs.Lines.{row_read, row_at};
 

@@ -1,6 +1,8 @@
 // An empty manifest, and uniting a manifest in place: with a contribution, which is adding it, or with another manifest.
+#![tactic(auto)]
+
 ghost use Rattle.std.specs.Prelude.{◌≡◌, ◌+◌, ◌<◌, ◌≤◌, length, true};
-ghost use Rattle.rules.specs.Tries.{manifest as manifestForm};
+ghost use Rattle.rules.specs.Tries.{manifest as manifest_form};
 ghost use Rattle.rows.specs.States.{lawful_state, storing};
 ghost use Rattle.manifest.specs.Outcomes.{empty_in, LawfulOfSomeKind, united_rows, united_in, add_in, unite_in};
 
@@ -42,7 +44,7 @@ impl EntityManifest {
 
 // Makes a lawful manifest its union with a lawful state of either kind; `united` is scratch.
 pub fn unite_lawful(manifest: &mut [u64], other: &[u64], united: &mut [u64]) -> Reply
-    requires manifest_value { (lawful_state manifestForm manifest.old ≡ true) × LawfulOfSomeKind other.now }
+    requires manifest_value { (lawful_state manifest_form manifest.old ≡ true) × LawfulOfSomeKind other.now }
     requires in_bounds { (4161 ≤ length manifest.old) × (4161 ≤ length united.old) }
     ensures { (result ≡ (storing manifest.old (united_rows manifest.old other.now)).reply) × (manifest.new ≡ (storing manifest.old (united_rows manifest.old other.now)).buffer) }
 {
@@ -76,7 +78,7 @@ fn unite_in_place(kind: Kind, manifest: &mut [u64], other: &[u64]) -> Reply
 
 // The union of the rows of a manifest and of another state, in a state of its own.
 fn unite(manifest: &[u64], other: &[u64], united: &mut [u64]) -> Reply
-    requires { (lawful_state manifestForm manifest.now ≡ true) × LawfulOfSomeKind other.now × (4161 ≤ length united.old) }
+    requires { (lawful_state manifest_form manifest.now ≡ true) × LawfulOfSomeKind other.now × (4161 ≤ length united.old) }
     ensures { (result ≡ (storing united.old (united_rows manifest.now other.now)).reply) × (united.new ≡ (storing united.old (united_rows manifest.now other.now)).buffer) }
 {
     let manifest_end = manifest[0] as usize + 1;

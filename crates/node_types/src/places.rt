@@ -6,7 +6,7 @@ ghost use Rattle.node_types.specs.Named.{EntityTable, PlacesFound};
 use schema::Item;
 
 // How many entity types a schema has, and the places of its first literal and its first action.
-#[derive(Drop)]
+#[derive(Clone, Copy)]
 pub struct Places {
     pub entities: usize,
     pub literals: usize,

@@ -1,9 +1,11 @@
 // Paths into tries. A trie is a state without an entry: the count of its nodes, then their rows.
+#![tactic(auto)]
+
 ghost use Rattle.std.specs.Prelude.{◌≡◌, true, not, ◌&&◌, [], ◌∷◌, ◌+◌, ◌≤◌, eqb, length, take, get_or};
 ghost use Rattle.rules.specs.Tries.{union};
 ghost use Rattle.rules.specs.Paths.{to_root_access_trie_with_leaf, add_access_path, add_paths};
 ghost use Rattle.rules.proofs.StepLaws.{IsPath};
-ghost use Rattle.rules.proofs.TypeLaws.{longest as longestOf};
+ghost use Rattle.rules.proofs.TypeLaws.{longest as longest_of};
 ghost use Rattle.rows.specs.States.{rows_of, rows_in};
 ghost use Rattle.union.specs.Unions.{Roomy};
 ghost use Rattle.words.specs.Runs.{words_in, Wrote};
@@ -220,7 +222,7 @@ pub fn is_too_deep(code: &[u16], places: &[u64], below: u64) -> bool
 // The steps of the longest of some paths.
 pub fn longest(code: &[u16], places: &[u64]) -> u64
     requires { AllWithin code.now places.now }
-    ensures { result ≡ longestOf (paths_at code.now places.now) }
+    ensures { result ≡ longest_of (paths_at code.now places.now) }
 {
     let mut most = 0;
     let mut i = 0;

@@ -1,4 +1,6 @@
 // The stack of results: two runs of words that grow downwards, the wrapped paths of the results and their tries, the top in front.
+#![tactic(auto)]
+
 ghost use Rattle.std.specs.Prelude.{◌≡◌, ◌+◌, ◌≤◌, ◌<◌, length, get_or};
 ghost use Rattle.rows.specs.States.{rows_in};
 ghost use Rattle.path_tries.specs.Nodes.{IsState};

@@ -5,7 +5,6 @@ use Rattle.std.proofs.Math.Path.{refl}
 use mathlib.Core.List.{List, [], ◌∷◌, ◌++◌, map, map-append, append_assoc, append-nil}
 use Rattle.std.proofs.Math.Option.{Option, none, some}
 use Rattle.std.proofs.Math.ListN.{length, take}
-use Rattle.std.proofs.lemmas.List.Edits.{sets}
 use Rattle.rules.specs.Tries.{Row, ids}
 use Rattle.rules.specs.Facts.{by_test}
 use Rattle.rules.specs.Listing.{◌>>=◌}

@@ -14,7 +14,7 @@ use rows::{RequestType, Row, StepParts};
 use values::EntityRequest;
 
 // A request without its context: its type triple, principal and resource.
-#[derive(Drop)]
+#[derive(Clone, Copy)]
 pub struct Request {
     pub triple: u64,
     pub principal: u64,

@@ -1,4 +1,6 @@
 // The walk over a trie's rows and a run of value rows (`find_remaining_entities`): what is met, in the order in which it is met.
+#![tactic(auto)]
+
 mod batch;
 mod initial;
 mod rule;

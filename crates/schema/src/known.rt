@@ -1,6 +1,6 @@
 // Where a schema has come to, and whether a line may come next.
 ghost use Rattle.std.specs.Prelude.{◌≡◌, true, ◌≤◌};
-ghost use Rattle.rules.specs.Schema.{unknown, section_of, most_of, room_after, within as withinOf, key_fits, value_fits, fits as fits_of, beyond as beyondOf};
+ghost use Rattle.rules.specs.Schema.{unknown, section_of, most_of, room_after, within as within_of, key_fits, value_fits, fits as fits_of, beyond as beyond_of};
 ghost use Rattle.schema.specs.Items.{item_for};
 ghost use Rattle.schema.specs.Bounds.{known_for, Bounded};
 
@@ -77,7 +77,7 @@ impl Known {
 
     // The same in a section, at its start where it is a later one.
     fn within(self, section: u64) -> Known
-        ensures { known_for result ≡ withinOf (known_for self) section }
+        ensures { known_for result ≡ within_of (known_for self) section }
     {
         if self.section == section {
             return self;
@@ -147,7 +147,7 @@ impl Known {
     pub fn beyond(self, item: Item) -> Known
         requires item_value { fits_of (known_for self) (item_for item) ≡ true }
         requires bounded { Bounded (known_for self) × (item.key ≤ 65535) }
-        ensures result_value { known_for result ≡ beyondOf (known_for self) (item_for item) }
+        ensures result_value { known_for result ≡ beyond_of (known_for self) (item_for item) }
         ensures bounded_2 { Bounded (known_for result) }
     {
         if item.tag == Item::ATTRIBUTE_LINE {

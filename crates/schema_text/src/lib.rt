@@ -1,4 +1,6 @@
 // A schema's text read into a lent state, line after line.
+#![tactic(auto)]
+
 mod line;
 mod reading;
 

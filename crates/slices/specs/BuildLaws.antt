@@ -1,6 +1,6 @@
 -- Laws of a slice that is written entity by entity. No contract cites this file.
-use Rattle.std.specs.Prelude.{ℕ, suc, ◌+◌, ◌-◌, ◌%◌, ◌≤◌, ◌<◌, ◌≡◌, ◌≢◌, cond, List, [], ◌∷◌, ◌++◌, map, ltb, eqb, length, get_or}
-use Rattle.std.proofs.Common.{add-one, arith, ap, ◌∙◌, append_assoc, append-nil, length-append, lt-ltb, le-ltb, eq-eqb, ne_eqb, eqb-true}
+use Rattle.std.specs.Prelude.{ℕ, suc, ◌+◌, ◌%◌, ◌≤◌, ◌<◌, ◌≡◌, ◌≢◌, cond, List, [], ◌∷◌, ◌++◌, map, ltb, eqb, length, get_or}
+use Rattle.std.proofs.Common.{add-one, arith, ap, ◌∙◌, append_assoc, append-nil, length-append, lt-ltb, le-ltb, eq-eqb, ne_eqb, eqb-true, subst}
 use Rattle.std.proofs.Math.Path.{refl, sym}
 use Rattle.std.proofs.Math.Option.{Option, none, some, none-ne-some, some-ne-none, some-injective}
 use Rattle.std.proofs.Math.Seq.{append_snoc}
@@ -91,7 +91,8 @@ first_from least e value (l ∷ ls) bound h from given before =
     (λ not-later.
     let same : l.id ≡ e = omega arith in
     let is : l.value ≡ value = some-injective _ _ (sym (loaded_own l ls e same) ∙ given) in
-    rw (le-ltb l.id least high, lt-ltb l.id (suc e) (omega arith), ← same, ← is, all_from (suc l.id) ls h.1))))
+    let rest : entities_from (suc e) ls ≡ ls = subst (λ (x : ℕ). entities_from (suc x) ls ≡ ls) same (all_from (suc l.id) ls h.1) in
+    rw (le-ltb l.id least high, lt-ltb l.id (suc e) (omega arith), rest, ← same, ← is))))
 
 none_from : (least : ℕ) (slice : List Loaded) → ((x : ℕ) → least ≤ x → loaded_as x slice ≡ none) → entities_from least slice ≡ []
 unfolding entities_from

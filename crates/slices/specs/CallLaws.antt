@@ -2,7 +2,7 @@
 use Rattle.std.specs.Prelude.{ℕ, suc, ◌+◌, ◌≤◌, ◌<◌, ◌≡◌, refl, ◌≢◌, List, [], ◌∷◌, ◌++◌, map, eqb, ltb, length, take, drop, get_or}
 use Rattle.std.proofs.Common.{arith, sym, ap, ◌∙◌, append_assoc, length-drop, drop-drop, drop_at, length-take-le, eqb-true}
 use Rattle.std.proofs.Math.Option.{Option, none, some, some-injective}
-use Rattle.std.proofs.lemmas.List.Edits.{sets, sets-eq}
+use Rattle.std.proofs.lemmas.List.Edits.{sets-eq}
 use Rattle.std.proofs.lemmas.Bool.{eqb-false}
 use Rattle.rules.specs.Facts.{by_test, compared}
 use Rattle.rules.proofs.StepLaws.{Each}

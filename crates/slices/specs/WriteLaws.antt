@@ -1,5 +1,5 @@
 -- Laws of an entity's answers merged one after the other, and written. No contract cites this file.
-use Rattle.std.specs.Prelude.{ℕ, suc, ◌+◌, ◌-◌, ◌≤◌, ◌≡◌, true, List, [], ◌∷◌, ◌++◌, map, length, take, drop, get_or, set}
+use Rattle.std.specs.Prelude.{ℕ, suc, ◌+◌, ◌≤◌, ◌≡◌, true, List, [], ◌∷◌, ◌++◌, map, length, take, drop, get_or, set}
 use Rattle.std.proofs.Common.{arith, sym, ◌∙◌, append_assoc, length-drop, drop_of_length-le, length-take-le, take_at, drop_at, set-set}
 use Rattle.std.proofs.Math.Path.{refl, ap}
 use Rattle.std.proofs.Math.Option.{none, some, some-injective, none-ne-some}

@@ -1,5 +1,7 @@
 // The slice of a load (docs/FORMS.md, 'Slice out'), built from the answers to its rows: its entities in order, each with its answers merged.
 // The rows are sorted by entity once, so that each entity is written from its own rows.
+#![tactic(auto)]
+
 mod entity;
 mod ids;
 mod keys;

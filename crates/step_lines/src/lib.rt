@@ -1,4 +1,6 @@
 // A line of a step text as a step.
+#![tactic(auto)]
+
 ghost use Rattle.std.specs.Prelude.{◌≡◌, ◌≤◌, false, length};
 ghost use Rattle.rules.specs.Text.{bytes, fields_of};
 ghost use Rattle.rules.specs.Steps.{is_text, rec_of, bare_step, step_with, step_from};

@@ -1,6 +1,6 @@
 // A step by its kind.
 ghost use Rattle.std.specs.Prelude.{◌≡◌, ◌≤◌, length};
-ghost use Rattle.rules.specs.Steps.{stepped as steppedBy};
+ghost use Rattle.rules.specs.Steps.{stepped as stepped_by};
 ghost use Rattle.schema.specs.Items.{items_of};
 ghost use Rattle.step_lines.specs.Lines.{step_read, name_count, GoodRead};
 ghost use Rattle.type_table.specs.Tables.{GoodTypes};
@@ -29,7 +29,7 @@ pub fn apply(
     requires good_types { GoodTypes words.now table.now types }
     requires step_bound { (name_count step ≤ 32) × ((length names.now ≡ 32) × GoodRead step names.now) }
     requires working { Working code.old tries.old trie.old stack × Scratch code.old paths.old }
-    ensures { StepsBy (λ place results. steppedBy (items_of words.now) place (step_read step names.now) results) code.old tries.old stack code.new tries.new result }
+    ensures { StepsBy (λ place results. stepped_by (items_of words.now) place (step_read step names.now) results) code.old tries.old stack code.new tries.new result }
 {
     match step {
         Step::Root(root) => EntityManifestAnalysisResult::from_root(root, code, tries, stack),

@@ -10,7 +10,7 @@ use Rattle.rules.specs.Numbers.{Answer, accepted, refused}
 use Rattle.rules.specs.Schema.{Item}
 use Rattle.rules.specs.Tries.{Row, is_entry, kept_with, at, ordered, manifest}
 use Rattle.rules.proofs.TrieLaws.{Ordered, ordered_true, length_at}
-use Rattle.rules.specs.Walks.{Walked, walked, passes_over, walk}
+use Rattle.rules.specs.Walks.{Walked, walked, passes_over}
 use Rattle.rules.proofs.WalkLaws.{kept_stored, kept_map, WentTo, went_start, went_end, went_over, went_next, went_refused}
 use Rattle.rules.specs.Typing.{Fate, stays, dropped, wrong, fate, with_type, typed, TypedTo, typed_to, type_row}
 use Rattle.rules.proofs.TypingLaws.{typed_walked, passed_untyped, stays_not_dropped}

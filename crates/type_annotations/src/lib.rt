@@ -1,7 +1,9 @@
 // Typing (`to_typed`): each node of a manifest gets the type that a schema gives it, and children that a type lacks are dropped. One walk
 // over the rows, with the type of the last row at each depth.
+#![tactic(auto)]
+
 ghost use Rattle.std.specs.Prelude.{◌≡◌, true, [], ◌≤◌, ◌<◌, length};
-ghost use Rattle.rules.specs.Typing.{typed as typedRows};
+ghost use Rattle.rules.specs.Typing.{typed as typed_rows};
 ghost use Rattle.rules.specs.Tries.{ordered};
 ghost use Rattle.rows.specs.States.{all_words, rows_of, storing};
 ghost use Rattle.schema.specs.Items.{items_of, good_items};
@@ -36,7 +38,7 @@ fn type_rows(
     requires good_types { GoodTypes words.now table.now types × EntityTable words.now entities.now }
     requires places_found { PlacesFound words.now places × (length rows.now < length out.old) }
     requires rows_value { (all_words rows.now ≡ true) × (ordered [] (rows_of rows.now) ≡ true) }
-    ensures { TypedInto (typedRows (items_of words.now) (rows_of rows.now)) out.new result }
+    ensures { TypedInto (typed_rows (items_of words.now) (rows_of rows.now)) out.new result }
 {
     let mut above = [0u64; 25];
     let mut request = 0;
@@ -79,7 +81,7 @@ fn type_rows(
 fn type_manifest(words: &[u64], rows: &[u64], out: &mut [u64]) -> Reply
     requires words_value { (good_items words.now ≡ true) × ((length words.now < 142337) × (length rows.now ≤ 4160)) }
     requires rows_value { (all_words rows.now ≡ true) × ((ordered [] (rows_of rows.now) ≡ true) × (4161 ≤ length out.old)) }
-    ensures { (result ≡ (storing out.old (typedRows (items_of words.now) (rows_of rows.now))).reply) × (out.new ≡ (storing out.old (typedRows (items_of words.now) (rows_of rows.now))).buffer) }
+    ensures { (result ≡ (storing out.old (typed_rows (items_of words.now) (rows_of rows.now))).reply) × (out.new ≡ (storing out.old (typed_rows (items_of words.now) (rows_of rows.now))).buffer) }
 {
     let mut table = [0u64; TypeSize::TYPES];
     let types = fill_table(words, &mut table);

@@ -1,4 +1,6 @@
 // The types of a schema: where each stands, how deep its trie is and how many nodes that has, and the trie itself.
+#![tactic(auto)]
+
 ghost use Rattle.std.specs.Prelude.{◌≡◌, true, map, ◌+◌, ◌%◌, ◌<◌, ◌≤◌, length, take, drop, get_or};
 ghost use Rattle.rules.specs.Paths.{deeper};
 ghost use Rattle.rules.specs.Schema.{last_type, attributes_of};

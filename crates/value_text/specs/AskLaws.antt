@@ -1,5 +1,5 @@
 -- Laws of reading a request's text. No contract cites this file.
-use Rattle.std.specs.Prelude.{ℕ, ◌+◌, ◌-◌, ◌≤◌, ◌<◌, List, ◌≡◌, refl, length, take, drop}
+use Rattle.std.specs.Prelude.{ℕ, ◌+◌, ◌≤◌, ◌<◌, List, ◌≡◌, refl, length, take, drop}
 use Rattle.std.proofs.Math.Nat.{sub-zero}
 use Rattle.std.proofs.Common.{arith, sym, ap, ◌∙◌, le-leb}
 use Rattle.std.proofs.Math.Option.{none, some}

@@ -1,4 +1,6 @@
 // Texts of values and of requests (docs/FORMS.md), read line after line.
+#![tactic(auto)]
+
 mod line;
 mod reading;
 mod request;

@@ -3,7 +3,7 @@
 
 ghost use Rattle.std.specs.Prelude.{◌≡◌, ◌+◌, ◌≤◌, ◌<◌, length, take, get_or};
 ghost use Rattle.std.proofs.lemmas.List.Edits.{sets};
-ghost use Rattle.rules.specs.Facts.{capped, larger as largerOf};
+ghost use Rattle.rules.specs.Facts.{capped, larger as larger_of};
 ghost use Rattle.words.specs.Keys.{key_in, searched};
 ghost use Rattle.words.specs.Runs.{Wrote};
 
@@ -30,7 +30,7 @@ pub fn at_most(n: u64, most: u64) -> u64
 
 // The larger of two numbers.
 pub fn larger(a: u64, b: u64) -> u64
-    ensures { result ≡ largerOf a b }
+    ensures { result ≡ larger_of a b }
 {
     if a < b { b } else { a }
 }

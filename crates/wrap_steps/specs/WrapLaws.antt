@@ -20,7 +20,7 @@ use Rattle.wrapped_paths.specs.CodeLaws.{codes_append}
 use Rattle.result_stack.specs.Stacks.{stack_paths, stack_tries, trie_words, stacked, Held, Reached, Outcomes, Placed, TriesAt, TriesMerge, TriesMergedFrom, Wraps, WrapsBy}
 use Rattle.result_stack.specs.declared.Stack.{Stack}
 use Rattle.result_stack.specs.declared.Stepped.{Stepped}
-use Rattle.result_stack.specs.StackLaws.{judged_nodes, judged_rows, judged_good, top_good, top_few, below, below_held, code_end}
+use Rattle.result_stack.specs.StackLaws.{judged_nodes, judged_rows, judged_good, top_good, top_few, below_held, code_end}
 
 -- ---- results that are wrapped
 

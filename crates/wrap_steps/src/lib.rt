@@ -1,4 +1,6 @@
 // Steps that push or wrap results, judged on their whole result: 6, 15, 4.
+#![tactic(auto)]
+
 ghost use Rattle.std.specs.Prelude.{◌≡◌, ◌+◌, ◌-◌, ◌<◌, ◌≤◌, length, drop};
 ghost use Rattle.rules.specs.Steps.{from_root, default_result, judged, two_step, union_results, set_step, drop_step, rec_step};
 ghost use Rattle.rules.proofs.StepLaws.{Each};

@@ -1,0 +1,13 @@
+-- `row_walk::walk::kept_at` meets its contract: a word among those that count, or 0.
+use native.Mathlib.Omega.{arith}
+use mathlib.Core.Path.{sym}
+use lib.ListN.{take, get_or-eq_default}
+use lib.Seq.{get_or-take, length-take-le}
+use Rattle.row_walk.proofs.walk.kept_at.Goals as goal
+
+pub returns-then-at-len : goal.returns-then-at-len
+returns-then-at-len c = sym (get_or-take c.args.len c.args.kept.now c.args.at 0 c.if-at-len.true)
+
+pub returns : goal.returns
+returns c =
+    sym (get_or-eq_default (take c.args.len c.args.kept.now) 0 (omega (arith, length-take-le c.args.len c.args.kept.now c.requires)))

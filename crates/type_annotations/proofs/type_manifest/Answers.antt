@@ -1,0 +1,57 @@
+-- `type_annotations::type_manifest` meets its contract: the rows that stay are copied with their count in front.
+use Prim.Native.Nat.{ℕ}
+use native.Mathlib.Omega.{arith}
+use mathlib.Core.List.{List}
+use mathlib.Core.Path.{◌≡◌, refl, sym, ap, ◌∙◌}
+use lib.ListN.{length-set}
+use lib.Seq.{sets, length-take-le}
+use Rattle.rules.specs.Numbers.{refused}
+use Rattle.rules.specs.Typing.{typed}
+use Rattle.rows.specs.States.{rows_of}
+use Rattle.schema.specs.Items.{items_of}
+use Rattle.words.specs.RunLaws.{counted}
+use Rattle.type_annotations.specs.Outcomes.{TypedRows}
+use Rattle.type_annotations.specs.TypedLaws.{typed_copied}
+use Rattle.type_annotations.proofs.type_manifest.Goals as goal
+use Rattle.type_annotations.proofs.type_manifest.Goals.{In-Rows}
+
+-- the words that were stored are those of the rows that stay
+stayed :
+    (c : In-Rows) →
+    let a = c.args in
+    TypedRows (typed (items_of a.words.now) (rows_of a.rows.now)) c.type_rows.new.out c.in-Rows.count
+stayed c = rw c.in-Rows.is at c.type_rows.ensures
+
+pub slice_bounds-entities-end : goal.slice_bounds-entities-end
+slice_bounds-entities-end c = omega (arith, c.of-places.ensures.entities_bound.0, c.of-places.auto.entities)
+
+pub slice_bounds-type_rows-end-2 : goal.slice_bounds-type_rows-end-2
+slice_bounds-type_rows-end-2 c = sym (length-take-le _ _ (omega (arith, c.of-places.ensures.entities_bound.0, c.of-places.auto.entities)))
+
+pub type_rows-requires : goal.type_rows-requires
+type_rows-requires c =
+    record { good_types = (record { good-items = c.requires.words_value.0; tabled = c.fill_table-types.ensures.1; all_types = c.fill_table-types.ensures.0 }, c.of-places.ensures.entities_bound.1); places_found = (c.of-places.ensures.places_found, omega (arith, c.requires.words_value.1.1)); rows_value = (c.requires.rows_value.0, c.requires.rows_value.1.0) }
+
+pub copy_rows-requires : goal.copy_rows-requires
+copy_rows-requires c =
+    let few = (stayed (goal.at.copy_rows-requires c).In-Rows).inside in
+    rw (counted c.type_rows.new.out c.in-Rows.count few)
+    (simp length-set few, omega (arith, few, c.type_rows.auto.out, c.requires.rows_value.1.1))
+
+pub returns-in-Refused : goal.returns-in-Refused
+returns-in-Refused c =
+    let answered : typed (items_of c.args.words.now) (rows_of c.args.rows.now) ≡ refused c.in-Refused.number c.in-Refused.place =
+    rw c.in-Refused.is at c.type_rows.ensures in
+    rw answered (refl, refl)
+
+pub shape_of-out : goal.shape_of-out
+shape_of-out c = c.copy_rows.auto.to
+
+pub returns-in-Rows : goal.returns-in-Rows
+returns-in-Rows c =
+    let to = stayed (goal.at.returns-in-Rows c).In-Rows in
+    rw to.answered (
+      refl,
+      c.copy_rows.ensures
+          ∙ ap (λ (l : List ℕ). sets c.args.out.now 0 l) (typed_copied c.type_rows.new.out c.in-Rows.count to),
+    )

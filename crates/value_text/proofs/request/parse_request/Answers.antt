@@ -1,0 +1,21 @@
+-- `value_text::request::parse_request` meets its contract: a line whose first field is `Q` is read by the fields behind it.
+use mathlib.Core.Path.{sym, ap, ◌∙◌}
+use Rattle.rules.specs.Text.{fields_of}
+use Rattle.rules.specs.Listing.{◌>>=◌}
+use Rattle.value_text.specs.Fields.{behind_read}
+use Rattle.value_text.specs.Asking.{asked_fields}
+use Rattle.value_text.specs.LineLaws.{asked_behind}
+use Rattle.value_text.proofs.request.parse_request.Goals as goal
+
+pub returns-in_default : goal.returns-in_default
+returns-in_default c =
+    sym
+    (asked_behind (fields_of c.args.line.now)
+    ∙ ap (λ o. o >>= asked_fields) (sym c.after_letter.ensures ∙ ap (behind_read c.args.line.now) c.in_default.is))
+
+pub returns : goal.returns
+returns c =
+    c.request_at.ensures
+    ∙ sym
+    (asked_behind (fields_of c.args.line.now)
+    ∙ ap (λ o. o >>= asked_fields) (sym c.after_letter.ensures ∙ ap (behind_read c.args.line.now) c.in-At.is))

@@ -1,0 +1,61 @@
+-- `value_text::rows::first_misplaced` meets its contract: the least place of the rows that are passed, with those that are left, is that of all.
+use Prim.Native.Nat.{◌<◌}
+use native.Mathlib.Omega.{arith}
+use mathlib.Core.Path.{◌≡◌, refl, ◌∙◌}
+use lib.ListN.{length, length-set}
+use Rattle.value_text.specs.RowLaws.{ordering_none, ordering_all, ordering_depth, ordering_lower, ordering_kept}
+use Rattle.value_text.proofs.rows.first_misplaced.Goals as goal
+use Rattle.value_text.proofs.rows.first_misplaced.Goals.{then-next-least, else-next-least, At-loop-i}
+
+pub bounds-levels-0 : goal.bounds-levels-0
+bounds-levels-0 c = omega (arith, c.requires.1)
+
+pub loop-i-init : goal.loop-i-init
+loop-i-init c =
+    (refl, ordering_none c.args.words.now c.args.levels.now (omega (arith, c.requires.1)) c.requires.0)
+
+-- the levels have the length that they had
+kept : (c : At-loop-i) → length c.loop-i.levels ≡ length c.args.levels.now
+kept c = c.loop-i.invariant.0 ∙ length-set c.args.levels.now 0 0
+
+room : (c : At-loop-i) → length c.args.words.now < length c.loop-i.levels
+room c = omega (arith, kept c, c.requires.1)
+
+pub overflow_sub-own : goal.overflow_sub-own
+overflow_sub-own c =
+    omega (arith, c.depth.ensures, ordering_depth c.loop-i.invariant.1 c.loop-i-test.true (room (goal.at.overflow_sub-own c).At-loop-i))
+
+pub offset_bounds-levels-own : goal.offset_bounds-levels-own
+offset_bounds-levels-own c =
+    omega (
+      arith,
+      c.depth.ensures,
+      ordering_depth c.loop-i.invariant.1 c.loop-i-test.true (room (goal.at.offset_bounds-levels-own c).At-loop-i),
+      c.loop-i.invariant.1.few,
+    )
+
+pub bounds-levels-own : goal.bounds-levels-own
+bounds-levels-own c =
+    omega (arith, c.depth.ensures, ordering_depth c.loop-i.invariant.1 c.loop-i-test.true (room (goal.at.bounds-levels-own c).At-loop-i))
+
+pub open_levels-requires : goal.open_levels-requires
+open_levels-requires c =
+    let (below, near, few) = ordering_depth c.loop-i.invariant.1 c.loop-i-test.true (room (goal.at.open_levels-requires c).At-loop-i) in
+    (below, omega (arith, room (goal.at.open_levels-requires c).At-loop-i, c.loop-i.invariant.1.few, c.loop-i-test.true))
+
+pub loop-i-preserved : goal.loop-i-preserved
+loop-i-preserved c =
+    let fits = room (goal.at.loop-i-preserved c).At-loop-i in
+    let found = rw c.depth.ensures at c.misplaced-next.ensures in (
+      c.open_levels.auto.levels ∙ c.loop-i.invariant.0,
+      elim c.if-next-least.branch [
+        | then-next-least w ↦ rw w.least-is (ordering_lower c.loop-i.invariant.1 c.loop-i-test.true fits found c.open_levels.ensures w.if-next-least.true)
+        | else-next-least w ↦ rw w.least-is (ordering_kept c.loop-i.invariant.1 c.loop-i-test.true fits found c.open_levels.ensures w.if-next-least.false)
+      ],
+    )
+
+pub shape_of-levels : goal.shape_of-levels
+shape_of-levels c = kept (goal.at.shape_of-levels c).At-loop-i
+
+pub returns : goal.returns
+returns c = ordering_all c.loop-i.invariant.1 c.loop-i-test.false
