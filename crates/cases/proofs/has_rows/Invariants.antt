@@ -1,3 +1,4 @@
+-- `cases::has_rows` is safe: the place stays within the state, and is held against the lengths of the other two.
 use Prim.Native.Nat.{◌≤◌, ◌-◌}
 use lib.ListN.{length}
 use Rattle.cases.proofs.has_rows.Given as goal

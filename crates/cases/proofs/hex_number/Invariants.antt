@@ -1,3 +1,4 @@
+-- `cases::hex_number` keeps 15 digits of what it has, so that one more fits.
 use Prim.Native.Nat.{◌≤◌, ◌-◌}
 use lib.ListN.{length}
 use Rattle.cases.proofs.hex_number.Given as goal

@@ -1,3 +1,4 @@
+-- `trie_cases::push_fan` is safe: the state keeps its length while the fields are pushed.
 use Prim.Native.Nat.{◌+◌, ◌-◌}
 use mathlib.Core.Path.{◌≡◌}
 use lib.ListN.{length}
