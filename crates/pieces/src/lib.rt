@@ -1,4 +1,6 @@
 // The pieces of a text that was refused: its lines, their fields, and what bytes they have. It judges nothing, and serves messages alone.
+#![tactic(auto)]
+
 ghost use Rattle.std.specs.Prelude.{◌≤◌, length};
 
 use text::{Decimal, LF, TAB};
