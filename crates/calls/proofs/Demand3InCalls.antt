@@ -33,11 +33,11 @@ use Rattle.schema_text.specs.Outcomes.{read_schema_in}
 use Rattle.manifest.specs.Outcomes.{empty_in}
 use Rattle.analysis.specs.Outcomes.{analyse_in}
 use Rattle.calls.specs.Calls.{AllDone, built_in, build_replies, policies_in, policy_replies, written_by, reply_of, AllLent, StepJob, StepsAsked, AllRoomy, contributions_in, analyses_in}
-use Rattle.calls.specs.BuildsInLaws.{reply_done, emptied, lent_contributions, built_lent, kth_answers, done_exactly, lent_written, bytes_back}
-use Rattle.calls.specs.SchemaReadLaws.{schema_read, items_good}
-use Rattle.calls.specs.HandedLaws.{listing_read, steps_analysed, listing_done}
-use Rattle.calls.specs.JobLaws.{jobs_lent, same_done, same_contributions}
-use Rattle.calls.specs.PoliciesInLaws.{texts_left, texts_done}
+use Rattle.calls.proofs.BuildsInLaws.{reply_done, emptied, lent_contributions, built_lent, kth_answers, done_exactly, lent_written, bytes_back}
+use Rattle.calls.proofs.SchemaReadLaws.{schema_read, items_good}
+use Rattle.calls.proofs.HandedLaws.{listing_read, steps_analysed, listing_done}
+use Rattle.calls.proofs.JobLaws.{jobs_lent, same_done, same_contributions}
+use Rattle.calls.proofs.PoliciesInLaws.{texts_left, texts_done}
 
 -- 1. Contributions added to a manifest in a buffer.
 

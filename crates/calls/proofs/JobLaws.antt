@@ -19,7 +19,7 @@ use Rattle.schema.specs.Items.{items_in}
 use Rattle.manifest.specs.UniteLaws.{same_reply}
 use Rattle.analysis.specs.Outcomes.{analyse_in}
 use Rattle.calls.specs.Calls.{AllDone, StepJob, StepsAsked, AllRoomy, analysed_by, contributions_in, analyses_in, AllLent}
-use Rattle.calls.specs.HandedLaws.{done_tested, tested_stores, steps_analysed}
+use Rattle.calls.proofs.HandedLaws.{done_tested, tested_stores, steps_analysed}
 
 -- an analysis that is Done is Done in any buffer that is long enough
 analysed_again :

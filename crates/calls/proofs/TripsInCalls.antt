@@ -10,7 +10,7 @@ use Rattle.rows.specs.States.{rows_in}
 use Rattle.entries.specs.Bounds.{told, trip_bound_in}
 use Rattle.entries.specs.declared.trips.Bound.TheVariants.{AtMost}
 use Rattle.calls.specs.LoadsIn.{StateOf, bound_in, CallsWithin}
-use Rattle.calls.specs.TripsInLaws.{state_bound, within_state, within_begun}
+use Rattle.calls.proofs.TripsInLaws.{state_bound, within_state, within_begun}
 
 -- 1. Whatever a lent state holds, a forged one too: no call on it reports more than the bound of the entry that it holds.
 pub any_state_within : (state : List ℕ) → CallsWithin state (bound_in state)

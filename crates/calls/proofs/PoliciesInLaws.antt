@@ -19,9 +19,9 @@ use Rattle.rows.specs.declared.Kind.TheVariants.{Manifest}
 use Rattle.schema.specs.Items.{schema_words, lawful_schema, items_in}
 use Rattle.analysis.specs.Outcomes.{add_policy_in}
 use Rattle.calls.specs.Calls.{left_by, replies_by, AllDone, reply_of}
-use Rattle.calls.specs.StoringLaws.{called_reply, called_lent}
-use Rattle.calls.specs.BuildsInLaws.{reply_done}
-use Rattle.calls.specs.SchemaReadLaws.{items_good}
+use Rattle.calls.proofs.StoringLaws.{called_reply, called_lent}
+use Rattle.calls.proofs.BuildsInLaws.{reply_done}
+use Rattle.calls.proofs.SchemaReadLaws.{items_good}
 
 module _ (schema : List ℕ) (good : lawful_schema schema ≡ true) where
   schema_long : leb schema_words (length schema) ≡ true

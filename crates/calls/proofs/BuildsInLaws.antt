@@ -20,7 +20,7 @@ use Rattle.listing.specs.declared.whole.Written.TheVariants.{Bytes}
 use Rattle.manifest.specs.Outcomes.{empty_in, add_in}
 use Rattle.manifest.specs.UniteLaws.{unite_lawful}
 use Rattle.calls.specs.Calls.{left_by, replies_by, AllDone, reply_of, AllLent}
-use Rattle.calls.specs.StoringLaws.{called_reply, called_lent}
+use Rattle.calls.proofs.StoringLaws.{called_reply, called_lent}
 
 -- ---- replies
 

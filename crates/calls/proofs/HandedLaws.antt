@@ -22,7 +22,7 @@ use Rattle.listing.specs.Outcomes.{read_listing_in}
 use Rattle.schema.specs.Items.{schema_words, lawful_schema, items_in}
 use Rattle.analysis.specs.Outcomes.{analyse_in}
 use Rattle.analysis.specs.AnswerLaws.{short_schema, short_out, unlawful_schema, unlawful_else, all_lawful}
-use Rattle.calls.specs.SchemaReadLaws.{items_good}
+use Rattle.calls.proofs.SchemaReadLaws.{items_good}
 
 -- a refusal is not Done
 pub never_done : {A : Type 0} {outcome : Outcome} (number : ℕ) (out : List ℕ) → outcome ≡ refusing number 0 out → outcome.reply ≡ Done → A
