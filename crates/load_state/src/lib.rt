@@ -1,4 +1,6 @@
 // The state of a load (docs/FORMS.md, 'Load state'): the transcript that it is, and the load that it tells of.
+#![tactic(auto)]
+
 mod parts;
 mod turns;
 mod working;
