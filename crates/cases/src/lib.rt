@@ -1,10 +1,16 @@
 // What the programs that replay vectors share: a data file, its lines, their fields and escapes, an answer as text, and a line for each case.
+#![tactic(auto)]
+
 ghost use Rattle.std.specs.Prelude.{◌+◌, ◌≤◌, ◌<◌, length};
 ghost use Rattle.io.specs.Counts.{IsPrefixLen};
 
-use libc::STDOUT_FILENO;
 use rows::Kind;
+use std::fs;
+use std::io::Read;
 use text::{Decimal, Field};
+
+// Where programs print.
+pub const STDOUT_FILENO: i32 = 1;
 
 // A byte that was read from an escaped text, and the place after it.
 #[derive(Drop)]
@@ -13,18 +19,32 @@ pub struct Unescaped {
     pub next: usize,
 }
 
-// Reads a data file into `buffer`, as much as there is room, and answers how many bytes that is; none where it cannot be opened.
-pub fn read_file(path: &[u8], buffer: &mut [u8]) -> usize
+// Reads until `buffer` is full, the file ends or a read fails, and answers how many bytes that is.
+fn read_full<R: Read>(from: &mut R, buffer: &mut [u8]) -> usize
     ensures { IsPrefixLen result buffer.new }
 {
-    let fd = os::open_read(path);
-    if fd < 0 {
-        os::fail(path);
-        return 0;
+    let mut n = 0;
+    while n < buffer.len() {
+        match from.read(&mut buffer[n..]) {
+            Ok(0) => return n,
+            Ok(more) => n += more,
+            Err(_) => return n,
+        }
     }
-    let n = io::read_full(fd, buffer);
-    libc::close(fd);
     n
+}
+
+// Reads a data file into `buffer`, as much as there is room, and answers how many bytes that is; none where it cannot be opened.
+pub fn read_file(rt: HostRuntime, path: &str, buffer: &mut [u8]) -> usize
+    ensures { IsPrefixLen result buffer.new }
+{
+    match fs::open(&rt, path) {
+        Ok(mut file) => read_full(&mut file, buffer),
+        Err(error) => {
+            let _ = eprintln!(rt; "{path}: {error}");
+            0
+        }
+    }
 }
 
 // Whether a line of a data file is none of its cases: it is empty, or begins with `#`.

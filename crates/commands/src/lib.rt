@@ -1,4 +1,6 @@
 // The program's commands: which words a command line has, and the job that they ask for.
+#![tactic(auto)]
+
 ghost use Rattle.std.specs.Prelude.{◌≤◌};
 
 use files::{CANNOT, To};
@@ -10,11 +12,11 @@ use text::Decimal;
 const NO_ID: u64 = 65_536;
 
 // The id that word i writes, or NO_ID.
-fn id_word(line: &[u8], i: usize) -> u64
+fn id_word(to: To, line: &[u8], i: usize) -> u64
     ensures { result ≤ 65536 }
 {
     let mut word = io::buffer();
-    let n = files::word(line, i, &mut word);
+    let n = files::word(to.rt, line, i, &mut word);
     let Decimal::Value(id) = Decimal::read(&word[..n]) else {
         return NO_ID;
     };
@@ -40,15 +42,15 @@ fn steps(to: To, line: &[u8], count: usize) -> u64 {
     if count != 7 {
         return misused(to, b"steps takes P A R, a schema and a file");
     }
-    let principal = id_word(line, 2);
+    let principal = id_word(to, line, 2);
     if principal == NO_ID {
         return misused(to, b"P is an id from 0 to 65535");
     }
-    let action = id_word(line, 3);
+    let action = id_word(to, line, 3);
     if action == NO_ID {
         return misused(to, b"A is an id from 0 to 65535");
     }
-    let resource = id_word(line, 4);
+    let resource = id_word(to, line, 4);
     if resource == NO_ID {
         return misused(to, b"R is an id from 0 to 65535");
     }
@@ -62,7 +64,7 @@ fn steps(to: To, line: &[u8], count: usize) -> u64 {
 // `help COMMAND`
 fn help_of(to: To, line: &[u8], i: usize) -> u64 {
     let mut word = io::buffer();
-    let n = files::word(line, i, &mut word);
+    let n = files::word(to.rt, line, i, &mut word);
     let status = help::say_command(to, Command::of(&word[..n]));
     if status == help::NONE {
         return misused_word(to, b"there is no command ", &word[..n]);
@@ -87,19 +89,19 @@ fn is_help(word: &[u8]) -> bool {
 }
 
 // Whether word 2 of three asks for help.
-fn asks_help(line: &[u8], count: usize) -> bool {
+fn asks_help(to: To, line: &[u8], count: usize) -> bool {
     if count != 3 {
         return false;
     }
     let mut word = io::buffer();
-    let n = files::word(line, 2, &mut word);
+    let n = files::word(to.rt, line, 2, &mut word);
     is_help(&word[..n])
 }
 
 // Whether word 2 asks for typing.
-fn asks_typing(line: &[u8]) -> bool {
+fn asks_typing(to: To, line: &[u8]) -> bool {
     let mut word = io::buffer();
-    let n = files::word(line, 2, &mut word);
+    let n = files::word(to.rt, line, 2, &mut word);
     check::same(&word[..n], b"--typed")
 }
 
@@ -108,7 +110,7 @@ fn build(to: To, line: &[u8], count: usize) -> u64 {
     if count < 4 {
         return misused(to, b"build takes a schema and a file or more");
     }
-    if !asks_typing(line) {
+    if !asks_typing(to, line) {
         return policy_jobs::build(to, line, count);
     }
     if count < 5 {
@@ -202,10 +204,10 @@ fn run_word(to: To, line: &[u8], count: usize, word: &[u8]) -> u64 {
     if check::same(word, b"--version") {
         return help::say_version(to);
     }
-    if asks_help(line, count) {
+    if asks_help(to, line, count) {
         return help_of(to, line, 1);
     }
-    if files::has_input_twice(line, count) {
+    if files::has_input_twice(to.rt, line, count) {
         return misused(to, b"/dev/stdin is named twice, and can be read once");
     }
     run_command(to, line, count, word)
@@ -213,11 +215,11 @@ fn run_word(to: To, line: &[u8], count: usize, word: &[u8]) -> u64 {
 
 // Runs a command line, whose words are parted by a space; an empty one stands for the program's own arguments. Answers the status.
 pub fn run(to: To, line: &[u8]) -> u64 {
-    let count = files::count_words(line);
+    let count = files::count_words(to.rt, line);
     if count < 2 {
         return misused(to, b"there is no command");
     }
     let mut word = io::buffer();
-    let n = files::word(line, 1, &mut word);
+    let n = files::word(to.rt, line, 1, &mut word);
     run_word(to, line, count, &word[..n])
 }

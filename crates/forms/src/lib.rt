@@ -1,11 +1,13 @@
 // Refusal 1 in words: how a line or field is not of the stated form.
+#![tactic(auto)]
+
 ghost use Rattle.std.specs.Prelude.{◌≤◌, length};
 
-use files::{say, say_line};
+use files::{Stream, say, say_line};
 use pieces::{field_of, has_byte, has_fields, has_gap, is_decimal, is_word};
 
 // The text that was refused.
-#[derive(Drop)]
+#[derive(Clone, Copy)]
 pub enum Form {
     Listing,
     Steps,
@@ -17,7 +19,7 @@ pub enum Form {
 }
 
 // What no line of any other text than a name table may have; answers whether that was it.
-fn say_shape(err: i32, form: Form, line: &[u8]) -> bool {
+fn say_shape(err: Stream, form: Form, line: &[u8]) -> bool {
     if let Form::Names = form {
         return false;
     }
@@ -41,7 +43,7 @@ fn say_shape(err: i32, form: Form, line: &[u8]) -> bool {
 }
 
 // An `A` line.
-fn say_entry(err: i32, line: &[u8]) {
+fn say_entry(err: Stream, line: &[u8]) {
     if !has_fields(line, 4) {
         say(
             err,
@@ -56,7 +58,7 @@ fn say_entry(err: i32, line: &[u8]) {
 }
 
 // An `N` line.
-fn say_node(err: i32, line: &[u8]) {
+fn say_node(err: Stream, line: &[u8]) {
     if !has_fields(line, 5) {
         say(err, b"an N line has four fields: depth, step, id, mark");
         return;
@@ -75,7 +77,7 @@ fn say_node(err: i32, line: &[u8]) {
 }
 
 // A line of a listing.
-fn say_listing(err: i32, line: &[u8], place: u64) {
+fn say_listing(err: Stream, line: &[u8], place: u64) {
     if is_word(line, 0, b"A") {
         say_entry(err, line);
         return;
@@ -92,7 +94,7 @@ fn say_listing(err: i32, line: &[u8], place: u64) {
 }
 
 // `full`, with a type that is no number or that the schema does not have.
-fn say_full(err: i32, line: &[u8]) {
+fn say_full(err: Stream, line: &[u8]) {
     if has_fields(line, 2) && is_decimal(line, 1) {
         let field = field_of(line, 1);
         let from = field.from;
@@ -114,7 +116,7 @@ fn is_bare(line: &[u8]) -> bool {
 }
 
 // A step's line.
-fn say_step(err: i32, line: &[u8]) {
+fn say_step(err: Stream, line: &[u8]) {
     if is_word(line, 0, b"full") {
         say_full(err, line);
         return;
@@ -145,7 +147,7 @@ fn say_step(err: i32, line: &[u8]) {
 }
 
 // A line of a policy text.
-fn say_policy(err: i32, line: &[u8], place: u64) {
+fn say_policy(err: Stream, line: &[u8], place: u64) {
     if is_word(line, 0, b"A") {
         say_entry(err, line);
         return;
@@ -158,7 +160,7 @@ fn say_policy(err: i32, line: &[u8], place: u64) {
 }
 
 // A line of a schema.
-fn say_schema(err: i32, line: &[u8]) {
+fn say_schema(err: Stream, line: &[u8]) {
     if is_word(line, 0, b"T") {
         say(
             err,
@@ -198,7 +200,7 @@ fn say_schema(err: i32, line: &[u8]) {
 }
 
 // A `V` line.
-fn say_value(err: i32, line: &[u8]) {
+fn say_value(err: Stream, line: &[u8]) {
     if !has_fields(line, 5) {
         say(err, b"a V line has four fields: depth, key, kind, number");
         return;
@@ -217,7 +219,7 @@ fn say_value(err: i32, line: &[u8]) {
 }
 
 // A line of a request.
-fn say_request(err: i32, line: &[u8], place: u64) {
+fn say_request(err: Stream, line: &[u8], place: u64) {
     if place != 0 {
         if is_word(line, 0, b"V") {
             say_value(err, line);
@@ -244,7 +246,7 @@ fn say_request(err: i32, line: &[u8], place: u64) {
 }
 
 // A line of a store.
-fn say_store(err: i32, line: &[u8], place: u64) {
+fn say_store(err: Stream, line: &[u8], place: u64) {
     if is_word(line, 0, b"E") {
         say(err, b"an E line has an entity above the last one's");
         return;
@@ -288,7 +290,7 @@ fn is_unnamed(line: &[u8], k: u64) -> bool {
 }
 
 // A line of a name table. Its names may have spaces, so that it is judged by itself.
-fn say_named(err: i32, line: &[u8]) {
+fn say_named(err: Stream, line: &[u8]) {
     let is_kind = is_word(line, 0, b"t") || is_word(line, 0, b"e") || is_word(line, 0, b"f");
     if !is_kind || !has_fields(line, 3) {
         say(
@@ -318,7 +320,7 @@ fn say_named(err: i32, line: &[u8]) {
 }
 
 // What was expected where a text has ended.
-fn say_more(err: i32, form: Form) {
+fn say_more(err: Stream, form: Form) {
     match form {
         Form::Request => say(err, b"expected a Q line"),
         Form::Listing | Form::Steps | Form::Policy | Form::Schema | Form::Store | Form::Names => {
@@ -328,7 +330,7 @@ fn say_more(err: i32, form: Form) {
 }
 
 // What was expected of the line from a place to another, which has a number.
-pub fn say_form(err: i32, form: Form, place: u64, text: &[u8], from: usize, to: usize)
+pub fn say_form(err: Stream, form: Form, place: u64, text: &[u8], from: usize, to: usize)
     requires { (from ≤ to) × (to ≤ length text.now) }
 {
     if text.len() <= from {

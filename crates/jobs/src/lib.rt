@@ -1,4 +1,6 @@
 // What all jobs share: a refusal told, a schema, a listing and a name table read, a listing written, also of a manifest that is typed first. Each answers a status.
+#![tactic(auto)]
+
 ghost use Rattle.io.specs.Counts.{IsPrefixLen};
 
 use entity_manifest::{Kind, Reply, Written};
@@ -15,7 +17,7 @@ pub const LISTING: usize = 62_720;
 // Reads the files behind word i for their lengths alone: one that is too long or cannot be read comes before a refusal of what word i names.
 pub fn pass_behind(to: To, line: &[u8], i: usize, count: usize) -> u64 {
     if i < count {
-        return files::pass_rest(to.err, line, i + 1, count);
+        return files::pass_rest(to, line, i + 1, count);
     }
     DONE
 }
@@ -36,7 +38,7 @@ pub fn refuse(
         return status;
     }
     let mut name = io::buffer();
-    let n = files::word(line, i, &mut name);
+    let n = files::word(to.rt, line, i, &mut name);
     messages::say_refused(to.err, &name[..n], form, number, place, text);
     REFUSED
 }
@@ -44,7 +46,7 @@ pub fn refuse(
 // Reads the schema that word i names.
 pub fn load_schema(to: To, line: &[u8], i: usize, count: usize, schema: &mut [u64]) -> u64 {
     let mut text = [0u8; 65_537];
-    let loaded = files::load(to.err, line, i, &mut text);
+    let loaded = files::load(to, line, i, &mut text);
     if loaded.status != DONE {
         return loaded.status;
     }
@@ -59,7 +61,7 @@ pub fn load_schema(to: To, line: &[u8], i: usize, count: usize, schema: &mut [u6
 // Reads the listing that word i names.
 pub fn load_listing(to: To, line: &[u8], i: usize, count: usize, manifest: &mut [u64]) -> u64 {
     let mut text = [0u8; 65_537];
-    let loaded = files::load(to.err, line, i, &mut text);
+    let loaded = files::load(to, line, i, &mut text);
     if loaded.status != DONE {
         return loaded.status;
     }
@@ -81,7 +83,7 @@ pub fn load_names(to: To, line: &[u8], count: usize, text: &mut [u8], names: &mu
             bytes: 0,
         };
     }
-    let loaded = files::load(to.err, line, 3, text);
+    let loaded = files::load(to, line, 3, text);
     if loaded.status != DONE {
         return loaded;
     }

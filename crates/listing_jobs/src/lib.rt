@@ -1,5 +1,7 @@
 // The jobs on listings: each reads the files that the words of its command line name, calls the front, writes the result, and answers the
 // status.
+#![tactic(auto)]
+
 ghost use Rattle.std.specs.Prelude.{◌≤◌, length};
 
 use entity_manifest::{Kind, Reply};
@@ -16,7 +18,7 @@ fn refuse_adding(to: To, line: &[u8], i: usize, count: usize, number: u64) -> u6
         return status;
     }
     let mut name = io::buffer();
-    let n = files::word(line, i, &mut name);
+    let n = files::word(to.rt, line, i, &mut name);
     messages::say_unadded(to.err, &name[..n], number);
     REFUSED
 }
@@ -85,7 +87,7 @@ fn type_file(to: To, line: &[u8], schema: &[u64]) -> u64 {
         return read;
     }
     let mut name = io::buffer();
-    let letters = files::word(line, 3, &mut name);
+    let letters = files::word(to.rt, line, 3, &mut name);
     write_typed(to, &name[..letters], schema, &manifest)
 }
 

@@ -1,4 +1,6 @@
 // What the programs that replay vectors of loading share: items of a data file read into words, and words shown.
+#![tactic(auto)]
+
 mod items;
 mod shown;
 

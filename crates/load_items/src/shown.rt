@@ -1,7 +1,6 @@
 // Words of a load shown: rows asked, ancestors requests, slices and values.
 use answers::Head;
-use cases::print;
-use libc::STDOUT_FILENO;
+use cases::{STDOUT_FILENO, print};
 use values::ValueRow;
 
 // The most words that are shown.
@@ -43,7 +42,7 @@ impl Asked {
 }
 
 // What a call hands out.
-#[derive(Drop)]
+#[derive(Clone, Copy)]
 pub enum Handed {
     Rows,
     Requests,
@@ -51,7 +50,7 @@ pub enum Handed {
 }
 
 // How much of it is not shown yet: heads or rows asked, ids behind a head, and rows of a value.
-#[derive(Drop)]
+#[derive(Clone, Copy)]
 struct Left {
     heads: u64,
     ids: u64,

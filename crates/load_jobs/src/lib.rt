@@ -1,4 +1,6 @@
 // The job that tries a load: a manifest, a request, and one store or several copies of it, which answer in turn.
+#![tactic(auto)]
+
 mod running;
 mod telling;
 mod texts;

@@ -40,7 +40,7 @@ fn end_log(to: To, reply: LoadReply) -> u64 {
 // Says a refusal of what a word names.
 fn say(to: To, line: &[u8], word: usize, is_asking: bool, reply: LoadReply) {
     let mut name = io::buffer();
-    let n = files::word(line, word, &mut name);
+    let n = files::word(to.rt, line, word, &mut name);
     let LoadReply::Refused(number, place) = reply else {
         messages::say_unloaded(to.err, &name[..n], 12, 0, is_asking);
         return;

@@ -32,7 +32,7 @@ fn not_asked(status: u64) -> Asked {
 // Reads the request that word 3 names, its context into words.
 pub fn read_request(to: To, line: &[u8], count: usize, context: &mut [u64]) -> Asked {
     let mut text = [0u8; 65_537];
-    let loaded = files::load(to.err, line, 3, &mut text);
+    let loaded = files::load(to, line, 3, &mut text);
     if loaded.status != DONE {
         return not_asked(loaded.status);
     }
@@ -54,7 +54,7 @@ pub fn read_request(to: To, line: &[u8], count: usize, context: &mut [u64]) -> A
 // Reads the store that word i names.
 fn read_store(to: To, line: &[u8], i: usize, count: usize, store: &mut [u64]) -> u64 {
     let mut text = [0u8; 65_537];
-    let loaded = files::load(to.err, line, i, &mut text);
+    let loaded = files::load(to, line, i, &mut text);
     if loaded.status != DONE {
         return loaded.status;
     }

@@ -1,4 +1,6 @@
 // The lines of a load's log (docs/FORMS.md, 'Log of a load'), each written as it comes.
+#![tactic(auto)]
+
 mod line;
 mod requests;
 mod rows;

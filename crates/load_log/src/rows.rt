@@ -9,7 +9,7 @@ use values::{EntityRequest, ValueRow};
 pub const BATCH: usize = 4_096;
 
 // What each word is.
-#[derive(Drop)]
+#[derive(Clone, Copy)]
 pub enum Each {
     Parent,
     Value,

@@ -1,5 +1,7 @@
 // Replays the vectors of data/: scripts of calls on the state of one load, and what each call answers and hands out. Of those of data/oracle the
 // file stdout has the published Rust's answers.
+#![tactic(auto)]
+
 ghost use Rattle.std.specs.Prelude.{◌≤◌};
 
 use cases::print;
@@ -301,15 +303,15 @@ fn replay_all(text: &[u8], requests: &mut [u64; REQUESTS]) {
     }
 }
 
-fn replay_file(path: &[u8], requests: &mut [u64; REQUESTS]) {
+fn replay_file(rt: HostRuntime, path: &str, requests: &mut [u64; REQUESTS]) {
     let mut buffer = io::large_buffer();
-    let n = cases::read_file(path, &mut buffer);
+    let n = cases::read_file(rt, path, &mut buffer);
     replay_all(&buffer[..n], requests);
 }
 
-fn main() {
+fn main(rt: HostRuntime) {
     let mut requests = [BLANK; REQUESTS];
-    replay_file(b"cases", &mut requests);
-    replay_file(b"cases2", &mut requests);
-    replay_file(b"oracle", &mut requests);
+    replay_file(rt, "cases", &mut requests);
+    replay_file(rt, "cases2", &mut requests);
+    replay_file(rt, "oracle", &mut requests);
 }

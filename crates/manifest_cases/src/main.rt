@@ -1,5 +1,7 @@
 // Replays the vectors of data/: texts that are read and written again, contributions that are added in many orders, manifests that are
 // united in place.
+#![tactic(auto)]
+
 ghost use Rattle.std.specs.Prelude.{◌≤◌, length};
 ghost use Rattle.io.specs.Counts.{IsPrefixLen};
 
@@ -326,15 +328,15 @@ fn replay_all(text: &[u8]) {
     }
 }
 
-fn replay_file(path: &[u8]) {
+fn replay_file(rt: HostRuntime, path: &str) {
     let mut buffer = io::large_buffer();
-    let n = cases::read_file(path, &mut buffer);
+    let n = cases::read_file(rt, path, &mut buffer);
     replay_all(&buffer[..n]);
 }
 
 // The crate's own vectors, a sample of the published Rust's answers, and the vectors of uniting in place.
-fn main() {
-    replay_file(b"cases");
-    replay_file(b"oracle");
-    replay_file(b"unite");
+fn main(rt: HostRuntime) {
+    replay_file(rt, "cases");
+    replay_file(rt, "oracle");
+    replay_file(rt, "unite");
 }

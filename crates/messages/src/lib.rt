@@ -1,7 +1,9 @@
 // Refusals in words: the number and its place, the line as editors count it, what was expected, and what was met.
+#![tactic(auto)]
+
 ghost use Rattle.std.specs.Prelude.{◌≤◌, length};
 
-use files::{say, say_line, say_name, say_number};
+use files::{Stream, say, say_line, say_name, say_number};
 use forms::Form;
 use pieces::{depth_of, entry_of, is_word, line_number, line_of, node_of};
 
@@ -17,7 +19,7 @@ fn is_end(text: &[u8], line: &[u8], from: usize) -> bool {
 }
 
 // 2: the listing's order.
-fn say_order(err: i32, line: &[u8], before: &[u8], place: u64) {
+fn say_order(err: Stream, line: &[u8], before: &[u8], place: u64) {
     if is_word(line, 0, b"A") {
         say(err, b"request types ascend strictly");
         return;
@@ -42,7 +44,7 @@ fn say_order(err: i32, line: &[u8], before: &[u8], place: u64) {
 }
 
 // 4: too many nodes.
-fn say_nodes(err: i32, form: Form, is_end: bool) {
+fn say_nodes(err: Stream, form: Form, is_end: bool) {
     if is_end {
         say(
             err,
@@ -59,7 +61,7 @@ fn say_nodes(err: i32, form: Form, is_end: bool) {
 }
 
 // 5: too many request types.
-fn say_types(err: i32, form: Form) {
+fn say_types(err: Stream, form: Form) {
     match form {
         Form::Policy => say(
             err,
@@ -71,7 +73,7 @@ fn say_types(err: i32, form: Form) {
 }
 
 // 6: results.
-fn say_results(err: i32, line: &[u8], is_end: bool) {
+fn say_results(err: Stream, line: &[u8], is_end: bool) {
     if is_end {
         say(err, b"not one result at the end");
         return;
@@ -88,7 +90,7 @@ fn say_results(err: i32, line: &[u8], is_end: bool) {
 }
 
 // A number's reason, at a line and with the line before it.
-fn say_reason(err: i32, number: u64, line: &[u8], before: &[u8], place: u64) {
+fn say_reason(err: Stream, number: u64, line: &[u8], before: &[u8], place: u64) {
     match number {
         2 => say_order(err, line, before, place),
         3 => say(err, b"a position would exceed 24 steps"),
@@ -111,7 +113,7 @@ fn before_of(text: &[u8], place: u64) -> pieces::Piece
 }
 
 // What was expected at a place of a text.
-fn say_expected(err: i32, form: Form, number: u64, place: u64, text: &[u8]) {
+fn say_expected(err: Stream, form: Form, number: u64, place: u64, text: &[u8]) {
     let at = line_of(text, place);
     let from = at.from;
     let to = at.to;
@@ -131,7 +133,7 @@ fn say_expected(err: i32, form: Form, number: u64, place: u64, text: &[u8]) {
 }
 
 // What was met at a place of a text.
-fn say_met(err: i32, place: u64, text: &[u8]) {
+fn say_met(err: Stream, place: u64, text: &[u8]) {
     let at = line_of(text, place);
     let from = at.from;
     let to = at.to;
@@ -149,7 +151,7 @@ fn say_met(err: i32, place: u64, text: &[u8]) {
 }
 
 // `terbagyl: FILE: refused N`
-fn say_number_of(err: i32, name: &[u8], number: u64) {
+fn say_number_of(err: Stream, name: &[u8], number: u64) {
     say(err, b"terbagyl: ");
     say_name(err, name);
     say(err, b": refused ");
@@ -157,7 +159,7 @@ fn say_number_of(err: i32, name: &[u8], number: u64) {
 }
 
 // `terbagyl: FILE: refused N at P (line L): what was expected; met LINE`
-pub fn say_refused(err: i32, name: &[u8], form: Form, number: u64, place: u64, text: &[u8]) {
+pub fn say_refused(err: Stream, name: &[u8], form: Form, number: u64, place: u64, text: &[u8]) {
     say_number_of(err, name, number);
     say(err, b" at ");
     say_number(err, place);
@@ -173,7 +175,7 @@ pub fn say_refused(err: i32, name: &[u8], form: Form, number: u64, place: u64, t
 }
 
 // `terbagyl: FILE: refused N at 0: the manifest would have too much`
-pub fn say_unadded(err: i32, name: &[u8], number: u64) {
+pub fn say_unadded(err: Stream, name: &[u8], number: u64) {
     say_number_of(err, name, number);
     match number {
         4 => say(
@@ -189,7 +191,7 @@ pub fn say_unadded(err: i32, name: &[u8], number: u64) {
 }
 
 // 9: what the schema does not say of a node's root.
-fn say_unknown(err: i32, node: &[u8]) {
+fn say_unknown(err: Stream, node: &[u8]) {
     if is_word(node, 2, b"a") {
         say(err, b"the schema has no L line for the action");
         return;
@@ -202,7 +204,7 @@ fn say_unknown(err: i32, node: &[u8]) {
 }
 
 // Why a node cannot be typed.
-fn say_untypable(err: i32, number: u64, node: &[u8]) {
+fn say_untypable(err: Stream, number: u64, node: &[u8]) {
     match number {
         9 => say_unknown(err, node),
         10 => say(
@@ -215,7 +217,7 @@ fn say_untypable(err: i32, number: u64, node: &[u8]) {
 }
 
 // `terbagyl: NAME: refused N at P (line L): reason; met LINE under A LINE`: node P of a listing cannot be typed.
-pub fn say_untyped(err: i32, name: &[u8], number: u64, place: u64, listing: &[u8]) {
+pub fn say_untyped(err: Stream, name: &[u8], number: u64, place: u64, listing: &[u8]) {
     let at = node_of(listing, place);
     let from = at.from;
     let to = at.to;
@@ -237,7 +239,7 @@ pub fn say_untyped(err: i32, name: &[u8], number: u64, place: u64, listing: &[u8
 }
 
 // 15: too much is loaded, or asked for.
-fn say_large(err: i32, is_asking: bool) {
+fn say_large(err: Stream, is_asking: bool) {
     if is_asking {
         say(err, b"over 256 ids in one ancestors request");
         return;
@@ -246,7 +248,7 @@ fn say_large(err: i32, is_asking: bool) {
 }
 
 // Why a load is refused; `is_asking` where ancestors were to be asked for.
-fn say_unloadable(err: i32, number: u64, is_asking: bool) {
+fn say_unloadable(err: Stream, number: u64, is_asking: bool) {
     match number {
         12 => say(err, b"another count of answers than of rows"),
         13 => say(err, b"two answers to one entity do not agree"),
@@ -260,7 +262,7 @@ fn say_unloadable(err: i32, number: u64, is_asking: bool) {
 }
 
 // `terbagyl: FILE: refused N at P: reason`: a load cannot go on for what FILE says.
-pub fn say_unloaded(err: i32, name: &[u8], number: u64, place: u64, is_asking: bool) {
+pub fn say_unloaded(err: Stream, name: &[u8], number: u64, place: u64, is_asking: bool) {
     say_number_of(err, name, number);
     say(err, b" at ");
     say_number(err, place);
@@ -270,7 +272,7 @@ pub fn say_unloaded(err: i32, name: &[u8], number: u64, place: u64, is_asking: b
 }
 
 // `terbagyl: cannot: reason; see terbagyl help`
-pub fn say_misused(err: i32, reason: &[u8], about: &[u8]) {
+pub fn say_misused(err: Stream, reason: &[u8], about: &[u8]) {
     say(err, b"terbagyl: cannot: ");
     say(err, reason);
     say_name(err, about);

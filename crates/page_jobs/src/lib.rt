@@ -1,4 +1,6 @@
 // `page FILE [NAMES]`: a manifest as one HTML page that needs nothing else.
+#![tactic(auto)]
+
 mod markup;
 mod writing;
 

@@ -1,4 +1,6 @@
 // The jobs on policies: a manifest built of policy texts, also typed, and a step text analysed.
+#![tactic(auto)]
+
 use entity_manifest::{Kind, Reply};
 use files::{DONE, To};
 use forms::Form;
@@ -14,7 +16,7 @@ fn add_policy(
     manifest: &mut [u64],
 ) -> u64 {
     let mut text = [0u8; 65_537];
-    let loaded = files::load(to.err, line, i, &mut text);
+    let loaded = files::load(to, line, i, &mut text);
     if loaded.status != DONE {
         return loaded.status;
     }
@@ -69,7 +71,7 @@ pub fn analyse(to: To, line: &[u8], request: u64) -> u64 {
         return read;
     }
     let mut text = [0u8; 65_537];
-    let loaded = files::load(to.err, line, 6, &mut text);
+    let loaded = files::load(to, line, 6, &mut text);
     if loaded.status != DONE {
         return loaded.status;
     }

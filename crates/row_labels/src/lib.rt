@@ -1,4 +1,6 @@
 // A manifest's rows in words, for people: names where a table has them, bytes that wait until they are written, and the walk over the rows.
+#![tactic(auto)]
+
 mod labels;
 mod sink;
 mod walking;

@@ -1,16 +1,16 @@
 // Bytes on their way to standard output: they wait in a buffer, and are written whenever it is full.
 ghost use Rattle.std.specs.Prelude.{◌≡◌, ◌≤◌, ◌<◌, length};
 
-use files::{DONE, To};
+use files::{DONE, Stream, To};
 
 // The buffer's length; fewer bytes wait.
 pub const ROOM: usize = 8_192;
 
 // Where bytes go, how many wait in the buffer, the status of what was written, and whether names are escaped for HTML.
-#[derive(Drop)]
+#[derive(Clone, Copy)]
 pub struct Sink {
-    pub out: i32,
-    pub err: i32,
+    pub out: Stream,
+    pub err: Stream,
     pub waiting: usize,
     pub status: u64,
     pub escapes: bool,

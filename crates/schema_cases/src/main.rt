@@ -1,8 +1,9 @@
 // Replays the vectors of data/cases: texts of schemas and name tables that are read, with the words that they give.
+#![tactic(auto)]
+
 ghost use Rattle.std.specs.Prelude.{◌≤◌, length};
 
-use cases::{print, print_refused};
-use libc::STDOUT_FILENO;
+use cases::{STDOUT_FILENO, print, print_refused};
 use text::Line;
 use words::Reply;
 
@@ -103,8 +104,8 @@ fn replay_all(text: &[u8]) {
     }
 }
 
-fn main() {
+fn main(rt: HostRuntime) {
     let mut buffer = io::large_buffer();
-    let n = cases::read_file(b"cases", &mut buffer);
+    let n = cases::read_file(rt, "cases", &mut buffer);
     replay_all(&buffer[..n]);
 }

@@ -1,5 +1,7 @@
 // Replays the vectors of data/: step texts under request type (10, 500, 20), and policy texts, with their schema, in data/oracle also with the
 // Rust's answer.
+#![tactic(auto)]
+
 use cases::print;
 use entity_manifest::{Kind, Reply, Written};
 use schema::Schema;
@@ -120,20 +122,20 @@ fn replay_all(text: &[u8]) {
     }
 }
 
-fn replay_file(path: &[u8]) {
+fn replay_file(rt: HostRuntime, path: &str) {
     let mut buffer = io::large_buffer();
-    let n = cases::read_file(path, &mut buffer);
+    let n = cases::read_file(rt, path, &mut buffer);
     replay_all(&buffer[..n]);
 }
 
-fn main() {
-    replay_file(b"cases");
-    replay_file(b"cases2");
-    replay_file(b"cases3");
-    replay_file(b"cases4");
-    replay_file(b"cases5");
-    replay_file(b"cases6");
-    replay_file(b"cases7");
-    replay_file(b"cases8");
-    replay_file(b"oracle");
+fn main(rt: HostRuntime) {
+    replay_file(rt, "cases");
+    replay_file(rt, "cases2");
+    replay_file(rt, "cases3");
+    replay_file(rt, "cases4");
+    replay_file(rt, "cases5");
+    replay_file(rt, "cases6");
+    replay_file(rt, "cases7");
+    replay_file(rt, "cases8");
+    replay_file(rt, "oracle");
 }

@@ -1,4 +1,6 @@
 // Replays the vectors of data/cases: each line has a kind, an input in escapes, and the answer that is expected.
+#![tactic(auto)]
+
 ghost use Rattle.io.specs.Counts.{IsPrefixLen};
 
 use text::{Decimal, Field, Line, Number};
@@ -117,8 +119,8 @@ fn replay_all(text: &[u8]) {
     }
 }
 
-fn main() {
+fn main(rt: HostRuntime) {
     let mut buffer = io::large_buffer();
-    let n = cases::read_file(b"cases", &mut buffer);
+    let n = cases::read_file(rt, "cases", &mut buffer);
     replay_all(&buffer[..n]);
 }

@@ -1,4 +1,6 @@
 // `tree FILE [NAMES]`: a manifest drawn as an indented tree, with names.
+#![tactic(auto)]
+
 ghost use Rattle.std.specs.Prelude.{◌<◌, length};
 
 use files::{DONE, To};

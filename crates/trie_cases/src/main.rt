@@ -1,4 +1,6 @@
 // Replays the vectors of data/: lines that fill two states and an expected one, and lines that ask for a union or a place.
+#![tactic(auto)]
+
 ghost use Rattle.std.specs.Prelude.{◌≤◌, ◌<◌, length};
 
 use cases::{kind_of, print, print_refused};
@@ -231,14 +233,14 @@ fn replay_all(text: &[u8]) {
     }
 }
 
-fn replay_file(path: &[u8]) {
+fn replay_file(rt: HostRuntime, path: &str) {
     let mut buffer = io::large_buffer();
-    let n = cases::read_file(path, &mut buffer);
+    let n = cases::read_file(rt, path, &mut buffer);
     replay_all(&buffer[..n]);
 }
 
 // The crate's own vectors, and a sample of the published Rust's answers.
-fn main() {
-    replay_file(b"cases");
-    replay_file(b"oracle");
+fn main(rt: HostRuntime) {
+    replay_file(rt, "cases");
+    replay_file(rt, "oracle");
 }

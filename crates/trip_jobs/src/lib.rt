@@ -1,4 +1,6 @@
 // `trips FILE [NAMES]`: what a load takes at most for each request type of a manifest, with names.
+#![tactic(auto)]
+
 ghost use Rattle.std.specs.Prelude.{◌≡◌, ◌≤◌, ◌<◌, length};
 
 use entity_manifest::{Bound, TripBound, trip_bound};

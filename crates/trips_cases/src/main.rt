@@ -1,9 +1,10 @@
 // Replays the vectors of data/: what a load for a request type takes at most by a manifest, or the refusal.
+#![tactic(auto)]
+
 ghost use Rattle.std.specs.Prelude.{◌≤◌, length};
 
-use cases::{print, print_refused};
+use cases::{STDOUT_FILENO, print, print_refused};
 use entries::{Bound, TripBound};
-use libc::STDOUT_FILENO;
 use rows::Kind;
 use text::Line;
 use words::Reply;
@@ -130,8 +131,8 @@ fn replay_all(text: &[u8]) {
     }
 }
 
-fn main() {
+fn main(rt: HostRuntime) {
     let mut buffer = io::large_buffer();
-    let n = cases::read_file(b"cases", &mut buffer);
+    let n = cases::read_file(rt, "cases", &mut buffer);
     replay_all(&buffer[..n]);
 }

@@ -1,10 +1,11 @@
 // Replays the vectors of data/: manifests typed by a schema, with what is left of them and the type of each node, or the refusal. Of those of
 // data/oracle the file stdout has the published Rust's answers.
+#![tactic(auto)]
+
 ghost use Rattle.std.specs.Prelude.{◌≤◌, length};
 
-use cases::{print, print_refused};
+use cases::{STDOUT_FILENO, print, print_refused};
 use entity_manifest::{Kind, Reply, Written};
-use libc::STDOUT_FILENO;
 use rows::Row;
 use text::Line;
 
@@ -282,13 +283,13 @@ fn replay_all(text: &[u8]) {
     }
 }
 
-fn replay_file(path: &[u8]) {
+fn replay_file(rt: HostRuntime, path: &str) {
     let mut buffer = io::large_buffer();
-    let n = cases::read_file(path, &mut buffer);
+    let n = cases::read_file(rt, path, &mut buffer);
     replay_all(&buffer[..n]);
 }
 
-fn main() {
-    replay_file(b"cases");
-    replay_file(b"oracle");
+fn main(rt: HostRuntime) {
+    replay_file(rt, "cases");
+    replay_file(rt, "oracle");
 }

@@ -1,9 +1,10 @@
 // Replays the vectors of data/cases: runs of value rows judged and merged, walks over nodes and values, first batches, and answers as lent.
+#![tactic(auto)]
+
 ghost use Rattle.std.specs.Prelude.{◌<◌};
 
 use answers::{Checked, Lending, Summed};
-use cases::print;
-use libc::STDOUT_FILENO;
+use cases::{STDOUT_FILENO, print};
 use load_items::{Handed, read_field, show_values, show_words};
 use merging::Merged;
 use row_walk::{Batch, Request};
@@ -260,8 +261,8 @@ fn replay_all(text: &[u8]) {
     }
 }
 
-fn main() {
+fn main(rt: HostRuntime) {
     let mut buffer = io::large_buffer();
-    let n = cases::read_file(b"cases", &mut buffer);
+    let n = cases::read_file(rt, "cases", &mut buffer);
     replay_all(&buffer[..n]);
 }

@@ -1,3 +1,4 @@
+-- `pieces::entry_before` meets its contract: its place falls.
 use Prim.Native.Nat.{◌≤◌}
 use lib.ListN.{length}
 use Rattle.pieces.proofs.entry_before.Given as goal

@@ -1,3 +1,4 @@
+-- `pieces::has_fields` ends: the bytes left fall, and there are no more tabs than bytes.
 use Prim.Native.Nat.{◌+◌, ◌-◌, ◌≤◌}
 use lib.ListN.{length}
 use Rattle.pieces.proofs.has_fields.Given as goal

@@ -1,3 +1,4 @@
+-- `pieces::has_gap` ends: the bytes left fall.
 use Prim.Native.Nat.{◌-◌}
 use lib.ListN.{length}
 use Rattle.pieces.proofs.has_gap.Given as goal

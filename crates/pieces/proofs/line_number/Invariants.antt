@@ -1,3 +1,4 @@
+-- `pieces::line_number` ends: the bytes left fall, and there are no more lines than bytes and one.
 use Prim.Native.Nat.{◌+◌, ◌-◌, ◌≤◌}
 use Rattle.pieces.proofs.line_number.Given as goal
 

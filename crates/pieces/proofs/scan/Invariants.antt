@@ -1,3 +1,4 @@
+-- `pieces::scan` meets its contract: the bytes left fall.
 use Prim.Native.Nat.{◌-◌, ◌≤◌}
 use lib.ListN.{length}
 use Rattle.pieces.proofs.scan.Given as goal

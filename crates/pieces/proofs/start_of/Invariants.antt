@@ -1,3 +1,4 @@
+-- `pieces::start_of` meets its contract: the pieces left fall.
 use Prim.Native.Nat.{◌≤◌}
 use lib.ListN.{length}
 use Rattle.pieces.proofs.start_of.Given as goal
