@@ -1,5 +1,7 @@
 // What is asked of a text with a schema: the contribution of step lines, or all contributions of a policy text added to a manifest. Each is
 // worked out on a small stack, and on a large one where that is full.
+#![tactic(auto)]
+
 ghost use Rattle.std.specs.Prelude.{◌≡◌, true, ◌^◌, ◌<◌, length};
 ghost use Rattle.schema.specs.Items.{items_of, good_items};
 ghost use Rattle.type_table.specs.Tables.{GoodTypes};
@@ -20,7 +22,7 @@ use words::Reply;
 use wrapped_paths::WrappedAccessPaths;
 
 // What is asked of a text: the contribution of its steps under a request type, or that all its contributions are added.
-#[derive(Drop)]
+#[derive(Clone, Copy)]
 enum Job {
     Steps(u64),
     Policy,

@@ -1,6 +1,6 @@
 -- What is wanted as a set and a run of words, and what taking events leaves.
 use Rattle.std.specs.Prelude.{ℕ, ◌≤◌, ◌≡◌, cond, List, length, take}
-use Rattle.rules.specs.Tries.{Row, ids}
+use Rattle.rules.specs.Tries.{Row}
 use Rattle.rules.specs.Loading.{LoadAnswer, done, refused_at, EntityRequest, Wanted, take_id, is_marked}
 use Rattle.slices.specs.Slices.{rows_asked}
 use Rattle.ancestors.specs.Sets.{ids_of, IsSet}

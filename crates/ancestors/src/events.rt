@@ -16,7 +16,7 @@ use rows::Row;
 use values::{EntityRequest, ValueRow};
 
 // How many rows wait, or the number of a refusal: 14 or 15.
-#[derive(Drop)]
+#[derive(Clone, Copy)]
 pub enum Next {
     To(usize),
     Refused(u64),

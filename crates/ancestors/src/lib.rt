@@ -1,4 +1,6 @@
 // The ids that ancestors requests ask for (`compute_ancestors_request`).
+#![tactic(auto)]
+
 mod events;
 mod initial;
 mod requests;

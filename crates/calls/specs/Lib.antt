@@ -1,12 +1,3 @@
--- What calls one after the other promise. No code: each operation's promise is said in its own crate, and Demand3InCalls and TripsInCalls say what follows.
+-- What calls one after the other leave and report, as definitions; proofs/ says what follows.
 pub mod Calls
-pub mod StoringLaws
-pub mod BuildsInLaws
-pub mod SchemaReadLaws
-pub mod HandedLaws
-pub mod JobLaws
-pub mod PoliciesInLaws
-pub mod Demand3InCalls
 pub mod LoadsIn
-pub mod TripsInLaws
-pub mod TripsInCalls

@@ -1,4 +1,6 @@
 // The state of a load (docs/FORMS.md, 'Load state'): the transcript that it is, and the load that it tells of.
+#![tactic(auto)]
+
 mod parts;
 mod turns;
 mod working;
@@ -9,7 +11,7 @@ pub use working::{Worked, nodes_from};
 
 // What a call of a load answers: done, with its own count and the batches and rows asked so far; refused with a number and a place; or 12,
 // with how many answers were expected and how many were got.
-#[derive(Drop)]
+#[derive(Clone, Copy)]
 pub enum LoadReply {
     Done(u64, u64, u64),
     Refused(u64, u64),

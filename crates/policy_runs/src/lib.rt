@@ -1,4 +1,6 @@
 // The run over a policy text: its step lines on a stack, and each contribution added to a manifest where it ends.
+#![tactic(auto)]
+
 ghost use Rattle.std.specs.Prelude.{◌≡◌, ◌^◌, ◌<◌, ◌≤◌, length};
 ghost use Rattle.rules.specs.Policies.{request_in};
 ghost use Rattle.schema.specs.Items.{items_of};

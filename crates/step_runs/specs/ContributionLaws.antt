@@ -1,5 +1,5 @@
 -- Laws of what analysing answers, by what the text gives. No contract cites this file.
-use Rattle.std.specs.Prelude.{ℕ, ◌+◌, ◌-◌, ◌≡◌, refl, false, List, [], ◌∷◌, ◌++◌, ◌≢◌, drop}
+use Rattle.std.specs.Prelude.{ℕ, ◌≡◌, refl, false, List, [], ◌∷◌, ◌++◌, ◌≢◌, drop}
 use Rattle.rules.specs.Numbers.{refused}
 use Rattle.rules.specs.Tries.{Row}
 use Rattle.rules.specs.Listing.{read}

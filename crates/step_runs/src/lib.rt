@@ -1,4 +1,6 @@
 // The run over step lines: one line on the stack, all lines of a text, and the contribution of the one result that is left.
+#![tactic(auto)]
+
 ghost use Rattle.std.specs.Prelude.{◌≡◌, false, List, ◌∷◌, ◌++◌, ℕ, ◌^◌, ◌<◌, ◌≤◌, length, drop};
 ghost use Rattle.rules.specs.Tries.{Row as RowOf};
 ghost use Rattle.rules.specs.Listing.{read};

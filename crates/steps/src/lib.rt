@@ -1,4 +1,6 @@
 // A step by its kind.
+#![tactic(auto)]
+
 ghost use Rattle.std.specs.Prelude.{◌≡◌, ◌≤◌, length};
 ghost use Rattle.rules.specs.Steps.{stepped as stepped_by};
 ghost use Rattle.schema.specs.Items.{items_of};

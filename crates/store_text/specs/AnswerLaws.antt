@@ -1,7 +1,7 @@
 -- Laws of what a store answers (Answering). No contract cites this file.
 use Prim.Native.Nat.{ℕ, suc, ◌+◌, ◌-◌, ◌*◌, ◌%◌, ◌^◌, ◌≤◌, ◌<◌}
 use Rattle.std.proofs.Math.Nat.{add-zero, sub-zero}
-use Rattle.std.proofs.Common.{add-one, sym, ◌∙◌, drop_of_length-le}
+use Rattle.std.proofs.Common.{add-one, sym, ap, ◌∙◌, drop_of_length-le}
 use native.Mathlib.Omega.{arith}
 use Rattle.std.specs.Prelude.{false, cond, ◌≢◌, ◌≡◌, eqb, take, get_or, set}
 use mathlib.Core.List.{List, [], ◌∷◌, ◌++◌, map, append_assoc, append-nil}
@@ -257,7 +257,10 @@ module _ {us asked out₀ : List ℕ} {to : ℕ} {out : List ℕ} {next i j : �
       ups = merging.ups;
       total =
           merging.total
-          ∙ rw (asks_left, ups_left, eq-eqb there ask same) (sym (append_assoc merging.done (ask ∷ []) (among_of (there ∷ drop (j + 1) us) (drop (i + 1) asked))));
+          ∙ rw (asks_left, ups_left, eq-eqb there ask same) (
+          sym (append_assoc merging.done (ask ∷ []) (among_of (drop j us) (drop (i + 1) asked)))
+          ∙ ap (λ (l : List ℕ). (merging.done ++ (ask ∷ [])) ++ among_of l (drop (i + 1) asked)) ups_left
+          );
     }
 
     pub merging_above : get_or asked i 0 < get_or us j 0 → AmongMerged us asked out₀ to out next (i + 1) j
@@ -272,7 +275,8 @@ module _ {us asked out₀ : List ℕ} {to : ℕ} {out : List ℕ} {next i j : �
       ups = merging.ups;
       total =
           merging.total
-          ∙ rw (asks_left, ups_left, ne_eqb there ask (λ same. omega arith), not-one (suc there) ask (drop (j + 1) us) (omega arith) ups_here.1);
+          ∙ rw (asks_left, ups_left, ne_eqb there ask (λ same. omega arith), not-one (suc there) ask (drop (j + 1) us) (omega arith) ups_here.1)
+          (ap (λ (l : List ℕ). merging.done ++ among_of l (drop (i + 1) asked)) ups_left);
     }
 
 -- ---- an answer

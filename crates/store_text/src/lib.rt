@@ -1,4 +1,6 @@
 // A store's text (docs/FORMS.md), read line after line into a word each, and what a store answers from these words.
+#![tactic(auto)]
+
 mod answering;
 mod line;
 mod order;

@@ -17,7 +17,7 @@ right-in : (s : Start) → s.args.c.b < length s.args.b.now
 right-in s = second_in s.args.a.now s.args.b.now s.args.c.a s.args.c.b _ _ refl refl (omega (arith, s.requires.b_bound.1)) s.requires.b_bound.0
 
 turn : (s : Start) → let a = s.args in UnionTurn a.a.now a.b.now a.c.a a.c.b (joined_word (get_or a.a.now a.c.a 0) (get_or a.b.now a.c.b 0)) (a.c.a + 1) (a.c.b + 1)
-turn s = turn_same _ _ _ _ s.requires.merge_room.in_a s.requires.merge_room.in_b ((let left_in-here : s.args.c.a < length s.args.a.now = first_in s.args.a.now s.args.b.now s.args.c.a s.args.c.b _ _ refl refl (omega (arith, s.requires.b_bound.1)) s.requires.b_bound.0 in left_in-here)) ((let right-in-here : s.args.c.b < length s.args.b.now = second_in s.args.a.now s.args.b.now s.args.c.a s.args.c.b _ _ refl refl (omega (arith, s.requires.b_bound.1)) s.requires.b_bound.0 in right-in-here)) s.requires.b_bound.1
+turn s = turn_same _ _ _ _ s.requires.merge_room.in_a s.requires.merge_room.in_b (left_in s) (right-in s) s.requires.b_bound.1
 
 pub offset_bounds-a-i : goal.offset_bounds-a-i
 offset_bounds-a-i c = omega (arith, left_in (goal.at.offset_bounds-a-i c).Start)

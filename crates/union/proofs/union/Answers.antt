@@ -30,11 +30,11 @@ lawful-b : (c : Else-not-is_lawful-2) → let s = c.args in lawful_state (form_o
 lawful-b c = sym c.is_lawful-2.ensures ∙ c.if-not-is_lawful-2.false
 
 -- the counts lie within the states
-count-a : (c : Else-not-is_lawful-2) → let s = c.args in get_or s.a.now 0 0 < length s.a.now
-count-a c = count_within _ _ ((let lawful-a-here : let s = c.args in lawful_state (form_of s.kind) s.a.now ≡ true = sym c.is_lawful.ensures ∙ c.if-not-is_lawful.false in lawful-a-here))
+count-a : (c : Else-not-is_lawful-2) → (let s = c.args in lawful_state (form_of s.kind) s.a.now ≡ true) → let s = c.args in get_or s.a.now 0 0 < length s.a.now
+count-a c lawful-a-here = count_within _ _ lawful-a-here
 
 count-b : (c : Else-not-is_lawful-2) → let s = c.args in get_or s.b.now 0 0 < length s.b.now
-count-b c = count_within _ _ ((let lawful-b-here : let s = c.args in lawful_state (form_of s.kind) s.b.now ≡ true = sym c.is_lawful-2.ensures ∙ c.if-not-is_lawful-2.false in lawful-b-here))
+count-b c = count_within _ _ (lawful-b c)
 
 pub returns-then-a-words : goal.returns-then-a-words
 returns-then-a-words c = let s = c.args in by_parts (union_short_a s.kind s.a.now s.b.now s.out.now (omega (arith, c.words-words.ensures, c.if-a-words.true)))
@@ -52,10 +52,10 @@ pub returns-then-not-is_lawful-2 : goal.returns-then-not-is_lawful-2
 returns-then-not-is_lawful-2 c = let s = c.args in by_parts (union_unlawful_b s.kind s.a.now s.b.now s.out.now (long-a (goal.at.returns-then-not-is_lawful-2 c).Else-a-words) (long-b (goal.at.returns-then-not-is_lawful-2 c).Else-b-words) (long-out (goal.at.returns-then-not-is_lawful-2 c).Else-out-words) (lawful-a (goal.at.returns-then-not-is_lawful-2 c).Else-not-is_lawful) (sym c.is_lawful-2.ensures ∙ c.if-not-is_lawful-2.true))
 
 pub bounds-a-0 : goal.bounds-a-0
-bounds-a-0 c = omega (arith, count-a (goal.at.bounds-a-0 c).Else-not-is_lawful-2)
+bounds-a-0 c = omega (arith, count-a (goal.at.bounds-a-0 c).Else-not-is_lawful-2 (lawful-a (goal.at.bounds-a-0 c).Else-not-is_lawful))
 
 pub overflow_add-a_end : goal.overflow_add-a_end
-overflow_add-a_end c = omega (arith, count-a (goal.at.overflow_add-a_end c).Else-not-is_lawful-2)
+overflow_add-a_end c = omega (arith, count-a (goal.at.overflow_add-a_end c).Else-not-is_lawful-2 (lawful-a (goal.at.overflow_add-a_end c).Else-not-is_lawful))
 
 pub bounds-b-0 : goal.bounds-b-0
 bounds-b-0 c = omega (arith, count-b (goal.at.bounds-b-0 c).Else-not-is_lawful-2)
@@ -64,7 +64,7 @@ pub overflow_add-b_end : goal.overflow_add-b_end
 overflow_add-b_end c = omega (arith, count-b (goal.at.overflow_add-b_end c).Else-not-is_lawful-2)
 
 pub slice_bounds-union_rows-end : goal.slice_bounds-union_rows-end
-slice_bounds-union_rows-end c = omega (arith, count-a (goal.at.slice_bounds-union_rows-end c).Else-not-is_lawful-2)
+slice_bounds-union_rows-end c = omega (arith, count-a (goal.at.slice_bounds-union_rows-end c).Else-not-is_lawful-2 (lawful-a (goal.at.slice_bounds-union_rows-end c).Else-not-is_lawful))
 
 pub slice_bounds-union_rows-end-2 : goal.slice_bounds-union_rows-end-2
 slice_bounds-union_rows-end-2 c = omega (arith, count-b (goal.at.slice_bounds-union_rows-end-2 c).Else-not-is_lawful-2)

@@ -19,9 +19,9 @@ nodes-fit : (c : Else-limits-size-2) → c.judged_size-size.result.nodes ≤ c.l
 nodes-fit c = omega (arith, c.if-limits-size-2.false)
 
 -- the whole union fits behind its count
-fits : (c : Else-limits-size-2) → let a = c.args in 1 + length (union_words a.a.now a.b.now) ≤ length a.out.now
-fits c =
-    union_fits _ _ c.requires.0 c.requires.1 c.args.kind c.args.out.now c.judged_size-size.ensures c.limits-limits.ensures.1 c.limits-limits.ensures.2 ((let types-fit-here : c.judged_size-size.result.entries ≤ c.limits-limits.result.entries = omega (arith, c.if-limits-size.false) in types-fit-here)) ((let nodes-fit-here : c.judged_size-size.result.nodes ≤ c.limits-limits.result.nodes = omega (arith, c.if-limits-size-2.false) in nodes-fit-here)) c.requires.2
+fits : (c : Else-limits-size-2) → (c.judged_size-size.result.entries ≤ c.limits-limits.result.entries) → let a = c.args in 1 + length (union_words a.a.now a.b.now) ≤ length a.out.now
+fits c types-fit-here =
+    union_fits _ _ c.requires.0 c.requires.1 c.args.kind c.args.out.now c.judged_size-size.ensures c.limits-limits.ensures.1 c.limits-limits.ensures.2 types-fit-here (nodes-fit c) c.requires.2
 
 -- the place after the whole union
 end_of : (c : After-union_roots-end) → let a = c.args in c.union_roots-end.result.out ≡ 1 + length (union_words a.a.now a.b.now)
@@ -37,13 +37,13 @@ returns-then-limits-size-2 c =
     by_parts (union_many_nodes _ _ c.requires.0 c.requires.1 c.args.kind c.args.out.now c.judged_size-size.ensures c.limits-limits.ensures.1 c.limits-limits.ensures.2 (types-fit (goal.at.returns-then-limits-size-2 c).Else-limits-size) c.if-limits-size-2.true)
 
 pub union_roots-end-requires : goal.union_roots-end-requires
-union_roots-end-requires c = record { merge_room = room_start _ _ _ 1 (fits (goal.at.union_roots-end-requires c).Else-limits-size-2); left_bound = omega arith }
+union_roots-end-requires c = record { merge_room = room_start _ _ _ 1 (fits (goal.at.union_roots-end-requires c).Else-limits-size-2 (types-fit (goal.at.union_roots-end-requires c).Else-limits-size)); left_bound = omega arith }
 
 pub overflow_sub-out : goal.overflow_sub-out
 overflow_sub-out c = omega (arith, end_of (goal.at.overflow_sub-out c).After-union_roots-end)
 
 pub bounds-out-0 : goal.bounds-out-0
-bounds-out-0 c = omega (arith, fits (goal.at.bounds-out-0 c).Else-limits-size-2, stored_length c.union_roots-end.ensures.merged)
+bounds-out-0 c = omega (arith, fits (goal.at.bounds-out-0 c).Else-limits-size-2 (types-fit (goal.at.bounds-out-0 c).Else-limits-size), stored_length c.union_roots-end.ensures.merged)
 
 pub shape_of-out : goal.shape_of-out
 shape_of-out c = simp length-set (stored_length c.union_roots-end.ensures.merged)

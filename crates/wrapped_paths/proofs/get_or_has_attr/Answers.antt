@@ -29,14 +29,12 @@ turned :
     Turned a.code.now c.loop-left.from a.name c.loop-left.out c.loop-left.to c.extend.new.out (Next c.in-Next.moved)
 turned c = rw c.in-Next.is at c.extend.ensures
 
-fits : (c : In-Next) → c.in-Next.moved.to ≤ length c.loop-left.out
-fits c = going_fits ((let going-here : ExtendingPaths c.args.code.now c.requires.0.result.rest c.args.name c.requires.0.result.paths c.loop-left.out c.loop-left.places c.loop-left.from c.loop-left.to c.loop-left.left c.loop-left.grown = c.loop-left.invariant.1.1 c.requires.0.result.paths c.requires.0.result.rest c.requires.0.result.coded (all_grown c.args.name c.requires.0.result.paths c.ranges.name.fits c.requires.0.result.good_paths) in going-here)) c.loop-left-test.true ((let large-here : length (code c.requires.0.result.paths) + length (grown_in c.args.name c.requires.0.result.paths) ≤ length c.loop-left.out = omega (arith, c.requires.0.fits, c.loop-left.invariant.0) in large-here)) ((let turned-here : let a = c.args in Turned a.code.now c.loop-left.from a.name c.loop-left.out c.loop-left.to c.extend.new.out (Next c.in-Next.moved) = rw c.in-Next.is at c.extend.ensures in turned-here))
+fits : (c : In-Next) → (ExtendingPaths c.args.code.now c.requires.0.result.rest c.args.name c.requires.0.result.paths c.loop-left.out c.loop-left.places c.loop-left.from c.loop-left.to c.loop-left.left c.loop-left.grown) → (length (code c.requires.0.result.paths) + length (grown_in c.args.name c.requires.0.result.paths) ≤ length c.loop-left.out) → c.in-Next.moved.to ≤ length c.loop-left.out
+fits c going-here large-here = going_fits going-here c.loop-left-test.true large-here (turned c)
 
 -- what is left after it
-after :
-    (c : After-sides) →
-    ExtendingPaths c.args.code.now c.requires.0.result.rest c.args.name c.requires.0.result.paths c.extend.new.out c.note_path-grown.new.places c.in-Next.moved.from c.in-Next.moved.to (c.loop-left.left - 1 + sides_of c.of-head.result) c.note_path-grown.result
-after c = going_turn ((let going-here : ExtendingPaths c.args.code.now c.requires.0.result.rest c.args.name c.requires.0.result.paths c.loop-left.out c.loop-left.places c.loop-left.from c.loop-left.to c.loop-left.left c.loop-left.grown = c.loop-left.invariant.1.1 c.requires.0.result.paths c.requires.0.result.rest c.requires.0.result.coded (all_grown c.args.name c.requires.0.result.paths c.ranges.name.fits c.requires.0.result.good_paths) in going-here)) c.loop-left-test.true c.of-head.ensures.value ((let turned-here : let a = c.args in Turned a.code.now c.loop-left.from a.name c.loop-left.out c.loop-left.to c.extend.new.out (Next c.in-Next.moved) = rw c.in-Next.is at c.extend.ensures in turned-here)) ((let fits-here : c.in-Next.moved.to ≤ length c.loop-left.out = going_fits ((let going-here : ExtendingPaths c.args.code.now c.requires.0.result.rest c.args.name c.requires.0.result.paths c.loop-left.out c.loop-left.places c.loop-left.from c.loop-left.to c.loop-left.left c.loop-left.grown = c.loop-left.invariant.1.1 c.requires.0.result.paths c.requires.0.result.rest c.requires.0.result.coded (all_grown c.args.name c.requires.0.result.paths c.ranges.name.fits c.requires.0.result.good_paths) in going-here)) c.loop-left-test.true ((let large-here : length (code c.requires.0.result.paths) + length (grown_in c.args.name c.requires.0.result.paths) ≤ length c.loop-left.out = omega (arith, c.requires.0.fits, c.loop-left.invariant.0) in large-here)) ((let turned-here : let a = c.args in Turned a.code.now c.loop-left.from a.name c.loop-left.out c.loop-left.to c.extend.new.out (Next c.in-Next.moved) = rw c.in-Next.is at c.extend.ensures in turned-here)) in fits-here)) c.note_path-grown.ensures
+after : (c : After-sides) → (let a = c.args in Turned a.code.now c.loop-left.from a.name c.loop-left.out c.loop-left.to c.extend.new.out (Next c.in-Next.moved)) → (ExtendingPaths c.args.code.now c.requires.0.result.rest c.args.name c.requires.0.result.paths c.loop-left.out c.loop-left.places c.loop-left.from c.loop-left.to c.loop-left.left c.loop-left.grown) → (c.in-Next.moved.to ≤ length c.loop-left.out) → ExtendingPaths c.args.code.now c.requires.0.result.rest c.args.name c.requires.0.result.paths c.extend.new.out c.note_path-grown.new.places c.in-Next.moved.from c.in-Next.moved.to (c.loop-left.left - 1 + sides_of c.of-head.result) c.note_path-grown.result
+after c turned-here going-here fits-here = going_turn going-here c.loop-left-test.true c.of-head.ensures.value turned-here fits-here c.note_path-grown.ensures
 
 pub loop-left-init : goal.loop-left-init
 loop-left-init c = (refl, (c.requires.1, extending_first _ _ _ _ _))
@@ -63,13 +61,13 @@ pub note_path-grown-requires : goal.note_path-grown-requires
 note_path-grown-requires c = omega (arith, going_more (going (goal.at.note_path-grown-requires c).At-loop-left) c.loop-left-test.true, c.loop-left.invariant.1.0, c.requires.0.result.few_nodes)
 
 pub overflow_add-left : goal.overflow_add-left
-overflow_add-left c = omega (arith, going_few (after (goal.at.overflow_add-left c).After-sides), c.sides.ensures)
+overflow_add-left c = omega (arith, going_few (after (goal.at.overflow_add-left c).After-sides (turned (goal.at.overflow_add-left c).In-Next) (going (goal.at.overflow_add-left c).At-loop-left) (fits (goal.at.overflow_add-left c).In-Next (going (goal.at.overflow_add-left c).At-loop-left) (large (goal.at.overflow_add-left c).At-loop-left))), c.sides.ensures)
 
 pub loop-left-smaller : goal.loop-left-smaller
 loop-left-smaller c = omega (arith, going_within (going (goal.at.loop-left-smaller c).At-loop-left) c.loop-left-test.true, going_on (going (goal.at.loop-left-smaller c).At-loop-left) c.loop-left-test.true (turned (goal.at.loop-left-smaller c).In-Next))
 
 pub loop-left-preserved : goal.loop-left-preserved
-loop-left-preserved c = (c.extend.auto.out ∙ c.loop-left.invariant.0, (c.note_path-grown.auto.places ∙ c.loop-left.invariant.1.0, λ paths rest e good. rw c.sides.ensures (going_turn (c.loop-left.invariant.1.1 paths rest e good) c.loop-left-test.true c.of-head.ensures.value (turned (goal.at.loop-left-preserved c).In-Next) (fits (goal.at.loop-left-preserved c).In-Next) c.note_path-grown.ensures)))
+loop-left-preserved c = (c.extend.auto.out ∙ c.loop-left.invariant.0, (c.note_path-grown.auto.places ∙ c.loop-left.invariant.1.0, λ paths rest e good. rw c.sides.ensures (going_turn (c.loop-left.invariant.1.1 paths rest e good) c.loop-left-test.true c.of-head.ensures.value (turned (goal.at.loop-left-preserved c).In-Next) (fits (goal.at.loop-left-preserved c).In-Next (going (goal.at.loop-left-preserved c).At-loop-left) (large (goal.at.loop-left-preserved c).At-loop-left)) c.note_path-grown.ensures)))
 
 pub shape_of-out : goal.shape_of-out
 shape_of-out c = c.loop-left.invariant.0

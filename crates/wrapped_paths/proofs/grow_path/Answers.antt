@@ -12,7 +12,7 @@ kept : (c : After-slice_known-2-1) → length c.copy_short_words-last.new.out �
 kept c = c.copy_short_words-last.auto.out ∙ simp length-set
 
 last_within : (c : After-slice_known-2-1) → c.copy_short_words-last.result < length c.copy_short_words-last.new.out
-last_within c = let after = simp length-take at c.copy_short_words-last.ensures.after in omega (arith, (let kept-here : length c.copy_short_words-last.new.out ≡ length c.args.out.now = c.copy_short_words-last.auto.out ∙ simp length-set in kept-here), c.requires)
+last_within c = let after = simp length-take at c.copy_short_words-last.ensures.after in omega (arith, kept c, c.requires)
 
 pub copy_short_words-last-requires : goal.copy_short_words-last-requires
 copy_short_words-last-requires c = simp (length-set, length-take) (omega arith)

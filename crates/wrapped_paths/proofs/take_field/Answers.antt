@@ -11,31 +11,31 @@ literal : (c : Start) → LiteralAt c.args.code.now c.requires.rest c.requires.f
 literal c = record { as_many = c.requires.as_many; coded = c.requires.coded }
 
 within : (c : Start) → c.args.at + 1 + c.args.fields ≤ length c.args.code.now
-within c = omega (arith, literal_within ((let literal-here : LiteralAt c.args.code.now c.requires.rest c.requires.fields c.args.at c.args.fields = record { as_many = c.requires.as_many; coded = c.requires.coded } in literal-here)), literal_length ((let literal-here : LiteralAt c.args.code.now c.requires.rest c.requires.fields c.args.at c.args.fields = record { as_many = c.requires.as_many; coded = c.requires.coded } in literal-here)))
+within c = omega (arith, literal_within (literal c), literal_length (literal c))
 
 -- the ends of the field
-ends : (c : After-measure-field_end) → (c.measure-field.result.end ≤ c.measure-field_end.result.end) × (c.measure-field_end.result.end ≤ length c.args.code.now)
-ends c =
-    let l = (let literal-here : LiteralAt c.args.code.now c.requires.rest c.requires.fields c.args.at c.args.fields = record { as_many = c.requires.as_many; coded = c.requires.coded } in literal-here) in
+ends : (c : After-measure-field_end) → (LiteralAt c.args.code.now c.requires.rest c.requires.fields c.args.at c.args.fields) → (c.measure-field.result.end ≤ c.measure-field_end.result.end) × (c.measure-field_end.result.end ≤ length c.args.code.now)
+ends c literal-here =
+    let l = literal-here in
     (start_before l c.measure-end.ensures c.args.name c.name_place-place.ensures c.if-place-fields.false c.measure-field.ensures c.measure-field_end.ensures, stop_within l c.measure-end.ensures c.args.name c.name_place-place.ensures c.if-place-fields.false c.measure-field.ensures c.measure-field_end.ensures)
 
 pub overflow_add-names : goal.overflow_add-names
-overflow_add-names c = omega (arith, within (goal.at.overflow_add-names c).Start, c.before.before)
+overflow_add-names c = omega (arith, within (goal.at.overflow_add-names c).Start)
 
 pub overflow_add-first : goal.overflow_add-first
-overflow_add-first c = omega (arith, within (goal.at.overflow_add-first c).Start, c.before.before)
+overflow_add-first c = omega (arith, within (goal.at.overflow_add-first c).Start)
 
 pub measure-end-requires : goal.measure-end-requires
 measure-end-requires c = literal_standing (literal (goal.at.measure-end-requires c).Start)
 
 pub offset_bounds-code-names : goal.offset_bounds-code-names
-offset_bounds-code-names c = omega (arith, within (goal.at.offset_bounds-code-names c).Start, c.before.before.before)
+offset_bounds-code-names c = omega (arith, within (goal.at.offset_bounds-code-names c).Start)
 
 pub slice_bounds-name_place-end : goal.slice_bounds-name_place-end
 slice_bounds-name_place-end c = omega (arith, within (goal.at.slice_bounds-name_place-end c).Start)
 
 pub offset_bounds-code-at : goal.offset_bounds-code-at
-offset_bounds-code-at c = omega (arith, within (goal.at.offset_bounds-code-at c).Start, c.before.before.before.before.before.before)
+offset_bounds-code-at c = omega (arith, within (goal.at.offset_bounds-code-at c).Start)
 
 pub slice_bounds-copy_short_words-count : goal.slice_bounds-copy_short_words-count
 slice_bounds-copy_short_words-count c = omega (arith, literal_end (literal (goal.at.slice_bounds-copy_short_words-count c).Start) c.measure-end.ensures)
@@ -62,16 +62,16 @@ pub measure-field_end-requires : goal.measure-field_end-requires
 measure-field_end-requires c = field_standing (literal (goal.at.measure-field_end-requires c).Start) c.measure-end.ensures c.args.name c.name_place-place.ensures c.if-place-fields.false c.measure-field.ensures
 
 pub offset_bounds-code-field : goal.offset_bounds-code-field
-offset_bounds-code-field c = omega (arith, ends (goal.at.offset_bounds-code-field c).After-measure-field_end, c.before.before.before.before.before.before.before.before)
+offset_bounds-code-field c = omega (arith, ends (goal.at.offset_bounds-code-field c).After-measure-field_end (literal (goal.at.offset_bounds-code-field c).Start))
 
 pub slice_bounds-copy_short_words-count-2 : goal.slice_bounds-copy_short_words-count-2
-slice_bounds-copy_short_words-count-2 c = omega (arith, ends (goal.at.slice_bounds-copy_short_words-count-2 c).After-measure-field_end)
+slice_bounds-copy_short_words-count-2 c = omega (arith, ends (goal.at.slice_bounds-copy_short_words-count-2 c).After-measure-field_end (literal (goal.at.slice_bounds-copy_short_words-count-2 c).Start))
 
 pub slice_bounds-copy_short_words-start-2 : goal.slice_bounds-copy_short_words-start-2
-slice_bounds-copy_short_words-start-2 c = omega (arith, ends (goal.at.slice_bounds-copy_short_words-start-2 c).After-measure-field_end)
+slice_bounds-copy_short_words-start-2 c = omega (arith, ends (goal.at.slice_bounds-copy_short_words-start-2 c).After-measure-field_end (literal (goal.at.slice_bounds-copy_short_words-start-2 c).Start))
 
 pub slice_bounds-copy_short_words-end-2 : goal.slice_bounds-copy_short_words-end-2
-slice_bounds-copy_short_words-end-2 c = omega (arith, ends (goal.at.slice_bounds-copy_short_words-end-2 c).After-measure-field_end)
+slice_bounds-copy_short_words-end-2 c = omega (arith, ends (goal.at.slice_bounds-copy_short_words-end-2 c).After-measure-field_end (literal (goal.at.slice_bounds-copy_short_words-end-2 c).Start))
 
 pub copy_short_words-requires-2 : goal.copy_short_words-requires-2
 copy_short_words-requires-2 c = rw (field_copy (literal (goal.at.copy_short_words-requires-2 c).Start) c.measure-end.ensures c.args.name c.name_place-place.ensures c.if-place-fields.false c.measure-field.ensures c.measure-field_end.ensures) c.requires.room

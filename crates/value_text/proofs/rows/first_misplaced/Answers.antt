@@ -1,11 +1,11 @@
 -- `value_text::rows::first_misplaced` meets its contract: the least place of the rows that are passed, with those that are left, is that of all.
-use Prim.Native.Nat.{◌<◌}
+use Prim.Native.Nat.{◌<◌, ◌≤◌}
 use native.Mathlib.Omega.{arith}
 use mathlib.Core.Path.{◌≡◌, refl, ◌∙◌}
 use lib.ListN.{length, length-set}
 use Rattle.value_text.specs.RowLaws.{ordering_none, ordering_all, ordering_depth, ordering_lower, ordering_kept}
 use Rattle.value_text.proofs.rows.first_misplaced.Goals as goal
-use Rattle.value_text.proofs.rows.first_misplaced.Goals.{then-next-least, else-next-least, At-loop-i}
+use Rattle.value_text.proofs.rows.first_misplaced.Goals.{At-loop-i}
 
 pub bounds-levels-0 : goal.bounds-levels-0
 bounds-levels-0 c = omega (arith, c.requires.1)
@@ -46,13 +46,10 @@ open_levels-requires c =
 pub loop-i-preserved : goal.loop-i-preserved
 loop-i-preserved c =
     let fits = room (goal.at.loop-i-preserved c).At-loop-i in
-    let found = rw c.depth.ensures at c.misplaced-next.ensures in (
-      c.open_levels.auto.levels ∙ c.loop-i.invariant.0,
-      elim c.if-next-least.branch [
-        | then-next-least w ↦ rw w.least-is (ordering_lower c.loop-i.invariant.1 c.loop-i-test.true fits found c.open_levels.ensures w.if-next-least.true)
-        | else-next-least w ↦ rw w.least-is (ordering_kept c.loop-i.invariant.1 c.loop-i-test.true fits found c.open_levels.ensures w.if-next-least.false)
-      ],
-    )
+    let found = rw c.depth.ensures at c.misplaced-next.ensures in
+    let lower = λ (h : c.misplaced-next.result < c.loop-i.least). ordering_lower c.loop-i.invariant.1 c.loop-i-test.true fits found c.open_levels.ensures h in
+    let same = λ (h : c.loop-i.least ≤ c.misplaced-next.result). ordering_kept c.loop-i.invariant.1 c.loop-i-test.true fits found c.open_levels.ensures h in
+    (c.open_levels.auto.levels ∙ c.loop-i.invariant.0, grind (arith, lower, same))
 
 pub shape_of-levels : goal.shape_of-levels
 shape_of-levels c = kept (goal.at.shape_of-levels c).At-loop-i

@@ -1,0 +1,54 @@
+-- `ancestors::slice::find_loaded` meets its contract: the entities that are passed are others.
+use native.Mathlib.Omega.{arith}
+use Prim.Native.Nat.{◌≤◌, ◌<◌}
+use mathlib.Core.Path.{refl, ap}
+use lib.ListN.{length}
+use Rattle.rules.specs.Facts.{capped_min}
+use Rattle.answers.specs.declared.Head.{Head}
+use Rattle.ancestors.specs.SliceWordLaws.{found_nothing, past_entity, found_here, passing_next}
+use Rattle.ancestors.proofs.slice.find_loaded.Goals as goal
+use Rattle.ancestors.proofs.slice.find_loaded.Goals.{Else-head-id}
+
+pub loop-at-init : goal.loop-at-init
+loop-at-init c = (omega arith, record { most = length c.args.slice.now; enough = omega arith; sofar = refl })
+
+pub overflow_add-at-in-loop-at : goal.overflow_add-at-in-loop-at
+overflow_add-at-in-loop-at c = omega (arith, ap (λ (h : Head). h.parents) c.of-head.ensures, c.well_formed.0.1)
+
+pub overflow_add-start : goal.overflow_add-start
+overflow_add-start c =
+    omega (
+      arith,
+      ap (λ (h : Head). h.rows) c.of-head.ensures,
+      rw capped_min at c.at_most-start.ensures,
+      c.well_formed.0.1,
+      c.shared_slice_known-in-loop-at-1.given c.loop-at.at,
+    )
+
+pub returns-then-head-id : goal.returns-then-head-id
+returns-then-head-id c =
+    found_here c.loop-at.invariant.1 c.loop-at-test.true _ _ (rw c.of-head.ensures at c.at_most-start.ensures)
+    (rw c.of-head.ensures at c.at_most-end.ensures) (rw c.of-head.ensures at c.if-head-id.true)
+
+-- the place after the entity
+past :
+    (c : Else-head-id) →
+    (c.loop-at.at < c.at_most-end.result) × (c.at_most-end.result ≤ length c.args.slice.now)
+past c =
+    let (after, inside, _) =
+    past_entity c.loop-at.invariant.1 c.loop-at-test.true _ _ (rw c.of-head.ensures at c.at_most-start.ensures)
+    (rw c.of-head.ensures at c.at_most-end.ensures) in
+    (after, inside)
+
+pub loop-at-smaller : goal.loop-at-smaller
+loop-at-smaller c = omega (arith, past (goal.at.loop-at-smaller c).Else-head-id)
+
+pub loop-at-preserved : goal.loop-at-preserved
+loop-at-preserved c = (
+  (past (goal.at.loop-at-preserved c).Else-head-id).1,
+  passing_next c.loop-at.invariant.1 c.loop-at-test.true _ _ (rw c.of-head.ensures at c.at_most-start.ensures)
+      (rw c.of-head.ensures at c.at_most-end.ensures) (rw c.of-head.ensures at c.if-head-id.false),
+)
+
+pub returns : goal.returns
+returns c = found_nothing c.loop-at.invariant.1 c.loop-at-test.false

@@ -1,0 +1,17 @@
+-- `policy_runs::request_at` meets its contract: the row of an `A` line is an entry, at depth 0.
+use mathlib.Core.Path.{sym, ap, ◌∙◌}
+use borrow.Author.Tests.{eq-eqb, ne_eqb}
+use Rattle.listing_lines.specs.Lines.{row_read}
+use Rattle.policy_runs.specs.PolicyRuns.{request_of_row}
+use Rattle.policy_runs.proofs.request_at.Goals as goal
+
+pub returns-in_default : goal.returns-in_default
+returns-in_default c = ap request_of_row (sym (ap row_read c.in_default.is) ∙ c.read_row.ensures)
+
+pub returns-then-depth-ne0 : goal.returns-then-depth-ne0
+returns-then-depth-ne0 c =
+    rw (ne_eqb c.in-Of.depth 0 c.if-depth-ne0.true) at (ap request_of_row (sym (ap row_read c.in-Of.is) ∙ c.read_row.ensures))
+
+pub returns : goal.returns
+returns c =
+    rw (eq-eqb c.in-Of.depth 0 c.if-depth-ne0.false) at (ap request_of_row (sym (ap row_read c.in-Of.is) ∙ c.read_row.ensures))

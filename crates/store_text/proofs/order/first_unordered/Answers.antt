@@ -1,0 +1,91 @@
+-- `store_text::order::first_unordered` meets its contract: the entities that were passed have no element out of order, and the first that
+-- has one has the least place.
+use Prim.Native.Nat.{◌-◌, ◌≤◌, ◌<◌}
+use native.Mathlib.Omega.{arith}
+use mathlib.Core.Path.{refl, ◌∙◌}
+use lib.ListN.{length, drop, length-drop}
+use lib.Seq.{length-take-le}
+use Rattle.store_text.specs.OrderLaws.{Parts, passing_none, passing_all, next_pass, passing_found, passing_next}
+use Rattle.store_text.proofs.order.first_unordered.Goals as goal
+use Rattle.store_text.proofs.order.first_unordered.Goals.{After-run_end-end}
+
+pub loop-i-init : goal.loop-i-init
+loop-i-init c = (refl, omega arith, passing_none c.args.words.now)
+
+-- where the parts of the next entity end
+parts : (c : After-run_end-end) →
+    Parts c.args.words.now c.loop-i.i c.run_end-parents_end.result c.run_end-start.result
+    c.run_end-end.result
+parts c = record {
+  more = c.loop-i-test.true;
+  parents = c.run_end-parents_end.ensures.0;
+  ancestors = c.run_end-start.ensures.0;
+  rows = c.run_end-end.ensures.0;
+}
+
+-- in their order, and inside the words
+ends : (c : After-run_end-end) →
+    (c.loop-i.i < c.run_end-parents_end.result)
+    × (c.run_end-parents_end.result ≤ c.run_end-start.result)
+    × (c.run_end-start.result ≤ c.run_end-end.result)
+    × (c.run_end-end.result ≤ length c.args.words.now)
+ends c =
+    let p = parts c in
+    (omega (arith, p.parents), omega (arith, p.ancestors), omega (arith, p.rows), c.run_end-end.ensures.1)
+
+pub offset_bounds-words-start : goal.offset_bounds-words-start
+offset_bounds-words-start c = omega (arith, ends (goal.at.offset_bounds-words-start c).After-run_end-end)
+
+pub slice_bounds-first_misplaced-count : goal.slice_bounds-first_misplaced-count
+slice_bounds-first_misplaced-count c = omega (arith, ends (goal.at.slice_bounds-first_misplaced-count c).After-run_end-end)
+
+pub slice_bounds-first_misplaced-start : goal.slice_bounds-first_misplaced-start
+slice_bounds-first_misplaced-start c = omega (arith, ends (goal.at.slice_bounds-first_misplaced-start c).After-run_end-end)
+
+pub slice_bounds-first_misplaced-end : goal.slice_bounds-first_misplaced-end
+slice_bounds-first_misplaced-end c = omega (arith, ends (goal.at.slice_bounds-first_misplaced-end c).After-run_end-end)
+
+pub first_misplaced-first-requires : goal.first_misplaced-first-requires
+first_misplaced-first-requires c =
+    let (es, holds) = c.requires.0 in (
+      next_pass (parts (goal.at.first_misplaced-first-requires c).After-run_end-end) (c.loop-i.invariant.2 es holds),
+      omega (
+        arith,
+        c.requires.1,
+        c.loop-i.invariant.0,
+        ends (goal.at.first_misplaced-first-requires c).After-run_end-end,
+        length-take-le (c.run_end-end.result - c.run_end-start.result) (drop c.run_end-start.result c.args.words.now) (omega (arith, ends (goal.at.first_misplaced-first-requires c).After-run_end-end, length-drop c.run_end-start.result c.args.words.now)),
+      ),
+    )
+
+pub overflow_sub-end : goal.overflow_sub-end
+overflow_sub-end c = omega (arith, ends (goal.at.overflow_sub-end c).After-run_end-end)
+
+pub overflow_add-result : goal.overflow_add-result
+overflow_add-result c = omega (arith, c.if-first-end.true, ends (goal.at.overflow_add-result c).After-run_end-end)
+
+pub shape_of-levels-then-first-end : goal.shape_of-levels-then-first-end
+shape_of-levels-then-first-end c =
+    c.first_misplaced-first.auto.levels ∙ c.loop-i.invariant.0
+
+pub returns-then-first-end : goal.returns-then-first-end
+returns-then-first-end c =
+    passing_found (parts (goal.at.returns-then-first-end c).After-run_end-end) c.first_misplaced-first.ensures c.if-first-end.true (omega (arith, c.if-first-end.true, ends (goal.at.returns-then-first-end c).After-run_end-end))
+    c.loop-i.invariant.2
+
+pub loop-i-smaller : goal.loop-i-smaller
+loop-i-smaller c = omega (arith, ends (goal.at.loop-i-smaller c).After-run_end-end)
+
+pub loop-i-preserved : goal.loop-i-preserved
+loop-i-preserved c = (
+  c.first_misplaced-first.auto.levels ∙ c.loop-i.invariant.0,
+  (ends (goal.at.loop-i-preserved c).After-run_end-end).3,
+  λ es holds. passing_next (parts (goal.at.loop-i-preserved c).After-run_end-end) c.first_misplaced-first.ensures c.if-first-end.false (c.loop-i.invariant.2 es holds),
+)
+
+pub shape_of-levels : goal.shape_of-levels
+shape_of-levels c = c.loop-i.invariant.0
+
+pub returns : goal.returns
+returns c =
+    passing_all c.args.words.now c.loop-i.i c.loop-i.invariant.1 c.loop-i-test.false c.loop-i.invariant.2

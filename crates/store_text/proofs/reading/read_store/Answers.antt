@@ -1,0 +1,54 @@
+-- `store_text::reading::read_store` meets its contract: the words that were read are copied with their count in front.
+use Prim.Native.Nat.{ℕ, ◌≤◌, ◌<◌}
+use native.Mathlib.Omega.{arith}
+use mathlib.Core.List.{List}
+use mathlib.Core.Path.{◌≡◌, ap, ◌∙◌}
+use lib.ListN.{length, length-set}
+use lib.Seq.{sets}
+use Rattle.rules.specs.Numbers.{accepted}
+use Rattle.words.specs.Runs.{stored}
+use Rattle.words.specs.RunLaws.{by_parts, counted, copied}
+use Rattle.store_text.specs.Outcomes.{store_given}
+use Rattle.store_text.specs.ReadLaws.{store_short, store_long, store_refused, store_stored}
+use Rattle.store_text.proofs.reading.read_store.Goals as goal
+use Rattle.store_text.proofs.reading.read_store.Goals.{In-Lines}
+
+pub returns-then-out-lt-WORDS : goal.returns-then-out-lt-WORDS
+returns-then-out-lt-WORDS c = let a = c.args in by_parts (store_short a.text.now a.out.now c.if-out-lt-WORDS.true)
+
+pub returns-then-text-gt-BYTES : goal.returns-then-text-gt-BYTES
+returns-then-text-gt-BYTES c =
+    let a = c.args in
+    by_parts (store_long a.text.now a.out.now c.if-out-lt-WORDS.false c.if-text-gt-BYTES.true)
+
+-- what was read, where it is lines: their words are stored, and fit a state
+lines_read : (c : In-Lines) →
+    accepted (stored c.in-Lines.count c.read_ordered.new.words)
+    ≡ store_given c.args.text.now
+lines_read c = rw c.in-Lines.is at c.read_ordered.ensures.words_after
+
+count_fits : (c : In-Lines) → c.in-Lines.count < length c.read_ordered.new.words
+count_fits c =
+    let few : c.in-Lines.count ≤ 16384 = rw c.in-Lines.is at c.read_ordered.ensures.result_bound in
+    omega (arith, few, c.read_ordered.auto.words)
+
+pub copy_rows-requires : goal.copy_rows-requires
+copy_rows-requires c =
+    let few = count_fits (goal.at.copy_rows-requires c).In-Lines in
+    rw (counted c.read_ordered.new.words c.in-Lines.count few)
+    (simp length-set few, omega (arith, few, c.read_ordered.auto.words, c.if-out-lt-WORDS.false))
+
+pub returns-in-Refused : goal.returns-in-Refused
+returns-in-Refused c =
+    let a = c.args in
+    by_parts
+    (store_refused a.text.now a.out.now c.if-out-lt-WORDS.false c.if-text-gt-BYTES.false (rw c.in-Refused.is at c.read_ordered.ensures.words_after))
+
+pub returns-in-Lines : goal.returns-in-Lines
+returns-in-Lines c =
+    let a = c.args in
+    let (reply, buffer) =
+    by_parts (store_stored a.text.now a.out.now c.if-out-lt-WORDS.false c.if-text-gt-BYTES.false (stored c.in-Lines.count c.read_ordered.new.words) (lines_read (goal.at.returns-in-Lines c).In-Lines)) in (
+      reply,
+      c.copy_rows.ensures ∙ ap (λ (l : List ℕ). sets a.out.now 0 l) (copied c.read_ordered.new.words c.in-Lines.count (count_fits (goal.at.returns-in-Lines c).In-Lines)) ∙ buffer,
+    )
