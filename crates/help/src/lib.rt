@@ -1,4 +1,6 @@
 // What the program says of itself, and its commands by their names.
+#![tactic(auto)]
+
 use files::{To, write};
 
 // What a word names.

@@ -1,5 +1,7 @@
 // What stores answer to a load: row and request of one number by one store, all stores in turn. Stores stand in words, their number first, each
 // in STORE words of its own (docs/FORMS.md, 'Store').
+#![tactic(auto)]
+
 ghost use Rattle.std.specs.Prelude.{◌≡◌, ◌+◌, ◌<◌, ◌≤◌, length};
 
 use load_log::{BATCH, RequestPlace, count_of};

@@ -1,5 +1,5 @@
 -- `text_cases::fields_case` is safe: each tab that is found lies between the last place and the end.
-use Prim.Native.Nat.{◌≤◌, ◌<◌, ◌-◌}
+use Prim.Native.Nat.{◌≤◌, ◌<◌}
 use native.Mathlib.Omega.{arith}
 use lib.ListN.{length}
 use Rattle.text.proofs.Laws.{more_within}

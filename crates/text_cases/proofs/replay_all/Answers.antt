@@ -1,5 +1,5 @@
 -- `text_cases::replay_all` is safe: each LF that is found lies between the last place and the end.
-use Prim.Native.Nat.{◌≤◌, ◌<◌, ◌-◌}
+use Prim.Native.Nat.{◌≤◌, ◌<◌}
 use native.Mathlib.Omega.{arith}
 use lib.ListN.{length}
 use Rattle.text.proofs.Laws.{whole_within}

@@ -1,5 +1,4 @@
 -- `trie_cases::read_steps` is safe: the steps go to places behind each other, and the place keeps its length.
-use Prim.Native.Nat.{◌-◌}
 use native.Mathlib.Omega.{arith}
 use lib.ListN.{length-set}
 use Rattle.trie_cases.proofs.read_steps.Goals as goal
