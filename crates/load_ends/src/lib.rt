@@ -1,4 +1,6 @@
 // The calls with which a load ends: ancestors' answers and result.
+#![tactic(auto)]
+
 mod result;
 mod sets;
 
