@@ -138,6 +138,9 @@ fn answer(job: Job, words: &[u64], text: &[u8], out: &mut [u64]) -> Reply
     }
 }
 
+// The largest request type.
+const LAST_REQUEST: u64 = 0xffff_ffff_ffff;
+
 // The contribution of a step text under a request type; a refusal leaves the output as it was.
 pub fn analyse(schema: &[u64], request: u64, text: &[u8], out: &mut [u64]) -> Reply
     ensures { (result ≡ (analyse_in schema.now request text.now out.old).reply) × (out.new ≡ (analyse_in schema.now request text.now out.old).buffer) }
@@ -151,7 +154,7 @@ pub fn analyse(schema: &[u64], request: u64, text: &[u8], out: &mut [u64]) -> Re
     if !schema::is_lawful(schema) {
         return Reply::Refused(1, 0);
     }
-    if 0xffff_ffff_ffff < request {
+    if LAST_REQUEST < request {
         return Reply::Refused(1, 0);
     }
     let end = schema[0] as usize + 1;

@@ -5,7 +5,7 @@ use mathlib.Core.List.{List, [], ◌∷◌, flatten}
 use Rattle.std.proofs.lemmas.List.{length-map}
 use Rattle.rules.specs.Facts.{by_test, both_true}
 use Rattle.rules.specs.Tries.{Row}
-use Rattle.rules.specs.Loading.{LoadAnswer, done, refused_at, counted, ◌then◌, Request, EntityRequest, Load, Loaded, ancestors_request, ancestors_requests}
+use Rattle.rules.specs.Loading.{LoadAnswer, done, refused_at, counted, Request, EntityRequest, Load, Loaded, ancestors_request, ancestors_requests}
 use Rattle.rules.proofs.SliceLaws.{done_same, then_done}
 use Rattle.rows.specs.Words.{row_in}
 use Rattle.rows.specs.States.{rows_of}

@@ -15,7 +15,7 @@ use Rattle.analysis.specs.Outcomes.{analyse_in}
 use Rattle.analysis.specs.AnswerLaws.{short_schema, short_out, unlawful_schema, unlawful_else, all_lawful}
 use Rattle.schema.specs.ItemLaws.{lawful_count, lawful-items}
 use Rattle.analysis.proofs.analyse.Goals as goal
-use Rattle.analysis.proofs.analyse.Goals.{After-shared_slice_known-3-1, Else-not-is_lawful, Else-out-words, Else-request-gt281474976710655, Else-schema-lt-WORDS}
+use Rattle.analysis.proofs.analyse.Goals.{After-shared_slice_known-3-1, Else-not-is_lawful, Else-out-words, Else-request-gt-LAST_REQUEST, Else-schema-lt-WORDS}
 
 -- what the tests that were passed say
 long : (c : Else-schema-lt-WORDS) → 142337 ≤ length c.args.schema.now
@@ -27,8 +27,8 @@ room c = omega (arith, c.words.ensures, c.if-out-words.false)
 lawful : (c : Else-not-is_lawful) → lawful_schema c.args.schema.now ≡ true
 lawful c = sym c.is_lawful.ensures ∙ c.if-not-is_lawful.false
 
-request : (c : Else-request-gt281474976710655) → c.args.request < 2 ^ 48
-request c = omega (arith, c.if-request-gt281474976710655.false)
+request : (c : Else-request-gt-LAST_REQUEST) → c.args.request < 2 ^ 48
+request c = omega (arith, c.if-request-gt-LAST_REQUEST.false)
 
 -- the count lies within the schema
 counted : (c : After-shared_slice_known-3-1) → (lawful_schema c.args.schema.now ≡ true) → (142337 ≤ length c.args.schema.now) → (get_or c.args.schema.now 0 0 < 142337) × (142337 ≤ length c.args.schema.now)
@@ -52,11 +52,11 @@ returns-then-not-is_lawful c =
     let s = c.args in
     by_parts (unlawful_schema s.schema.now 1026 (ltb s.request (2 ^ 48)) s.out.now (analyse (items_in s.schema.now) s.request s.text.now) (long (goal.at.returns-then-not-is_lawful c).Else-schema-lt-WORDS) (room (goal.at.returns-then-not-is_lawful c).Else-out-words) (sym c.is_lawful.ensures ∙ c.if-not-is_lawful.true))
 
-pub returns-then-request-gt281474976710655 : goal.returns-then-request-gt281474976710655
+pub returns-then-request-gt-LAST_REQUEST : goal.returns-then-request-gt-LAST_REQUEST
 unfolding analyse_in
-returns-then-request-gt281474976710655 c =
+returns-then-request-gt-LAST_REQUEST c =
     let s = c.args in
-    by_parts (unlawful_else s.schema.now 1026 (ltb s.request (2 ^ 48)) s.out.now (analyse (items_in s.schema.now) s.request s.text.now) (long (goal.at.returns-then-request-gt281474976710655 c).Else-schema-lt-WORDS) (room (goal.at.returns-then-request-gt281474976710655 c).Else-out-words) (lawful (goal.at.returns-then-request-gt281474976710655 c).Else-not-is_lawful) (le-ltb s.request (2 ^ 48) (omega (arith, c.if-request-gt281474976710655.true))))
+    by_parts (unlawful_else s.schema.now 1026 (ltb s.request (2 ^ 48)) s.out.now (analyse (items_in s.schema.now) s.request s.text.now) (long (goal.at.returns-then-request-gt-LAST_REQUEST c).Else-schema-lt-WORDS) (room (goal.at.returns-then-request-gt-LAST_REQUEST c).Else-out-words) (lawful (goal.at.returns-then-request-gt-LAST_REQUEST c).Else-not-is_lawful) (le-ltb s.request (2 ^ 48) (omega (arith, c.if-request-gt-LAST_REQUEST.true))))
 
 pub overflow_add-end : goal.overflow_add-end
 overflow_add-end c = omega (arith, counted (goal.at.overflow_add-end c).After-shared_slice_known-3-1 (lawful (goal.at.overflow_add-end c).Else-not-is_lawful) (long (goal.at.overflow_add-end c).Else-schema-lt-WORDS))
@@ -68,11 +68,11 @@ pub answer-requires : goal.answer-requires
 answer-requires c =
     let fits = counted (goal.at.answer-requires c).After-shared_slice_known-3-1 (lawful (goal.at.answer-requires c).Else-not-is_lawful) (long (goal.at.answer-requires c).Else-schema-lt-WORDS) in
     let few : length (take (get_or c.args.schema.now 0 0) (drop 1 c.args.schema.now)) ≡ get_or c.args.schema.now 0 0 = length-take-le (get_or c.args.schema.now 0 0) (drop 1 c.args.schema.now) (simp length-drop (omega (arith, fits))) in
-    record { words_value = (rw add-sub_cancel (lawful-items _ (lawful (goal.at.answer-requires c).Else-not-is_lawful)), rw add-sub_cancel (omega (arith, few, fits))); job_lent = (request (goal.at.answer-requires c).Else-request-gt281474976710655, room (goal.at.answer-requires c).Else-out-words) }
+    record { words_value = (rw add-sub_cancel (lawful-items _ (lawful (goal.at.answer-requires c).Else-not-is_lawful)), rw add-sub_cancel (omega (arith, few, fits))); job_lent = (request (goal.at.answer-requires c).Else-request-gt-LAST_REQUEST, room (goal.at.answer-requires c).Else-out-words) }
 
 pub returns : goal.returns
 unfolding analyse_in
 returns c =
     let s = c.args in
-    let answered = all_lawful s.schema.now 1026 (ltb s.request (2 ^ 48)) s.out.now (analyse (items_in s.schema.now) s.request s.text.now) (long (goal.at.returns c).Else-schema-lt-WORDS) (room (goal.at.returns c).Else-out-words) (lawful (goal.at.returns c).Else-not-is_lawful) (lt-ltb s.request (2 ^ 48) (request (goal.at.returns c).Else-request-gt281474976710655)) in
+    let answered = all_lawful s.schema.now 1026 (ltb s.request (2 ^ 48)) s.out.now (analyse (items_in s.schema.now) s.request s.text.now) (long (goal.at.returns c).Else-schema-lt-WORDS) (room (goal.at.returns c).Else-out-words) (lawful (goal.at.returns c).Else-not-is_lawful) (lt-ltb s.request (2 ^ 48) (request (goal.at.returns c).Else-request-gt-LAST_REQUEST)) in
     rw answered (simp add-sub_cancel at c.answer.ensures)

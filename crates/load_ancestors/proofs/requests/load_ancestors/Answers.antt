@@ -1,0 +1,57 @@
+-- `load_ancestors::requests::load_ancestors` meets its contract: each test that fails gives its refusal, and the requests are handed out.
+use native.Mathlib.Omega.{arith}
+use mathlib.Core.Path.{◌≡◌, refl}
+use mathlib.Core.Bool.{true, ◌&&◌}
+use borrow.Author.Tests.{le-leb, lt-leb}
+use lib.Dec.{leb}
+use lib.ListN.{length, get_or}
+use Rattle.load_state.specs.LoadStates.{answer_words}
+use Rattle.load_state.specs.Transcripts.{lent_load}
+use Rattle.load_state.specs.TurnLaws.{lent_unlawful}
+use Rattle.load_ends.specs.Ends.{ReadTo}
+use Rattle.load_ends.specs.LoadedLaws.{lent_read}
+use Rattle.load_ancestors.specs.RequestCallLaws.{ask_short, ask_long, ask_early}
+use Rattle.load_ancestors.proofs.requests.load_ancestors.Goals as goal
+use Rattle.load_ancestors.proofs.requests.load_ancestors.Goals.{Else-out-lt-REQUEST_WORDS, In-Come}
+
+-- both buffers are long enough
+long : (c : Else-out-lt-REQUEST_WORDS) → let a = c.args in (leb 36874 (length a.state.now) && leb 528385 (length a.out.now)) ≡ true
+long c =
+    let a = c.args in
+    rw (le-leb 36874 (length a.state.now) (omega (arith, c.if-state-lt-WORDS.false)), le-leb 528385 (length a.out.now) (omega (arith, c.if-out-lt-REQUEST_WORDS.false)))
+
+-- the load of the state
+read :
+    (c : In-Come) →
+    ReadTo c.args.state.now c.read_load.new.rows c.read_load.new.places c.in-Come.asked c.in-Come.batches c.in-Come.field-3
+read c = lent_read c.args.state.now _ _ _ _ _ _ c.read_load.result c.read_load.ensures c.in-Come.is
+
+pub returns-then-state-lt-WORDS : goal.returns-then-state-lt-WORDS
+returns-then-state-lt-WORDS c =
+    let a = c.args in
+    rw (ask_short a.state.now a.out.now (rw (lt-leb 36874 (length a.state.now) (omega (arith, c.if-state-lt-WORDS.true))))) (refl, refl, refl)
+
+pub returns-then-out-lt-REQUEST_WORDS : goal.returns-then-out-lt-REQUEST_WORDS
+returns-then-out-lt-REQUEST_WORDS c =
+    let a = c.args in
+    rw (ask_short a.state.now a.out.now (rw (le-leb 36874 (length a.state.now) (omega (arith, c.if-state-lt-WORDS.false)), lt-leb 528385 (length a.out.now) (omega (arith, c.if-out-lt-REQUEST_WORDS.true))))) (refl, refl, refl)
+
+pub returns-in_default : goal.returns-in_default
+returns-in_default c =
+    let a = c.args in
+    let state = a.state.now in
+    let unlawful = lent_unlawful (answer_words state) _ _ (get_or state 7 0) _ (lent_load state) c.read_load.result c.read_load.ensures c.in_default.is in
+    rw (ask_long state a.out.now (long (goal.at.returns-in_default c).Else-out-lt-REQUEST_WORDS), unlawful) (refl, refl, refl)
+
+pub returns-then-state-ne3 : goal.returns-then-state-ne3
+returns-then-state-ne3 c =
+    let a = c.args in
+    rw (ask_long a.state.now a.out.now (long (goal.at.returns-then-state-ne3 c).Else-out-lt-REQUEST_WORDS), ask_early a.state.now a.out.now (read (goal.at.returns-then-state-ne3 c).In-Come).told c.if-state-ne3.true) (refl, refl, refl)
+
+pub ask_ancestors-requires : goal.ask_ancestors-requires
+ask_ancestors-requires c = record { in_bounds = (omega (arith, c.if-state-lt-WORDS.false), (omega (arith, c.read_load.auto.places), omega (arith, c.if-state-ne3.false))); in_bounds_2 = (omega (arith, c.if-out-lt-REQUEST_WORDS.false), omega (arith, c.read_load.auto.scratch)); by_index = (_, read (goal.at.ask_ancestors-requires c).In-Come) }
+
+pub returns : goal.returns
+returns c =
+    let a = c.args in
+    rw (ask_long a.state.now a.out.now (long (goal.at.returns c).Else-out-lt-REQUEST_WORDS)) c.ask_ancestors.ensures
