@@ -1,5 +1,7 @@
 // The front: every operation that is public to users, each by the crate that promises it. None has a `requires`; each checks its own input,
 // and its `ensures` fixes the reply and the final content of every lent buffer.
+#![tactic(auto)]
+
 pub mod c;
 pub mod loads;
 

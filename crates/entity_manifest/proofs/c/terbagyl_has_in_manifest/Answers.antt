@@ -1,0 +1,7 @@
+-- `entity_manifest::c::terbagyl_has_in_manifest` meets its contract: what the front answers is told as a number and a value.
+
+use Rattle.entity_manifest.proofs.c.terbagyl_has_in_manifest.Goals as goal
+
+pub returns : goal.returns
+returns c =
+    rw (← c.has.ensures) c.tell_held.ensures

@@ -1,0 +1,7 @@
+-- `entity_manifest::c::terbagyl_write_manifest` meets its contract: what the front answers is told as a number and a value.
+
+use Rattle.entity_manifest.proofs.c.terbagyl_write_manifest.Goals as goal
+
+pub returns : goal.returns
+returns c =
+    rw (← c.write_listing.ensures.0) (c.tell_written.ensures.0, (c.tell_written.ensures.1, c.write_listing.ensures.1))
