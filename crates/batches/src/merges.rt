@@ -1,6 +1,6 @@
 // Whether an answer merges with the earlier answers to its entity.
 ghost use Rattle.std.specs.Prelude.{◌≡◌, map, ◌+◌, ◌≤◌, length};
-ghost use Rattle.rules.proofs.SliceLaws.{answers_to};
+ghost use Rattle.rules.specs.SliceLaws.{answers_to};
 ghost use Rattle.values.specs.ValueWords.{row_asked};
 ghost use Rattle.batches.specs.Hearings.{heard_at, AnswerStands, AllStand, agree as agree_of, agrees_if_asked, merges_with};
 

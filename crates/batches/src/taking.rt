@@ -1,7 +1,7 @@
 // A batch's answers taken row by row.
 ghost use Rattle.std.specs.Prelude.{List, ℕ, ◌+◌, ◌≤◌, ◌<◌, length, take, get_or};
 ghost use Rattle.rules.specs.Loading.{Load};
-ghost use Rattle.rules.proofs.TakeLaws.{taken_by, all_taken_by};
+ghost use Rattle.rules.specs.TakeLaws.{taken_by, all_taken_by};
 ghost use Rattle.rows.specs.States.{rows_of};
 ghost use Rattle.values.specs.ValueWords.{row_asked};
 ghost use Rattle.batches.specs.Hearings.{heard_at, asked_before, heard_before, asked_in, heard_in, AnswerStands, AllStand};

@@ -30,14 +30,9 @@ use Rattle.schema.specs.KnownLaws.{most-lines, bounded_beyond, counted_beyond}
 use Rattle.schema_text.specs.ReadLaws.{ItemFits, item_fits}
 use Rattle.step_runs.specs.StepRunLaws.{schema_good}
 use Rattle.schema.specs.ItemLaws.{lawful-items}
+pub use Rattle.calls.specs.SchemaReadLaws.{is_value}
 
 -- ---- what a line says is an item by itself
-
--- the number that stands in an item, by its tag
-abbrev is_value : ℕ → ℕ → Bool
-is_value tag value =
-    cond (eqb tag entity_type) (ltb value 131071)
-    (cond (eqb tag set_type) true (cond (leb tag entity_line) (eqb value 0) (leb tag 14)))
 
 is-item : (it : Item) → it.key ≤ 65535 → is_value it.tag it.value ≡ true → is_item it ≡ true
 unfolding is_item

@@ -4,7 +4,7 @@
 ghost use Rattle.std.specs.Prelude.{◌≡◌, map, reverse, ◌+◌, ◌*◌, ◌^◌, ◌<◌, ◌≤◌, length, drop};
 ghost use Rattle.rules.specs.Schema.{attributes_of};
 ghost use Rattle.rules.specs.Paths.{Fields, has_all, attribute_type, add_access_path, type_to_access_trie, add_taken};
-ghost use Rattle.rules.proofs.TypeLaws.{Ascends};
+ghost use Rattle.rules.specs.TypeLaws.{Ascends};
 ghost use Rattle.rows.specs.States.{rows_in};
 ghost use Rattle.schema.specs.Items.{items_of};
 ghost use Rattle.wrapped_paths.specs.Code.{names_in};

@@ -4,8 +4,8 @@
 ghost use Rattle.std.specs.Prelude.{◌≡◌, false, ◌<◌};
 ghost use Rattle.rules.specs.Paths.{add_paths};
 ghost use Rattle.rules.specs.Steps.{two_step, in_result};
-ghost use Rattle.rules.proofs.StepLaws.{AllPaths};
-ghost use Rattle.rules.proofs.TypeLaws.{longest as longest_of, marked_leaf};
+ghost use Rattle.rules.specs.StepLaws.{AllPaths};
+ghost use Rattle.rules.specs.TypeLaws.{longest as longest_of, marked_leaf};
 ghost use Rattle.rows.specs.States.{rows_in};
 ghost use Rattle.wrapped_paths.specs.Code.{AllWithin, paths_at};
 ghost use Rattle.path_tries.specs.Nodes.{Became, PathsToAdd, any_deep};

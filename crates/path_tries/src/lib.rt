@@ -4,8 +4,8 @@
 ghost use Rattle.std.specs.Prelude.{◌≡◌, true, not, ◌&&◌, [], ◌∷◌, ◌+◌, ◌≤◌, eqb, length, take, get_or};
 ghost use Rattle.rules.specs.Tries.{union};
 ghost use Rattle.rules.specs.Paths.{to_root_access_trie_with_leaf, add_access_path, add_paths};
-ghost use Rattle.rules.proofs.StepLaws.{IsPath};
-ghost use Rattle.rules.proofs.TypeLaws.{longest as longest_of};
+ghost use Rattle.rules.specs.StepLaws.{IsPath};
+ghost use Rattle.rules.specs.TypeLaws.{longest as longest_of};
 ghost use Rattle.rows.specs.States.{rows_of, rows_in};
 ghost use Rattle.union.specs.Unions.{Roomy};
 ghost use Rattle.words.specs.Runs.{words_in, Wrote};

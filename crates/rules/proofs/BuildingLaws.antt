@@ -45,16 +45,13 @@ use Rattle.rules.proofs.TrieLaws.{
 }
 use Rattle.rules.specs.Building.{add, after, build, keep, accepted_of, Contributions}
 use Rattle.rules.specs.Listing.{listing}
+pub use Rattle.rules.specs.BuildingLaws.{Fits, Judged, many_entries, many_nodes, within, Some, Shared, Inside}
 
 -- Lawful runs.
 
 -- a lawful run is in listing order
 lawful_ordered : (form : Form) (rows : List Row) → lawful form rows ≡ true → ordered [] rows ≡ true
 lawful_ordered form rows h = ((and-eq-true_iff (ordered [] rows) _).0 h).0
-
--- rows are within a manifest's limits
-abbrev Fits : List Row → Type 0
-Fits rows = (entries_in rows ≤ 64) × (nodes_in rows ≤ 4096)
 
 -- a lawful manifest is a run in listing order within the limits
 lawful_manifest : (rows : List Row) → (lawful manifest rows ≡ true) ↔ ((ordered [] rows ≡ true) × Fits rows)
@@ -72,12 +69,6 @@ unfolding ordered count
 lawful_empty = refl
 
 -- What adding answers.
-
--- an answer, and its cause in the counts of the rows that are judged
-data Judged (rows : List Row) : Answer (List Row) → Type 0 where
-  many_entries : 64 < entries_in rows → Judged rows (refused 5 0)
-  many_nodes : (entries_in rows ≤ 64) × (4096 < nodes_in rows) → Judged rows (refused 4 0)
-  within : Fits rows → Judged rows (accepted rows)
 
 -- an answer tells its cause
 five_cause : {rows : List Row} → Judged rows (refused 5 0) → 64 < entries_in rows
@@ -165,21 +156,12 @@ accepted_append (c ∷ cs) ds m = rw (accepted_append cs ds (after m (add m c)))
 
 -- What a build has.
 
--- one of some runs has P
-abbrev Some : (List Row → Type 0) → List (List Row) → Type 0
-Some P cs = (c : List Row) × Member c cs × P c
-
 -- one of a run and others has it exactly if the run has it, or one of the others
 some_more : (P : List Row → Type 0) (c : List Row) (cs : List (List Row)) → Some P (c ∷ cs) ↔ (P c ⊎ Some P cs)
 some_more P c cs = (
   λ (d, member, has). ⊎_elim (λ e. inl (rw e at has)) (λ m. inr (d, m, has)) (here-or-later member),
   elim [ inl has ↦ (c, here refl, has) | inr (d, m, has) ↦ (d, later m, has) ],
 )
-
--- What having a place and marking a place share: the empty run has it not, and a union has it exactly if one of the two has it.
-record Shared (P : List Row → Type 0) : Type 0 where
-  not_empty : P [] → ⊥
-  of_union : (a b : List Row) → ordered [] a ≡ true → ordered [] b ≡ true → P (union a b) ↔ (P a ⊎ P b)
 
 has_shared : (place : List ℕ) → Shared (λ rows. Has [] rows place)
 unfolding Has
@@ -243,11 +225,6 @@ pub built_marked :
 built_marked cs lcs place = built_some (λ rows. Marked [] rows place) (marked_shared place) cs lcs
 
 -- Order is free.
-
--- rows in listing order all of whose places m has
-record Inside (m rows : List Row) : Type 0 where
-  order : ordered [] rows ≡ true
-  subset : (place : List ℕ) → Has [] rows place → Has [] m place
 
 -- a union of two that are inside m is inside m
 inside_union : {m : List Row} (a b : List Row) → Inside m a → Inside m b → Inside m (union a b)

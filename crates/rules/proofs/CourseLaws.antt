@@ -96,6 +96,7 @@ use Rattle.rules.proofs.TripLaws.{
   nodes_append,
 }
 use Rattle.rules.proofs.LoadLaws.{going_begun, going_answered}
+pub use Rattle.rules.specs.CourseLaws.{HandedSo, Stands, Fresh}
 
 -- Which turn a call that is done was made at, and what came of it.
 
@@ -349,21 +350,6 @@ module _ (nodes : List Row) where
 -- Where a load stands: the load that its transcript works out to, and, turn by turn, what was handed out and how many ancestors calls
 -- were made, of all that it makes: one with an entry, none without.
 
-abbrev HandedSo : List EntityRequest → ℕ → List (List EntityRequest) → Type 0
-HandedSo rows batches handed = (rows_handed handed ≡ rows) × (length handed ≡ batches)
-
-abbrev Stands : ℕ → Turn → Load → List (List EntityRequest) → ℕ → Type 0
-Stands all batch_waits load handed calls =
-    (0 < length load.waiting) × HandedSo load.asked load.batches handed × (calls ≡ 0) × (all ≡ 1)
-Stands all answers_awaited load handed calls =
-    (0 < length load.waiting) × HandedSo (load.asked ++ load.waiting) (suc load.batches) handed × (calls ≡ 0) × (all ≡ 1)
-Stands all ancestors_to_ask load handed calls =
-    (load.waiting ≡ []) × HandedSo load.asked load.batches handed × (calls ≡ 0) × (all ≡ 1)
-Stands all ancestors_awaited load handed calls =
-    (load.waiting ≡ []) × HandedSo load.asked load.batches handed × (calls ≡ 1) × (all ≡ 1)
-Stands all ended load handed calls =
-    (load.waiting ≡ []) × HandedSo load.asked load.batches handed × (calls ≡ all) × (all ≤ 1)
-
 record StandsAt
     (all : ℕ) (request : Request) (nodes : List Row) (t : Transcript) (handed : List (List EntityRequest)) (calls : ℕ) (told : Counts)
     : Type 0
@@ -387,12 +373,6 @@ handed_more (batch ∷ handed) rows = ap (λ rest. batch ++ rest) (handed_more h
 trips_some : (rows : List EntityRequest) → 0 < length rows → trips_for rows ≡ 1
 trips_some [] h = absurd (omega arith)
 trips_some (row ∷ rows) h = refl
-
--- a load that has just begun has asked for nothing
-record Fresh (load : Load) : Type 0 where
-  no_row : load.asked ≡ []
-  no-rows : load.rows ≡ 0
-  no_batch : load.batches ≡ 0
 
 fresh : (request : Request) (nodes : List Row) (load : Load) → load_begun request nodes ≡ done load → Fresh load
 fresh request nodes load e = go (batch_of (initial_entities request 0 0 nodes)) e

@@ -15,11 +15,7 @@ use Rattle.rules.proofs.StepLaws.{GoodSchema}
 use Rattle.rules.proofs.Demand3.{order_free, exactly_those}
 use Rattle.rules.specs.Policies.{contributions_of, add_policy, add_policies}
 use Rattle.rules.proofs.PolicyLaws.{text_lawful, texts_lawful, contributions_of_all, policy_adds, policies_add, given_members, same_given}
-
--- a contribution of some texts: one of the contributions of one of them
-abbrev pub ContributionOf : List Item → List (List ℕ) → List Row → Type 0
-ContributionOf items texts c =
-    (text : List ℕ) × Member text texts × (cs : List (List Row)) × (contributions_of items text ≡ accepted cs) × Member c cs
+pub use Rattle.rules.specs.Demand3Policies.{ContributionOf}
 
 -- 1. A policy text is added exactly where its contributions are given and all of them are accepted, one after the other; then the manifest
 -- is their build.

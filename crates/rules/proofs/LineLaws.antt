@@ -5,19 +5,19 @@ use Rattle.std.proofs.Math.Path.{refl}
 use Rattle.std.proofs.Common.{sym, ◌∙◌, ne_eqb}
 use Rattle.std.proofs.Math.Bool.{true, false}
 use mathlib.Core.List.{List, [], ◌∷◌, ◌++◌, append-nil}
-use Rattle.std.proofs.Math.Option.{Option, none, some}
 use Rattle.std.proofs.Math.Seq.{append_snoc}
-use Rattle.rules.specs.Numbers.{Answer, accepted, refused, and_then, answer_by}
+use Rattle.rules.specs.Numbers.{Answer, accepted, refused, and_then}
 use Rattle.rules.specs.Facts.{by_test, by_option, accepted_same, then_accepted}
 use Rattle.rules.specs.Text.{parted, lines_of, fields_of, LF}
 use Rattle.rules.proofs.TextLaws.{parted_some}
 use Rattle.rules.specs.Lines.{Folded, folded, fold_lines}
 use Rattle.rules.specs.Tries.{Row, Form}
-use Rattle.rules.specs.Walks.{Walked, turn}
-use Rattle.rules.proofs.WalkLaws.{walked_to, listed, turn_past}
+use Rattle.rules.specs.Walks.{Walked}
+use Rattle.rules.proofs.WalkLaws.{walked_to, turn_past}
 use Rattle.rules.specs.Listing.{Sofar, row_of, past, refusal, row_in_front, rows_from}
 use Rattle.rules.proofs.ListingLaws.{refused_not}
 use Rattle.rules.specs.Schema.{Item, Known, item_of, fits, beyond, ahead, items_from}
+pub use Rattle.rules.specs.LineLaws.{gathering, gathered, behind, row_after, row_line, turn_after, turn_line, item_after, item_line}
 
 -- ---- the next line
 
@@ -96,17 +96,6 @@ module _
 
 -- ---- lines that each give something
 
--- a line's thing goes behind those of the lines row_in_front it
-abbrev pub gathering : {S A : Type 0} → (ℕ → List ℕ → S → Answer (A × S)) → ℕ → List ℕ → S × List A → Answer (S × List A)
-gathering look place line (s, things) = and_then (look place line s) (λ got. accepted (got.1, things ++ (got.0 ∷ [])))
-
-abbrev pub gathered : {S A : Type 0} → Answer (Folded (S × List A)) → Answer (List A)
-gathered answer = and_then answer (λ all. accepted all.state.1)
-
--- things in front of what an answer gives
-abbrev behind : {A : Type 0} → List A → Answer (List A) → Answer (List A)
-behind things answer = and_then answer (λ more. accepted (things ++ more))
-
 behind_none : {A : Type 0} (answer : Answer (List A)) → behind [] answer ≡ answer
 behind_none (accepted more) = refl
 behind_none (refused number place) = refl
@@ -159,14 +148,6 @@ module _
 
 -- ---- a listing
 
--- a row after others, if a line is one
-abbrev pub row_after : Form → ℕ → Sofar → Option Row → Answer (Row × Sofar)
-row_after form place sofar none = refused 1 place
-row_after form place sofar (some row) = answer_by place (row, past sofar row) (refusal form sofar row)
-
-abbrev pub row_line : Form → ℕ → List ℕ → Sofar → Answer (Row × Sofar)
-row_line form place line sofar = row_after form place sofar (row_of (fields_of line))
-
 -- a listing is read line after line
 pub rows_folded :
     (form : Form) (sofar : Sofar) (place : ℕ) (lines : List (List ℕ))
@@ -190,14 +171,6 @@ rows_folded form sofar place lines =
         by_option (refusal form s row)
         (λ none-given. rw (rows_from, e, none-given) (in-front row (rows_from form (past s row) (p + 1) (next ∷ lines))))
         (λ number given. rw (rows_from, e, given)))
-
--- a row's turn in the walk that keeps steps and counts, if a line is one
-abbrev pub turn_after : Form → ℕ → Walked ℕ (ℕ × ℕ) → Option Row → Answer (Row × Walked ℕ (ℕ × ℕ))
-turn_after form place w none = refused 1 place
-turn_after form place w (some row) = and_then (turn (listed form) place row [] w) (λ after. accepted (row, after))
-
-abbrev pub turn_line : Form → ℕ → List ℕ → Walked ℕ (ℕ × ℕ) → Answer (Row × Walked ℕ (ℕ × ℕ))
-turn_line form place line w = turn_after form place w (row_of (fields_of line))
 
 -- each line's row is a turn of a walk
 pub rows_walked :
@@ -228,13 +201,6 @@ rows_walked form sofar place lines =
         (λ number given. rw (e, turn_past form p row [] s, given)))
 
 -- ---- a schema
-
-abbrev pub item_after : ℕ → Known → Option Item → Answer (Item × Known)
-item_after place known none = refused 1 place
-item_after place known (some it) = cond (fits known it) (accepted (it, beyond known it)) (refused 1 place)
-
-abbrev pub item_line : ℕ → List ℕ → Known → Answer (Item × Known)
-item_line place line known = item_after place known (item_of (fields_of line))
 
 -- so is a schema
 pub items_folded :

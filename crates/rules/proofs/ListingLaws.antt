@@ -75,6 +75,8 @@ use Rattle.rules.proofs.TextLaws.{
   free_decimal,
 }
 use Rattle.rules.proofs.TrieLaws.{Follows, follows_true, true_follows, Ordered, ordered_true, true_ordered, entry_unmarked, node_step, bare}
+pub use Rattle.rules.specs.ListingLaws.{Written, Allowed, Within, WithinAll, ReadFrom, Lawful}
+unfoldable pub use Rattle.rules.specs.ListingLaws.{AllAllowed}
 
 -- A line that is read.
 
@@ -125,10 +127,6 @@ mark_read field mark e =
     (λ z.
     let (o, e) = cond-some (eqb n 1) (some true) mark (rw z at e) in
     rw (eqb-true n 1 o, ← some-injective true mark e))
-
--- fields are those that are written for a row, which is a row by itself and has no type
-abbrev Written : List (List ℕ) → Row → Type 0
-Written fields row = (fields_for row ≡ fields) × (is_row row ≡ true) × (bare row ≡ row)
 
 -- so it is with fields that are read as an entry, as a node, and as any row
 entry_read :
@@ -294,14 +292,6 @@ lines_more row text =
 
 -- Rows that may come.
 
--- a row may come after others
-record Allowed (form : Form) (sofar : Sofar) (row : Row) : Type 0 where
-  once : form.single ≡ true → is_entry row ≡ true → sofar.entries ≡ 0
-  placed : Follows sofar.place row
-  shallow : row.depth ≤ most_steps
-  entry_room : is_entry row ≡ true → sofar.entries < form.entries
-  node_room : is_entry row ≡ false → sofar.nodes < form.nodes
-
 -- it gives no refusal exactly where it may come
 refusal_none : (form : Form) (sofar : Sofar) (row : Row) → (refusal form sofar row ≡ none) ↔ Allowed form sofar row
 refusal_none form sofar row = (
@@ -327,21 +317,6 @@ refusal_none form sofar row = (
         (and-false (not (is_entry row)) _).1 (λ n. lt-leb _ _ (a.node_room (not-true (is_entry row) n))),
       ),
 )
-
--- rows may come one after the other
-unfoldable AllAllowed : Form → Sofar → List Row → Type 0
-AllAllowed form sofar [] = Unit
-AllAllowed form sofar (row ∷ rows) = (is_row row ≡ true) × Allowed form sofar row × AllAllowed form (past sofar row) rows
-
--- numbers of entries and nodes are within a form's limits
-record Within (form : Form) (entries nodes : ℕ) : Type 0 where
-  single_entry : form.single ≡ true → entries ≤ 1
-  few_entries : entries ≤ form.entries
-  few_nodes : nodes ≤ form.nodes
-
--- those of a run and of the rows after it
-abbrev WithinAll : Form → Sofar → List Row → Type 0
-WithinAll form sofar rows = Within form (sofar.entries + entries_in rows) (sofar.nodes + nodes_in rows)
 
 -- a first row is counted as an entry or as a node
 entry_counted :
@@ -463,12 +438,6 @@ before_accepted :
 before_accepted row (accepted others) rows e then = then others refl (accepted_same (row ∷ others) rows e)
 before_accepted row (refused number place) rows e then = refused_not number place rows e
 
--- rows that are read from a text: they are written as the text, may come one after the other, and have no types
-record ReadFrom (form : Form) (sofar : Sofar) (text : List ℕ) (rows : List Row) : Type 0 where
-  written : listing rows ≡ text
-  allowed : AllAllowed form sofar rows
-  untyped : map bare rows ≡ rows
-
 module _ (form : Form) where
   -- no line is read as no rows
   nothing_read : (sofar : Sofar) (rows : List Row) → accepted [] ≡ accepted rows → ReadFrom form sofar [] rows
@@ -517,12 +486,6 @@ module _ (form : Form) where
       (λ number r. refused_not number place rows (rw (q, rows_from, r, rows_from) at e)))
 
 -- Texts.
-
--- what a lawful run is: in listing order, within the limits, and not empty where it has a single entry
-record Lawful (form : Form) (rows : List Row) : Type 0 where
-  order : Ordered [] rows
-  within : Within form (entries_in rows) (nodes_in rows)
-  some_row : form.single ≡ true → rows ≢ []
 
 -- where the test `lawful` is true a run is so, if the form has room for its single entry
 lawful_true :

@@ -60,19 +60,10 @@ use Rattle.rules.proofs.ValueRowLaws.{
 }
 use Rattle.rules.specs.ValueRowTests.{ProperFields}
 use Rattle.rules.proofs.ValueRowTestLaws.{proper_ascending}
+pub use Rattle.rules.specs.MergeLaws.{there, Three, Kind, leaf, fields, FieldsBelow, front, merged_field, fronted, field_size, Split, at_name, GoodEntity, entity, MergedFrom, Merges, AddsNothing}
+unfoldable pub use Rattle.rules.specs.MergeLaws.{IdsFrom, merged_all, merged_of, each_merges}
 
 -- Three that are merged: grouped either way they give the same, and they merge exactly where each two of them do.
-
--- whether there is a value
-abbrev pub there : {A : Type 0} → Option A → Bool
-there none = false
-there (some a) = true
-
--- the two ways to group them, and the three pairs
-abbrev pub Three : {A : Type 0} → (A → A → Option A) → A → A → A → Type 0
-Three merge a b c =
-    ((merge a b >>= (λ m. merge m c)) ≡ (merge b c >>= (λ m. merge a m)))
-    × (there (merge a b >>= (λ m. merge m c)) ≡ (there (merge a b) && (there (merge a c) && there (merge b c))))
 
 bind_none : {A : Type 0} (B : Type 0) (o : Option A) → ◌≡◌ {A = Option B} (o >>= (λ a. none)) none
 bind_none B none = refl
@@ -111,10 +102,6 @@ module _ {A B : Type 0} (k : A → B) (under : A → A → Option A) (over : B �
       ))
 
 -- Values. A value that is no record merges only with its equal, and never with a record.
-
-data Kind : Value → Type 0 where
-  leaf : {v : Value} → record_in v ≡ none → Kind v
-  fields : (a : Attributes) → Kind (record_of a)
 
 kind : (v : Value) → Kind v
 kind (plain n) = leaf refl
@@ -168,15 +155,6 @@ leaf_fields_after :
 leaf_fields_after v none h = refl
 leaf_fields_after v (some m) h = leaf_fields v m h
 
-abbrev FieldsBelow : ℕ → Type 0
-FieldsBelow n =
-    (a b c : Attributes)
-    → values_in_attributes a + values_in_attributes b + values_in_attributes c < n
-    → Ascending a
-    → Ascending b
-    → Ascending c
-    → Three merged_attributes a b c
-
 three_values :
     (n : ℕ) (v w u : Value)
     → FieldsBelow n
@@ -218,18 +196,6 @@ three_values n v w u on-fields = go v w u (kind v) (kind w) (kind u)
         three_named record_of merged_attributes merged_values fields_fields a b c (on-fields a b c size sv sw su)
 
 -- Fields. At a name that none of the three goes below, each has a field or none, and the rest is past it.
-
-abbrev front : ℕ → Option Value → Attributes → Attributes
-front f none a = a
-front f (some v) a = attribute f v a
-
-abbrev merged_field : Option Value → Option Value → Option (Option Value)
-merged_field none w = some w
-merged_field (some v) none = some (some v)
-merged_field (some v) (some w) = merged_values v w >>= (λ m. some (some m))
-
-abbrev fronted : ℕ → Option (Option Value) → Option Attributes → Option Attributes
-fronted f field rest = field >>= (λ v. rest >>= (λ r. some (front f v r)))
 
 there_fronted : (f : ℕ) (o : Option (Option Value)) (r : Option Attributes) → there (fronted f o r) ≡ (there o && there r)
 there_fronted f none r = refl
@@ -326,11 +292,6 @@ three_front f v w u a b c ha hb hc sa sb sc on-field on-rest =
           )),
     )
 
--- how many values a field holds, if it is there
-abbrev field_size : Option Value → ℕ
-field_size none = 0
-field_size (some v) = 1 + values_in v
-
 size_front : (f : ℕ) (v : Option Value) (a : Attributes) → values_in_attributes (front f v a) ≡ field_size v + values_in_attributes a
 unfolding values_in_attributes
 size_front f none a = omega arith
@@ -356,9 +317,6 @@ three_field n (some v) (some w) none on-fields size sv sw su = go (merged_values
     go (some m) = (refl, refl)
 three_field n (some v) (some w) (some u) on-fields size sv sw su =
     three_named some merged_values merged_field (λ v w. refl) v w u (three_values n v w u on-fields (omega arith) sv sw su)
-
-data Split (f : ℕ) : Attributes → Type 0 where
-  at_name : (v : Option Value) (a : Attributes) → Past f a → Ascending a → Every AscendingIn v → Split f (front f v a)
 
 rest_size : {f : ℕ} {a : Attributes} → Split f a → ℕ
 rest_size (at_name v a past ascends good) = values_in_attributes a
@@ -460,22 +418,9 @@ module _ (a b c : Attributes) (ha : Ascending a) (hb : Ascending b) (hc : Ascend
 
 -- Entities.
 
--- ids that ascend strictly, the first at least `least`
-unfoldable pub IdsFrom : ℕ → List ℕ → Type 0
-IdsFrom least [] = Unit
-IdsFrom least (x ∷ xs) = (least ≤ x) × IdsFrom (suc x) xs
-
--- an entity as a checked answer gives it
-pub record GoodEntity (e : Entity) : Type 0 where
-  pub ids_ascend : IdsFrom 0 e.parents
-  pub fields_ascend : Ascending e.attributes
-
 -- a checked run of rows gives such an entity's attributes
 pub proper_good : (e : Entity) → IdsFrom 0 e.parents → ProperFields 0 e.attributes → GoodEntity e
 proper_good e ids_ascend proper = record { ids_ascend = ids_ascend; fields_ascend = proper_ascending 0 e.attributes proper }
-
-abbrev entity : List ℕ → Attributes → Entity
-entity parents attributes = record { parents = parents; attributes = attributes }
 
 -- entities merge only where their parents are equal
 other_left :
@@ -518,12 +463,6 @@ pub bind_given :
     {A B : Type 0} (o : Option A) (next : A → Option B) {b : B} → (o >>= next) ≡ some b → (a : A) × (o ≡ some a) × (next a ≡ some b)
 bind_given none next {b} e = absurd (none-ne-some b e)
 bind_given (some a) next e = (a, refl, e)
-
--- what two entities merge to: their one set of parents, and the merge of their attributes
-pub record MergedFrom (a b m : Entity) : Type 0 where
-  pub same_as_first : m.parents ≡ a.parents
-  pub same_as_second : m.parents ≡ b.parents
-  pub both_attributes : merged_attributes a.attributes b.attributes ≡ some m.attributes
 
 pub merged_from : (a b m : Entity) → merged_entities a b ≡ some m → MergedFrom a b m
 merged_from a b m e =
@@ -574,10 +513,6 @@ pub there_none : {A : Type 0} (o : Option A) → (there o ≡ false) ↔ (o ≡ 
 there_none none = (λ _. refl, λ _. refl)
 there_none (some a) = (λ e. absurd (true≢false e), λ e. absurd (some-ne-none a e))
 
--- they merge
-abbrev pub Merges : Entity → Entity → Type 0
-Merges a b = merged_entities a b ≢ none
-
 module _ (a b c : Entity) (ga : GoodEntity a) (gb : GoodEntity b) (gc : GoodEntity c) where
   three_entities : Three merged_entities a b c
   three_entities =
@@ -626,20 +561,6 @@ entities_test d a b ga gb =
     go true (some m) = refl
 
 -- Answers to one entity, merged one after the other.
-
-unfoldable pub merged_all : Entity → List Entity → Option Entity
-merged_all a [] = some a
-merged_all a (b ∷ more) = merged_entities a b >>= (λ ab. merged_all ab more)
-
--- what they come to, if there are any
-unfoldable pub merged_of : List Entity → Option Entity
-merged_of [] = none
-merged_of (a ∷ more) = merged_all a more
-
--- whether each of them merges with c
-unfoldable pub each_merges : List Entity → Entity → Bool
-each_merges [] c = true
-each_merges (w ∷ ws) c = there (merged_entities w c) && each_merges ws c
 
 -- one answer more is merged with what those before it come to
 pub all_more : (a : Entity) (l r : List Entity) → merged_all a (l ++ r) ≡ (merged_all a l >>= (λ m. merged_all m r))
@@ -702,9 +623,6 @@ all_merge a l m c good gc e =
     )
 
 -- The order of answers and repeats do not matter: what answers come to is the least entity that each of them adds nothing to.
-
-abbrev AddsNothing : Entity → Entity → Type 0
-AddsNothing m w = merged_entities m w ≡ some m
 
 module _ (m n w : Entity) (gm : GoodEntity m) (gn : GoodEntity n) (gw : GoodEntity w) where
   nothing_trans : AddsNothing m n → AddsNothing n w → AddsNothing m w

@@ -13,6 +13,7 @@ use Rattle.rules.specs.Facts.{by_test, compared}
 use Rattle.rules.specs.Tries.{Row, at, Has, Marked, ordered, same_list, found}
 use Rattle.rules.proofs.WalkLaws.{kept_down}
 use Rattle.rules.proofs.TrieLaws.{Ordered, ordered_true, length_at, step_at, above_at, marked_stands, first_stands, take_above}
+pub use Rattle.rules.specs.PlaceLaws.{Common, Sought}
 
 -- What `found` answers.
 
@@ -88,11 +89,6 @@ found_marked s rows place o = go s rows (ordered_true s rows o)
 
 -- One pass that finds a place: it keeps how many of the place's steps lead to the last row.
 
--- s and place have their first n steps in common, and part there if both go on
-pub record Common (s place : List ℕ) (n : ℕ) : Type 0 where
-  pub alike : take n s ≡ take n place
-  pub parted : n < length s → n < length place → get_or s n 0 ≡ get_or place n 0 → ⊥
-
 -- if both end there they are equal
 together : (s place : List ℕ) (n : ℕ) → Common s place n → length s ≤ n → length place ≤ n → s ≡ place
 together s place n c s-ends place-ends = sym (take_all n s s-ends) ∙ c.alike ∙ take_all n place place-ends
@@ -137,13 +133,6 @@ module _ (s : List ℕ) (row : Row) (place : List ℕ) (n : ℕ) (near : row.dep
         ∙ rw (add-one, take-suc place row.depth 0 inside, same, common_above h);
     parted = λ longer. omega (arith, length_at s row near);
   }
-
--- What is left of rows has the answer, and their last place has n steps in common with the place that is sought.
-pub record Sought (answer : Option Bool) (rows : List Row) (place : List ℕ) (n : ℕ) : Type 0 where
-  pub last : List ℕ
-  pub order : Ordered last rows
-  pub common : Common last place n
-  pub left : answer ≡ found last rows place
 
 -- before the first row
 pub sought_first :

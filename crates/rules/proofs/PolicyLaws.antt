@@ -31,7 +31,7 @@ use Rattle.rules.specs.Listing.{row_of}
 use Rattle.rules.proofs.ListingLaws.{bind_some, refused_not, row_is_row}
 use Rattle.rules.specs.Schema.{Item}
 use Rattle.rules.specs.Steps.{Result, step_line, ended}
-use Rattle.rules.proofs.StepLaws.{Each, AllGood, GoodSchema}
+use Rattle.rules.proofs.StepLaws.{Each, GoodSchema}
 use Rattle.rules.proofs.AnalysisLaws.{line_keeps, ended_lawful}
 use Rattle.rules.specs.Building.{add, after, build, keep, accepted_of, Contributions}
 use Rattle.rules.proofs.BuildingLaws.{accepted_most, build_append, accepted_append}
@@ -49,10 +49,8 @@ use Rattle.rules.specs.Policies.{
   add_policy,
   add_policies,
 }
-
--- a contribution behind those before it
-abbrev pub gather_at : ℕ → List Row → List (List Row) → Answer (List (List Row))
-gather_at place c cs = accepted (cs ++ (c ∷ []))
+pub use Rattle.rules.specs.PolicyLaws.{gather_at, GoodBegun, GoodPolicy, AllAdd, in_front, finish}
+unfoldable pub use Rattle.rules.specs.PolicyLaws.{contributions_of_all}
 
 -- ---- the contributions of a text are lawful
 
@@ -65,14 +63,6 @@ request_below line request e =
     let whole : is_row row ≡ true = row_is_row (fields_of line) row q in
     let small : ltb row.step (ids ^ 3) ≡ true = (both_true (ltb row.step (ids ^ 3)) _ (rw entry at whole)).0 in
     rw (sym (some-injective _ _ given)) (ltb-true row.step (ids ^ 3) small))
-
--- a contribution that has begun: its request type is one, and its results are good
-abbrev GoodBegun : Option Begun → Type 0
-GoodBegun none = Unit
-GoodBegun (some b) = (b.request < ids ^ 3) × AllGood b.results
-
-abbrev GoodPolicy : Policy (List (List Row)) → Type 0
-GoodPolicy p = Contributions p.sofar × GoodBegun p.begun
 
 -- lawful contributions, and others behind them
 contributions_append : (cs ds : List (List Row)) → Contributions cs → Contributions ds → Contributions (cs ++ ds)
@@ -144,10 +134,6 @@ same_parts {A = A} (x ∷ xs) (u ∷ us) ys vs h e =
     let (fronts, ends) = same_parts xs us ys vs (omega arith) tails in
     (ap₂ (λ (a : A) (l : List A). a ∷ l) heads fronts, ends)
 
--- contributions are all accepted by a manifest, and rows are their build
-abbrev pub AllAdd : List Row → List (List Row) → List Row → Type 0
-AllAdd m cs rows = (accepted_of m cs ≡ cs) × (rows ≡ build m cs)
-
 -- so are some and then others
 all_then :
     (m : List Row) (cs ds : List (List Row)) {between rows : List Row}
@@ -218,10 +204,6 @@ adds_behind :
 adds_behind m (accepted a) each = each a
 adds_behind m (refused number place) each = adds_refused m number place
 
--- contributions in front of what an answer gives
-abbrev pub in_front : List (List Row) → Answer (List (List Row)) → Answer (List (List Row))
-in_front cs answer = and_then answer (λ more. accepted (cs ++ more))
-
 -- adding and then adding more
 adds_then :
     (m : List Row) (added : Answer (List Row)) (given : Answer (List (List Row))) (next : List Row → Answer (List Row)) (others : Answer (List (List Row)))
@@ -244,10 +226,6 @@ adds_then m added given next others first rest rows = (
 )
 
 -- ---- a text, line by line
-
--- the lines from one on, and then the end
-abbrev pub finish : {S : Type 0} → (ℕ → List Row → S → Answer S) → List Item → ℕ → List (List ℕ) → Policy S → Answer S
-finish taking items place lines p = and_then (fold_lines (policy_line taking items) place lines p) (λ all. closed taking items all.lines all.state)
 
 module _ (items : List Item) (cs : List (List Row)) where
   -- contributions in front stay there
@@ -391,11 +369,6 @@ module _ (items : List Item) where
   policy_adds text m = lines_add (lines_of text) 0 none m
 
 -- ---- texts
-
--- the contributions of policy texts, one text after the other
-unfoldable pub contributions_of_all : List Item → List (List ℕ) → Answer (List (List Row))
-contributions_of_all items [] = accepted []
-contributions_of_all items (text ∷ texts) = and_then (contributions_of items text) (λ cs. in_front cs (contributions_of_all items texts))
 
 module _ (items : List Item) where
   pub policies_add : (texts : List (List ℕ)) (m : List Row) → Adds m (add_policies items m texts) (contributions_of_all items texts)

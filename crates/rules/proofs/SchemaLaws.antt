@@ -11,16 +11,9 @@ use Rattle.rules.specs.Listing.{is_letter, place_in}
 use Rattle.rules.proofs.ListingLaws.{bind_some, refused_not}
 use Rattle.rules.specs.Schema.{Item, Known, unknown, type_of, pair_of, item_of, fits, beyond, lawful_items, ahead, items_from, read_schema, value_of}
 use Rattle.rules.proofs.StepLaws.{Each, each_then, GoodSchema}
+pub use Rattle.rules.specs.SchemaLaws.{Said, LawfulAndSaid}
 
 -- ---- lines that are accepted
-
--- a line says this item
-abbrev pub Said : Item → Type 0
-Said it = (fields : List (List ℕ)) × (item_of fields ≡ some it)
-
--- items that may stand after others, each said by a line
-abbrev LawfulAndSaid : Known → List Item → Type 0
-LawfulAndSaid known items = (lawful_items known items ≡ true) × Each Said items
 
 -- an item in front of what was accepted
 ahead_accepted :

@@ -45,70 +45,11 @@ use Rattle.rules.proofs.MergeLaws.{
   all_merge_test,
   same_merge,
 }
-use Rattle.rules.specs.Loading.{
-  LoadAnswer,
-  done,
-  refused_at,
-  counted,
-  ◌then◌,
-  Request,
-  EntityRequest,
-  Loaded,
-  loaded,
-  loaded_as,
-  entered,
-  AnswersTaken,
-  take_answer,
-  take_answers,
-  batch_of,
-  remaining_entities,
-  summed,
-  size_of_answer,
-  Load,
-  initial_entities,
-  load_begun,
-  batch_answered,
-  after_batches,
-  with_id,
-  with_ids,
-  with_parents,
-  with_ancestors,
-}
-
--- The answers to the rows that ask for e, in order.
-abbrev pub answer_to : ℕ → EntityRequest → Option Entity → List Entity
-answer_to e row none = []
-answer_to e row (some value) = cond (eqb row.id e) (value ∷ []) []
-
-unfoldable pub answers_to : ℕ → List EntityRequest → List (Option Entity) → List Entity
-answers_to e [] answers = []
-answers_to e (row ∷ rows) [] = []
-answers_to e (row ∷ rows) (answer ∷ answers) = answer_to e row answer ++ answers_to e rows answers
-
--- Entities in strictly ascending order, the first at least `least`.
-unfoldable pub SliceFrom : ℕ → List Loaded → Type 0
-SliceFrom least [] = Unit
-SliceFrom least (l ∷ ls) = (least ≤ l.id) × SliceFrom (suc l.id) ls
-
--- The slice of some rows and their answers: it ascends, and it has exactly the entities answered, each as its answers come to.
-pub record SliceOf (rows : List EntityRequest) (answers : List (Option Entity)) (slice : List Loaded) : Type 0 where
-  pub ascends : SliceFrom 0 slice
-  pub merged : (e : ℕ) → loaded_as e slice ≡ merged_of (answers_to e rows answers)
-  pub answered : (e : ℕ) → loaded_as e slice ≡ none → answers_to e rows answers ≡ []
+use Rattle.rules.specs.Loading.{LoadAnswer, done, refused_at, counted, ◌then◌, Request, EntityRequest, Loaded, loaded_as, entered, AnswersTaken, take_answer, take_answers, batch_of, remaining_entities, summed, size_of_answer, Load, initial_entities, load_begun, batch_answered, after_batches, with_id, with_ids, with_parents, with_ancestors}
+pub use Rattle.rules.specs.SliceLaws.{answer_to, SliceOf, with_answer, NoneRefused, LoadOf, with_more}
+unfoldable pub use Rattle.rules.specs.SliceLaws.{answers_to, SliceFrom, put, ids_to}
 
 -- Entering an answer: the entity, merged with the one that is there, is put in its place.
-
--- what is there after one answer more
-abbrev pub with_answer : Option Entity → Entity → Option Entity
-with_answer none value = some value
-with_answer (some there-already) value = merged_entities there-already value
-
--- an entity put in its place, in place of the one of its id
-unfoldable pub put : ℕ → Entity → List Loaded → List Loaded
-put e value [] = loaded e value ∷ []
-put e value (l ∷ ls) =
-    let rest : List Loaded = l ∷ put e value ls in
-    cond (ltb e l.id) (loaded e value ∷ l ∷ ls) (cond (eqb e l.id) (loaded e value ∷ ls) rest)
 
 -- an entity before the first is not there
 pub before_first : (e least : ℕ) (slice : List Loaded) → e < least → SliceFrom least slice → loaded_as e slice ≡ none
@@ -212,10 +153,6 @@ answers_good e (row ∷ rows) (some value ∷ answers) good =
     (λ t. rw t (answers_good e rows answers good.1))
 
 -- One answer more.
-
--- answers that come to nothing are none
-abbrev NoneRefused : List Entity → Type 0
-NoneRefused l = merged_of l ≡ none → l ≡ []
 
 of_more : (l : List Entity) (value : Entity) → NoneRefused l → merged_of (l ++ (value ∷ [])) ≡ with_answer (merged_of l) value
 unfolding merged_of merged_all
@@ -428,11 +365,6 @@ answers_slice nodes place (row ∷ batch) (answer ∷ taken) gained more rows an
     (omega arith)
     (answer_slice nodes place row answer gained next rows answers lengths sofar first)
     rest)
-
--- A load after some answers: its slice is that of the rows asked and those answers.
-pub record LoadOf (answers : List (Option Entity)) (load : Load) : Type 0 where
-  pub as_many : length load.asked ≡ length answers
-  pub slice-of : SliceOf load.asked answers load.slice
 
 cond_done :
     {A : Type 0} (t : Bool) (n m : ℕ) (answer : LoadAnswer A) {a : A}
@@ -669,16 +601,6 @@ module _
             (left-or-right (answers_to e rows answers) (rw (answers_append e rows two_rows answers (two_answers x y) lengths) at h)))
 
 -- Ancestors.
-
--- The ids answered to the requests of the rows that ask for e, in order.
-unfoldable pub ids_to : ℕ → List EntityRequest → List (List ℕ) → List ℕ
-ids_to e [] answers = []
-ids_to e (row ∷ rows) [] = []
-ids_to e (row ∷ rows) (ids ∷ answers) = cond (eqb row.id e) ids [] ++ ids_to e rows answers
-
--- an entity with more parents
-abbrev pub with_more : List ℕ → Entity → Entity
-with_more ids value = record { parents = with_ids ids value.parents; attributes = value.attributes }
 
 pub ids_append : (xs ys parents : List ℕ) → with_ids (xs ++ ys) parents ≡ with_ids ys (with_ids xs parents)
 unfolding with_ids

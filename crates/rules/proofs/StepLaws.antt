@@ -11,27 +11,8 @@ use Rattle.rules.specs.Numbers.{accepted, first_of, most_steps, answer_by}
 use Rattle.rules.specs.Text.{bytes, decimal_of}
 use Rattle.rules.proofs.TextLaws.{decimal_written}
 use Rattle.rules.specs.Facts.{by_test, by_option, cond-true, cond-some, cond-none, accepted_same}
-use Rattle.rules.specs.Tries.{Row, is_step, is_root, is_entry, is_row, kind_of, step_of, literals, at, ordered, contribution, union}
-use Rattle.rules.proofs.TrieLaws.{
-  Follows,
-  Ordered,
-  ordered_true,
-  true_ordered,
-  node_step,
-  Turns,
-  no_left,
-  no_right,
-  left,
-  right,
-  both as together,
-  union_turns,
-  bare,
-  union_ordered,
-  union_idempotent,
-  union_commutative,
-  union_associative,
-  union_left_length,
-}
+use Rattle.rules.specs.Tries.{Row, is_step, is_root, is_entry, kind_of, step_of, literals, at, ordered, contribution, union}
+use Rattle.rules.proofs.TrieLaws.{Ordered, ordered_true, true_ordered, node_step, Turns, no_left, no_right, left, right, both as together, union_turns, bare, union_ordered, union_idempotent, union_commutative, union_associative, union_left_length}
 use Rattle.rules.specs.Listing.{read, ◌>>=◌, place_in}
 use Rattle.rules.proofs.ListingLaws.{bind_some, place_read, refused_not}
 use Rattle.rules.proofs.TypeLaws.{deepest, path_deep, union_too_deep}
@@ -128,102 +109,10 @@ use Rattle.rules.specs.Steps.{
   full_step,
   apply,
 }
+pub use Rattle.rules.specs.StepLaws.{IsPath, AllPaths, Plain, IsTrie, Absorbs, AllAbsorbed, GoodResult, AllGood, GoodStep, AllKeys, GoodSchema, GoodLeaf, Judged, Ended, LawfulLines, GoodWrapped}
+unfoldable pub use Rattle.rules.specs.StepLaws.{Each, Stepped, Below, any_too_deep, grown_in, Nodes, StepsAt, Ascends}
 
 -- The statements.
-
--- each member of a list has P
-unfoldable pub Each : {A : Type 0} → (A → Type 0) → List A → Type 0
-Each P [] = Unit
-Each P (a ∷ more) = P a × Each P more
-
--- 'a path is a root and fields'
-unfoldable pub Stepped : Path → Type 0
-Stepped [] = ⊥
-Stepped (first ∷ fields) = (is_root first ≡ true) × Each (λ f. f < 65536) fields
-
--- a path of at most 24 steps
-pub record IsPath (path : Path) : Type 0 where
-  pub steps : Stepped path
-  pub short : length path ≤ 24
-
-abbrev pub AllPaths : List Path → Type 0
-AllPaths = Each IsPath
-
--- a row of a trie: a node, and not typed
-pub record Plain (row : Row) : Type 0 where
-  pub node : is_entry row ≡ false
-  pub untyped : row.type ≡ none
-
--- a run of nodes in listing order, as it stands behind an entry
-pub record IsTrie (rows : List Row) : Type 0 where
-  pub order : ordered (0 ∷ []) rows ≡ true
-  pub plain : Each Plain rows
-
--- a trie to which a path adds nothing
-abbrev pub Absorbs : List Row → Path → Type 0
-Absorbs trie path = union trie (to_root_access_trie_with_leaf path empty_leaf) ≡ trie
-
-abbrev pub AllAbsorbed : List Row → List Path → Type 0
-AllAbsorbed trie = Each (Absorbs trie)
-
--- a result that may stand on the stack
-pub record GoodResult (r : Result) : Type 0 where
-  pub few_nodes : nodes_of r.paths ≤ 256
-  pub good_paths : AllPaths (paths_in r.paths)
-  pub good_trie : IsTrie r.trie
-  pub few_rows : length r.trie ≤ 1024
-  pub absorbed : AllAbsorbed r.trie (paths_in r.paths)
-
-abbrev pub AllGood : List Result → Type 0
-AllGood = Each GoodResult
-
--- what a line's step names is a root or fields
-abbrev pub GoodStep : Step → Type 0
-GoodStep (root r) = is_root r ≡ true
-GoodStep none_line = Unit
-GoodStep (attr f) = f < 65536
-GoodStep union_line = Unit
-GoodStep drop_line = Unit
-GoodStep (full t) = Unit
-GoodStep in_line = Unit
-GoodStep set = Unit
-GoodStep (rec names) = Each (λ f. f < 65536) names
-
--- the items of a schema that was read
-abbrev pub AllKeys : List Item → Type 0
-AllKeys = Each (λ it. it.key ≤ 65535)
-
-abbrev pub GoodSchema : List Item → Type 0
-GoodSchema items = (lawful_items unknown items ≡ true) × AllKeys items
-
--- rows that may stand below any node: in listing order after the place s, none less deep than `least`, by steps of any kind, and not typed
-unfoldable pub Below : ℕ → List ℕ → List Row → Type 0
-Below least s [] = Unit
-Below least s (row ∷ rows) =
-    (is_step row.step ≡ true) × (least ≤ row.depth) × (row.type ≡ none) × Follows s row × Below least (at s row) rows
-
--- a leaf whose rows may stand below any node
-pub record GoodLeaf (leaf : Leaf) : Type 0 where
-  pub in_order : Below 1 (0 ∷ []) leaf.below
-
--- whether one of some tries is too deep
-unfoldable pub any_too_deep : List (List Row) → Bool
-any_too_deep [] = false
-any_too_deep (trie ∷ tries) = is_too_deep trie || any_too_deep tries
-
--- the paths that gain the field f: those in no record literal
-unfoldable pub grown_in : ℕ → Paths → List Path
-grown_in f Empty = []
-grown_in f (AccessPath path) = (path ++ (f ∷ [])) ∷ []
-grown_in f (Union a b) = grown_in f b ++ grown_in f a
-grown_in f (RecordLiteral fields) = []
-grown_in f (SetLiteral elements) = []
-
--- a result within the limits
-pub record Judged (top : Result) : Type 0 where
-  pub few_nodes : nodes_of top.paths ≤ 256
-  pub shallow : is_too_deep top.trie ≡ false
-  pub few_rows : length top.trie ≤ 1024
 
 -- Facts on values that are given, on tests and on lists.
 
@@ -467,11 +356,6 @@ all_trie (more ∷ tries) trie t ts shallow =
 
 -- Rows below a node, and rows behind an entry.
 
--- nodes in listing order after the place s, as deep as they may be, and not typed
-unfoldable Nodes : List ℕ → List Row → Type 0
-Nodes s [] = Unit
-Nodes s (row ∷ rows) = (is_row row ≡ true) × Plain row × Follows s row × Nodes (at s row) rows
-
 -- the rows of a trie may stand below a node
 trie_below : (rows : List Row) → IsTrie rows → Below 1 (0 ∷ []) rows
 unfolding Ordered Each Below
@@ -552,11 +436,6 @@ moved least front x y rest enough then (row ∷ rows) q (step, deep, untyped, af
 
 -- The trie of a path.
 
--- the steps of a path from a depth on: at depth 1 a root
-unfoldable StepsAt : ℕ → Path → Type 0
-StepsAt d [] = Unit
-StepsAt d (step ∷ steps) = (cond (eqb d 1) (is_root step) (is_step step) ≡ true) × StepsAt (suc d) steps
-
 -- a field is a step
 pub field_step : (f : ℕ) → f < 65536 → is_step f ≡ true
 field_step f h = let kind : kind_of f ≡ 0 = omega arith in simp (kind, or-true)
@@ -608,13 +487,6 @@ chain_then (step ∷ next ∷ path) s d mark rest e low steps more =
     (omega arith)
     steps.1
     (rw (append_snoc s step (next ∷ path)) more))
-
--- a list by its last member
-record Ended (x : ℕ) (xs : List ℕ) : Type 0 where
-  front : List ℕ
-  last : ℕ
-  whole : x ∷ xs ≡ front ++ (last ∷ [])
-  size : length front ≡ length xs
 
 ended : (x : ℕ) (xs : List ℕ) → Ended x xs
 ended x [] = record { front = []; last = x; whole = refl; size = refl }
@@ -682,11 +554,6 @@ short_trie path mark p =
 pub ancestors-leaf : (mark : Bool) (ancestors : List Row) → IsTrie ancestors → GoodLeaf (record { mark = mark; below = ancestors })
 ancestors-leaf mark ancestors t = record { in_order = trie_below ancestors t }
 
--- attributes by ascending fields, the first at least `least`
-unfoldable Ascends : ℕ → List Item → Type 0
-Ascends least [] = Unit
-Ascends least (it ∷ items) = (least ≤ it.key) × (it.key < 65536) × Ascends (it.key + 1) items
-
 -- so it is with the attributes in front of lawful lines
 attributes_ascend : (items : List Item) (known : Known) → lawful_items known items ≡ true → AllKeys items → Ascends known.field (attributes_of items)
 unfolding lawful_items attributes_of Each Ascends
@@ -699,10 +566,6 @@ attributes_ascend (it ∷ items) known h keys =
     let (low, _) = (and-eq-true_iff (leb known.field it.key) _).0 tests in
     rw e (leb-true _ _ low, omega (arith, keys.0), rw e at (attributes_ascend items (beyond known it) rest keys.1)))
     (λ e. rw e tt)
-
--- lines that are lawful after some others
-abbrev LawfulLines : List Item → Type 0
-LawfulLines lines = (known : Known) × (lawful_items known lines ≡ true) × AllKeys lines
 
 -- so it is with the lines from a type on
 from_lawful : (t : ℕ) (items lines : List Item) → LawfulLines items → from_type t items ≡ some lines → LawfulLines lines
@@ -1237,13 +1100,6 @@ set_good top g j = record {
   few_rows = j.few_rows;
   absorbed = g.absorbed;
 }
-
--- `rec`: what is taken from a good stack
-record GoodWrapped (w : Wrapped) : Type 0 where
-  paths : AllPaths (paths_in_fields w.fields)
-  trie : IsTrie w.trie
-  absorbed : AllAbsorbed w.trie (paths_in_fields w.fields)
-  left : AllGood w.left
 
 wrapped_good : (names : List ℕ) (stack : List Result) (w : Wrapped) → AllGood stack → wrapped names stack ≡ some w → GoodWrapped w
 unfolding wrapped paths_in Each

@@ -1,5 +1,5 @@
 -- Answers taken row by row, with the answers before them in place of the slice (`taken_by`, `all_taken_by`), and laws that this is the same.
-use Rattle.std.specs.Prelude.{ℕ, suc, ◌+◌, ◌≡◌, refl, Bool, cond, List, [], ◌∷◌, ◌++◌, length, take, drop}
+use Rattle.std.specs.Prelude.{ℕ, suc, ◌+◌, ◌≡◌, refl, List, [], ◌∷◌, ◌++◌, length, take, drop}
 use Rattle.std.proofs.Common.{arith, add-zero, add-suc, suc-add, sym, ap, ◌∙◌, append_assoc, append-nil, length-append}
 use Rattle.std.proofs.Math.Option.{Option, none, some}
 use Rattle.std.proofs.Math.Seq.{drop-nil}
@@ -24,30 +24,8 @@ use Rattle.rules.specs.Loading.{
 }
 use Rattle.rules.proofs.MergeLaws.{GoodEntity, each_merges, there}
 use Rattle.rules.proofs.SliceLaws.{answers_to, SliceOf, slice_none, slice_some, entered_test}
-
--- What an answer comes to, by the rows asked and answered before it: the rows that are found, 14, or 13 where it does not merge with an
--- earlier answer to the same entity.
-abbrev pub found_or : ℕ → Bool → Option (List EntityRequest) → LoadAnswer (List EntityRequest)
-found_or place merges none = refused_at 14 place
-found_or place merges (some rows) = cond merges (done rows) (refused_at 13 place)
-
-abbrev pub taken_by :
-    List Row → List EntityRequest → List (Option Entity) → ℕ → EntityRequest → Option Entity → LoadAnswer (List EntityRequest)
-taken_by nodes asked answers place row none = done []
-taken_by nodes asked answers place row (some value) =
-    found_or place (each_merges (answers_to row.id asked answers) value) (batch_of (remaining_entities nodes row.node value.attributes))
-
--- the slice after an answer that is taken
-abbrev or_else : Option (List Loaded) → List Loaded → List Loaded
-or_else none slice = slice
-or_else (some more) slice = more
-
-abbrev pub slice_after : EntityRequest → Option Entity → List Loaded → List Loaded
-slice_after row none slice = slice
-slice_after row (some value) slice = or_else (entered row.id value slice) slice
-
-abbrev pub taken_into : AnswersTaken → EntityRequest → Option Entity → List EntityRequest → AnswersTaken
-taken_into gained row answer rows = record { slice = slice_after row answer gained.slice; next = gained.next ++ rows }
+pub use Rattle.rules.specs.TakeLaws.{found_or, taken_by, or_else, slice_after, taken_into}
+unfoldable pub use Rattle.rules.specs.TakeLaws.{all_taken_by, slices_after}
 
 module _
     (nodes : List Row) (asked : List EntityRequest) (answers : List (Option Entity)) (gained : AnswersTaken)
@@ -109,16 +87,6 @@ module _
         go none o t next e = let z : ◌≡◌ {A = ℕ} 0 1 = cc in absurd (omega arith)
         go (some found) none t next e = let z : ◌≡◌ {A = ℕ} 0 1 = cc (rw (← t) at e) in absurd (omega arith)
         go (some found) (some slice) t next e = next slice refl
-
--- What a batch's answers come to, each by the rows asked and answered before it.
-unfoldable pub all_taken_by :
-    List Row → List EntityRequest → List (Option Entity) → ℕ → List EntityRequest → List (Option Entity) → LoadAnswer (List EntityRequest)
-all_taken_by nodes asked before place [] answers = done []
-all_taken_by nodes asked before place (row ∷ rows) [] = done []
-all_taken_by nodes asked before place (row ∷ rows) (answer ∷ answers) =
-    taken_by nodes asked before place row answer then
-    (λ found.
-    all_taken_by nodes (asked ++ (row ∷ [])) (before ++ (answer ∷ [])) (suc place) rows answers then (λ more. done (found ++ more)))
 
 -- answers after others; rows without an answer are passed over
 pub taken_append :
@@ -186,12 +154,6 @@ taken_one nodes asked before place row rows answer =
     same (done found) = rw (append-nil found)
     same (refused_at number place) = refl
     same (counted expected got) = refl
-
--- The slice after answers that are taken.
-unfoldable pub slices_after : List EntityRequest → List (Option Entity) → List Loaded → List Loaded
-slices_after [] answers slice = slice
-slices_after (row ∷ rows) [] slice = slice
-slices_after (row ∷ rows) (answer ∷ answers) slice = slices_after rows answers (slice_after row answer slice)
 
 -- The answers of a batch, taken by the slice, come to the same.
 pub takes_by :

@@ -9,13 +9,10 @@ use Rattle.std.proofs.lemmas.Bool.{eqb-false}
 use Rattle.std.proofs.Math.Seq.{append_snoc}
 use Rattle.std.proofs.Math.ListN.{get_or-append}
 use Rattle.rules.specs.Text.{parted, onto, number_from, decimal_up_to, decimal_of, decimal_in, decimal}
+pub use Rattle.rules.specs.TextLaws.{Free, free_empty, free_more, AllFree, one_free, more_free, Split}
+unfoldable pub use Rattle.rules.specs.TextLaws.{joined_by}
 
 -- ---- parts
-
--- a run with no byte b
-pub data Free (b : ℕ) : List ℕ → Type 0 where
-  free_empty : Free b []
-  free_more : {x : ℕ} {xs : List ℕ} → x ≢ b → Free b xs → Free b (x ∷ xs)
 
 -- two runs with no b make one with no b
 pub free_append : {b : ℕ} {xs ys : List ℕ} → Free b xs → Free b ys → Free b (xs ++ ys)
@@ -45,12 +42,6 @@ parted_some b (x ∷ xs) = go (eqb x b) (parted_some b xs)
     go true rest = ([], parted b xs, refl)
     go false rest = (x ∷ rest.0, rest.1, rw rest.2)
 
--- parts with a b between each two
-unfoldable pub joined_by : ℕ → List (List ℕ) → List ℕ
-joined_by b [] = []
-joined_by b (part ∷ []) = part
-joined_by b (part ∷ next ∷ parts) = part ++ b ∷ joined_by b (next ∷ parts)
-
 -- a byte in front of the first part is one in front of the whole
 joined_by_onto : (b x : ℕ) (part : List ℕ) (parts : List (List ℕ)) → joined_by b ((x ∷ part) ∷ parts) ≡ x ∷ joined_by b (part ∷ parts)
 unfolding joined_by
@@ -68,11 +59,6 @@ joined_parted b (x ∷ xs) = go (eqb x b) refl (parted_some b xs) (joined_parted
     go true q (part, parts, e) rest = rw (e, eqb-true x b q) (ap (λ (l : List ℕ). b ∷ l) (rw e at rest))
     go false q (part, parts, e) rest = rw e (joined_by_onto b x part parts ∙ ap (λ (l : List ℕ). x ∷ l) (rw e at rest))
 
--- one run or more with no byte b
-pub data AllFree (b : ℕ) : List (List ℕ) → Type 0 where
-  one_free : {part : List ℕ} → Free b part → AllFree b (part ∷ [])
-  more_free : {part next : List ℕ} {parts : List (List ℕ)} → Free b part → AllFree b (next ∷ parts) → AllFree b (part ∷ next ∷ parts)
-
 -- they are the parts of the run that they make
 pub parted_joined : {b : ℕ} {parts : List (List ℕ)} → AllFree b parts → parted b (joined_by b parts) ≡ parts
 unfolding joined_by
@@ -84,10 +70,6 @@ pub free_joined : {b : ℕ} {parts : List (List ℕ)} (between : ℕ) → betwee
 unfolding joined_by
 free_joined between other (one_free part) = part
 free_joined between other (more_free part rest) = free_append part (free_more other (free_joined between other rest))
-
--- the parts that stand behind a first one: it is ended by a b, and they are the parts of what comes after that
-abbrev pub Split : ℕ → List ℕ → List ℕ → List (List ℕ) → Type 0
-Split b xs part others = (rest : List ℕ) × (xs ≡ part ++ b ∷ rest) × (parted b rest ≡ others)
 
 pub parted_split : (b : ℕ) (xs part next : List ℕ) (more : List (List ℕ)) → parted b xs ≡ part ∷ next ∷ more → Split b xs part (next ∷ more)
 unfolding parted

@@ -8,7 +8,6 @@ use Rattle.std.proofs.Math.Bool.{and-eq-true_iff, or-false, or_self, or_comm}
 use mathlib.Core.List.{List, [], ◌∷◌, map}
 use Rattle.std.proofs.Math.Option.{none}
 use Rattle.std.proofs.lemmas.Bool.{not-true}
-use Rattle.rules.specs.Numbers.{most_steps}
 use Rattle.rules.specs.Facts.{
   by_test,
   cond-true,
@@ -48,13 +47,10 @@ use Rattle.rules.specs.Tries.{
   union_onto,
   union,
 }
+pub use Rattle.rules.specs.TrieLaws.{Follows, Before, deeper, smaller, SamePlace, Says, Turns, no_left, no_right, left, right, both, always, Alike, seen, bare, spot, Local, Bounds, is_node}
+unfoldable pub use Rattle.rules.specs.TrieLaws.{Ordered, Stands}
 
 -- The tests as statements.
-
--- a row may come after the place s
-pub record Follows (s : List ℕ) (row : Row) : Type 0 where
-  pub near : row.depth ≤ length s
-  pub past : row.depth < length s → get_or s row.depth 0 < row.step
 
 -- the test `follows` is true exactly where a row may come
 pub follows_true : (s : List ℕ) (row : Row) → follows s row ≡ true → Follows s row
@@ -68,11 +64,6 @@ true_follows s row h =
     by_test (ltb row.depth (length s))
     (λ e. rw e (lt-ltb _ _ (h.past (ltb-true _ _ e))))
     (λ e. rw e (eq-eqb row.depth (length s) (omega (arith, ltb-false))))
-
--- rows in listing order after the place s
-unfoldable pub Ordered : List ℕ → List Row → Type 0
-Ordered s [] = Unit
-Ordered s (row ∷ rows) = (is_row row ≡ true) × Follows s row × (row.depth ≤ most_steps) × Ordered (at s row) rows
 
 -- the test `ordered` is true exactly where rows are in order
 pub ordered_true : (s : List ℕ) (rows : List Row) → ordered s rows ≡ true → Ordered s rows
@@ -119,22 +110,6 @@ pub place_past : (s : List ℕ) (x y : Row) → x.depth ≤ length s → y.depth
 place_past s x y near no_deeper = rw (take_above s x y.depth near no_deeper)
 
 -- Which of two rows comes first.
-
--- x comes before y: it is deeper, or as deep with a smaller step
-pub data Before (x y : Row) : Type 0 where
-  deeper : y.depth < x.depth → Before x y
-  smaller : x.depth ≡ y.depth → x.step < y.step → Before x y
-
--- after one place, x and y have one place
-pub record SamePlace (x y : Row) : Type 0 where
-  pub depths : x.depth ≡ y.depth
-  pub steps : x.step ≡ y.step
-
--- what each answer of `next` says of two rows
-abbrev pub Says : Row → Row → Next → Type 0
-Says x y first = Before x y
-Says x y second = Before y x
-Says x y same = SamePlace x y
 
 -- it says so exactly where it is so
 pub next_says : (x y : Row) → Says x y (next x y)
@@ -188,14 +163,6 @@ union_second x y a b e = rw (e, union, union_onto)
 pub union_same : (x y : Row) (a b : List Row) → next x y ≡ same → union (x ∷ a) (y ∷ b) ≡ joined x y ∷ union a b
 unfolding union union_onto
 union_same x y a b e = rw (e, union, union_onto)
-
--- the turns by which rows c come from rows a and b
-pub data Turns : List Row → List Row → List Row → Type 0 where
-  no_left : {b : List Row} → Turns [] b b
-  no_right : {a : List Row} → Turns a [] a
-  left : {x y : Row} {a b c : List Row} → Before x y → Turns a (y ∷ b) c → Turns (x ∷ a) (y ∷ b) (x ∷ c)
-  right : {x y : Row} {a b c : List Row} → Before y x → Turns (x ∷ a) b c → Turns (x ∷ a) (y ∷ b) (y ∷ c)
-  both : {x y : Row} {a b c : List Row} → SamePlace x y → Turns a b c → Turns (x ∷ a) (y ∷ b) (joined x y ∷ c)
 
 -- a union comes by turns
 pub union_turns : (a b : List Row) → Turns a b (union a b)
@@ -285,14 +252,6 @@ turns_ordered (both {x = x} {y = y} h more) s oa ob = (
 
 -- The places of a union.
 
--- of the rows after s, one that passes a test stands at a place
-unfoldable pub Stands : (Row → Bool) → List ℕ → List Row → List ℕ → Type 0
-Stands test s [] place = ⊥
-Stands test s (row ∷ rows) place = ((place ≡ at s row) × (test row ≡ true)) ⊎ Stands test (at s row) rows place
-
-abbrev pub always : Row → Bool
-always row = true
-
 -- to have a place is that any row stands there, and to mark it that a marked row does
 pub has_stands : (s : List ℕ) (rows : List Row) (place : List ℕ) → Has s rows place ↔ Stands always s rows place
 unfolding Has Stands
@@ -374,10 +333,6 @@ unfolding Stands
 rest_stands test s row rows place later (inl h) = absurd (earlier_irrefl place (rw (← h.0) at later))
 rest_stands test s row rows place later (inr h) = h
 
--- two runs, of rows a after s and of rows b after t, have rows that pass a test at the same places
-abbrev Alike : (Row → Bool) → List ℕ → List Row → List ℕ → List Row → Type 0
-Alike test s a t b = (place : List ℕ) → Stands test s a place ↔ Stands test t b place
-
 -- rows that are at one place have one depth and one step
 place_same : (s t : List ℕ) (x y : Row) → Follows s x → Follows t y → at s x ≡ at t y → SamePlace x y
 place_same s t x y fx fy e = record { depths = depths; steps = steps }
@@ -427,10 +382,6 @@ module _
       λ h. rest_stands test s x a place (rw (← e) at (stands_later test (at t y) b place ob h)) ((alike place).1 (inr h)),
     )
 
--- what the places of a run, and those where a row passes a test, tell of a row
-abbrev seen : (Row → Bool) → Row → Row
-seen test row = record { depth = row.depth; step = row.step; mark = test row; type = none }
-
 -- runs that are alike are seen alike
 same_seen :
     (test : Row → Bool) (a b : List Row) (s t : List ℕ)
@@ -453,14 +404,6 @@ same_seen test (x ∷ a) (y ∷ b) s t oa ob places tests =
     λ i. record { depth = here.depths i; step = here.steps i; mark = tested i; type = none } ∷ rest i
 
 -- The laws of union.
-
--- a row without its type
-abbrev pub bare : Row → Row
-bare = seen (λ row. row.mark)
-
--- a row without its type and its mark: only its depth and step are kept
-abbrev pub spot : Row → Row
-spot = seen always
 
 module _ (a : List Row) (s : List ℕ) (b : List Row) (oa : ordered s a ≡ true) (ob : ordered s b ≡ true) where
   -- a union of rows in listing order is in listing order
@@ -536,16 +479,6 @@ module _
 
 -- How many rows there are in a union.
 
--- a test that looks only at a row's depth and step
-abbrev pub Local : (Row → Bool) → Type 0
-Local test = (x y : Row) → x.depth ≡ y.depth → x.step ≡ y.step → test x ≡ test y
-
--- a number k is at least m, at least n, and at most their sum
-pub record Bounds (m n k : ℕ) : Type 0 where
-  pub left_bound : m ≤ k
-  pub right_bound : n ≤ k
-  pub sum_bound : k ≤ m + n
-
 module _ (test : Row → Bool) (local : Local test) where
   -- turn by turn, the counts keep their bounds
   turns_count : {a b c : List Row} → Turns a b c → Bounds (count test a) (count test b) (count test c)
@@ -602,9 +535,6 @@ local_always x y d e = refl
 
 local_entry : Local is_entry
 local_entry x y d e = rw d
-
-abbrev is_node : Row → Bool
-is_node row = not (is_entry row)
 
 local_node : Local is_node
 local_node x y d e = rw d

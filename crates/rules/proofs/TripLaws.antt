@@ -25,6 +25,7 @@ use Rattle.rules.specs.Typing.{is_field}
 use Rattle.rules.specs.Loading.{LoadAnswer, done, refused_at, counted, ◌then◌, Request, EntityRequest, Event, yielded, ancestor, bad, has_field_child, has_ancestors_trie, ids_in, Met, comes_to, comes_to_nothing, refused14, or14, value_rule, at_node, kept_at, walk_nodes, remaining_entities, is_context_root, in_context, at_roots, initial_entities, batch_of, Loaded, entered, AnswersTaken, take_answers, size_of_answer, summed, Load, load_begun, trips_for, batch_answered, after_batches, loaded_as, with_id, Wanted, take_id, take_events, is_marked, take_row, take_rows}
 use Rattle.rules.specs.LoadCalls.{Entry, nodes_ahead, entry_for}
 use Rattle.rules.proofs.SliceLaws.{then_done}
+pub use Rattle.rules.specs.TripLaws.{Sub, none_of, keep, skip, Rest, Here, Inner, Off, Any}
 
 -- Each of a list, and each two.
 
@@ -100,12 +101,6 @@ module _ {A : Type 0} where
       and_each
       (and_each (same x) (each_map (there x) r))
       (each_map (λ y both. and_each both.0 both.1) (each_both (each_map (back x) r) (pairs_square same there back h)))
-
--- some of a list, in its order
-data Sub {A : Type 0} : List A → List A → Type 0 where
-  none_of : Sub [] []
-  keep : {x : A} {xs ys : List A} → Sub xs ys → Sub (x ∷ xs) (x ∷ ys)
-  skip : {y : A} {xs ys : List A} → Sub xs ys → Sub xs (y ∷ ys)
 
 sub_each : {A : Type 0} {P : A → Type 0} {xs ys : List A} → Sub xs ys → EachOf P ys → EachOf P xs
 sub_each none_of h = none_left
@@ -543,11 +538,6 @@ module _ (nodes : List Row) where
 
 -- Places: the rows from a number on, and the place before them.
 
-record Rest (s₀ : List ℕ) (nodes : List Row) (node : ℕ) (s : List ℕ) (rows : List Row) : Type 0 where
-  rest : drop node nodes ≡ rows
-  order : Ordered s rows
-  places : (k : ℕ) → place_at s₀ nodes (node + k) ≡ place_at s rows k
-
 module _ {s₀ : List ℕ} {nodes : List Row} where
   rest_next :
       {node : ℕ} {s : List ℕ} {row : Row} {rows : List Row}
@@ -593,13 +583,6 @@ rest_first s nodes o = record {
   order = o;
   places = λ k. let same : 0 + k ≡ k = omega arith in ap (place_at s nodes) same;
 }
-
--- each number below the count has its row
-record Here (s₀ : List ℕ) (nodes : List Row) (node : ℕ) : Type 0 where
-  s : List ℕ
-  row : Row
-  rows : List Row
-  stands : Rest s₀ nodes node s (row ∷ rows)
 
 here_at : {s₀ : List ℕ} {nodes : List Row} (n : ℕ) {node : ℕ} {s : List ℕ} {rows : List Row} → Rest s₀ nodes node s rows → n < length rows → Here s₀ nodes (node + n)
 here_at n {rows = []} q h = absurd (omega arith)
@@ -1114,12 +1097,6 @@ pub nodes_append : (a b : List EntityRequest) → nodes_asked (a ++ b) ≡ nodes
 nodes_append [] b = refl
 nodes_append (x ∷ a) b = ap (λ l. x.node ∷ l) (nodes_append a b)
 
--- a node found from another: in its subtree, and with what else is known
-record Inner (nodes : List Row) (E : ℕ → ℕ → Type 0) (w v : ℕ) : Type 0 where
-  after_it : w < v
-  within_it : past_subtree nodes v ≤ past_subtree nodes w
-  extra : E w v
-
 -- what a batch's rows gain: for each its own nodes, in order
 data Gains (nodes : List Row) (E : ℕ → ℕ → Type 0) : List ℕ → List ℕ → Type 0 where
   no_gain : Gains nodes E [] []
@@ -1256,10 +1233,6 @@ module _ (s₀ : List ℕ) (nodes : List Row) where
             }
 
 -- A load.
-
--- no node lies in the subtree of a later one
-abbrev Off : List Row → ℕ → ℕ → Type 0
-Off nodes u v = (u < v) ⊎ (past_subtree nodes v ≤ u)
 
 past_after : (nodes : List Row) (n : ℕ) → n < past_subtree nodes n
 past_after nodes n = go (drop n nodes)
@@ -1604,9 +1577,6 @@ entry_in_order type manifest entry order e =
     true_ordered (type ∷ []) entry.nodes (found_ordered type 0 [] manifest entry (ordered_true [] manifest order) e)
 
 -- The ancestors walk.
-
-abbrev Any : ℕ → ℕ → Type 0
-Any w v = Unit
 
 -- what a row's walk looks at and what it finds
 record Looked (nodes : List Row) (w : ℕ) (seen next : List ℕ) : Type 0 where

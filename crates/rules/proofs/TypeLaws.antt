@@ -49,6 +49,8 @@ use Rattle.rules.specs.Paths.{
   attribute_type,
 }
 use Rattle.rules.specs.Steps.{is_too_deep}
+pub use Rattle.rules.specs.TypeLaws.{is_no_trie, Sound, TypeFits, Placed, TypeAt, TypeLines, Attributes, marked_leaf}
+unfoldable pub use Rattle.rules.specs.TypeLaws.{deepest, types_in, Ascends, AttributesBelow, longest}
 
 -- Rows that go deeper.
 
@@ -90,11 +92,6 @@ children_append g [] ys = refl
 children_append g (a ∷ xs) ys = rw (children_append g xs ys, append_assoc)
 
 -- How deep rows go.
-
--- the depth of the deepest, and 0 where there is none
-unfoldable pub deepest : List Row → ℕ
-deepest [] = 0
-deepest (row ∷ rows) = larger row.depth (deepest rows)
 
 deepest_empty : (rows : List Row) → length rows ≡ 0 → deepest rows ≡ 0
 unfolding deepest
@@ -185,10 +182,6 @@ chain_length depth mark [] = refl
 chain_length depth mark (step ∷ []) = refl
 chain_length depth mark (step ∷ next ∷ steps) = ap suc (chain_length (suc depth) mark (next ∷ steps))
 
--- whether a path and its leaf give the empty trie
-abbrev pub is_no_trie : Path → Leaf → Bool
-is_no_trie path leaf = eqb (length path) 1 && is_empty_leaf leaf
-
 -- unless it is empty, a path's trie goes as deep as the path is long and then what is below its leaf
 pub path_deepest :
     (path : Path) (leaf : Leaf)
@@ -230,23 +223,6 @@ path_deep path leaf some-step =
     (λ e. rw e))
 
 -- Where types stand.
-
--- how many types there are among items
-unfoldable pub types_in : List Item → ℕ
-types_in [] = 0
-types_in (it ∷ items) = let rest : ℕ = types_in items in cond (leb it.tag last_type) (suc rest) rest
-
--- what is so wherever a lawful schema has come to: among the types their lines are their number, and there are at most 1,024
-record Sound (known : Known) : Type 0 where
-  counted : known.section ≡ 0 → known.lines ≡ known.types
-  few : known.types ≤ 1024
-
--- what a type's line that fits says
-record TypeFits (known : Known) (it : Item) : Type 0 where
-  section : known.section ≡ 0
-  key : it.key ≡ known.types
-  room : known.types < 1024
-  element : it.tag ≡ set_type → it.value < it.key
 
 -- a type's line is in section 0, is no attribute, and leads on with the next number
 pub type_section : (tag : ℕ) → tag ≤ last_type → section_of tag ≡ 0
@@ -360,15 +336,6 @@ lawful_first known it items h = (cond-true _ _).0 h
 sound_unknown : Sound unknown
 sound_unknown = record { counted = λ _. refl; few = omega arith }
 
--- a type's line stands where as many types stand before it as its number says
-record Placed (known : Known) (items : List Item) (t : ℕ) : Type 0 where
-  front : List Item
-  it : Item
-  more : List Item
-  split : items ≡ front ++ (it ∷ more)
-  kind : it.tag ≤ last_type
-  before : t ≡ known.types + types_in front
-
 few_types :
     (known : Known) (items : List Item)
     → Sound known
@@ -447,17 +414,6 @@ missing known (x ∷ items) t sound lawful past =
     from_later known x sound fit t items (omega arith)
     ∙ missing (beyond known x) items t (sound_beyond known x sound fit) rest later
 
--- Where type t stands in a schema: its line, and the lines before and after it.
-pub record TypeAt (items : List Item) (t : ℕ) : Type 0 where
-  pub front : List Item
-  pub it : Item
-  pub more : List Item
-  pub split : items ≡ front ++ (it ∷ more)
-  pub before : types_in front ≡ t
-  pub kind : it.tag ≤ last_type
-  pub number : it.key ≡ t
-  pub from : from_type t items ≡ some (it ∷ more)
-
 module _ (items : List Item) (lawful : lawful_items unknown items ≡ true) where
   -- a schema has at most 1,024 types
   pub types_few : types_in items ≤ 1024
@@ -494,27 +450,6 @@ module _ (items : List Item) (lawful : lawful_items unknown items ≡ true) wher
 
 -- A type's line and its attributes.
 
--- attributes with strictly ascending fields, the first at least `least`
-unfoldable pub Ascends : ℕ → List Item → Type 0
-Ascends least [] = Unit
-Ascends least (a ∷ more) = (least ≤ a.key) × Ascends (a.key + 1) more
-
--- lines that are attributes, each of a type below t
-unfoldable pub AttributesBelow : ℕ → List Item → Type 0
-AttributesBelow t [] = Unit
-AttributesBelow t (a ∷ more) = (a.tag ≡ attribute_line) × (a.value < t) × AttributesBelow t more
-
--- what is so of the line of type t and the attributes that follow it
-pub record TypeLines (t : ℕ) (it : Item) (more : List Item) : Type 0 where
-  pub kind : it.tag ≤ last_type
-  pub number : it.key ≡ t
-  pub small : t < 1024
-  pub element : it.tag ≡ set_type → it.value < t
-  pub below : AttributesBelow t (attributes_of more)
-  pub ascends : Ascends 0 (attributes_of more)
-  pub few : length (attributes_of more) ≤ 64
-  pub plain : (it.tag ≡ record_type → ⊥) → (it.tag ≡ action_type → ⊥) → attributes_of more ≡ []
-
 -- lines begin with their attributes: an attribute goes on, another line ends them
 pub attributes_on : (a : Item) (more : List Item) → a.tag ≡ attribute_line → attributes_of (a ∷ more) ≡ a ∷ attributes_of more
 unfolding attributes_of
@@ -531,12 +466,6 @@ attributes_first (it ∷ items) =
     by_test (eqb it.tag attribute_line)
     (λ e. rw e (ap (λ xs. it ∷ xs) (attributes_first items)))
     (λ e. rw e)
-
--- the attributes that lawful lines begin with
-record Attributes (known : Known) (items : List Item) : Type 0 where
-  below : AttributesBelow known.bound (attributes_of items)
-  ascends : Ascends known.field (attributes_of items)
-  few : length (attributes_of items) ≤ known.room
 
 attributes : (known : Known) (items : List Item) → lawful_items known items ≡ true → Attributes known items
 unfolding attributes_of AttributesBelow Ascends
@@ -730,15 +659,6 @@ union_deepest a b = turns_deepest (union_turns a b)
 -- so it is too deep exactly where one of the two is
 pub union_too_deep : (a b : List Row) → is_too_deep (union a b) ≡ (is_too_deep a || is_too_deep b)
 union_too_deep a b = rw (type_too_deep (union a b), union_deepest a b, larger_above, type_too_deep a, type_too_deep b)
-
--- the length of the longest path
-unfoldable pub longest : List Path → ℕ
-longest [] = 0
-longest (path ∷ paths) = larger (length path) (longest paths)
-
--- a leaf that is marked, with nothing below it
-abbrev pub marked_leaf : Leaf
-marked_leaf = record { mark = true; below = [] }
 
 -- the trie of a path with such a leaf goes as deep as the path is long
 marked_deepest : (path : Path) → deepest (to_root_access_trie_with_leaf path marked_leaf) ≡ length path

@@ -2,7 +2,7 @@
 -- any, and typing is a walk. No contract cites this file.
 use Prim.Native.Nat.{ℕ, zero, suc, ◌+◌, ◌-◌, ◌^◌, ◌≤◌, ◌<◌}
 use native.Mathlib.Omega.{arith}
-use Rattle.std.specs.Prelude.{◌≡◌, Bool, true, cond, not, ◌&&◌, ◌||◌, leb, ltb, eqb, length, take, get_or}
+use Rattle.std.specs.Prelude.{◌≡◌, Bool, true, cond, not, ◌&&◌, leb, ltb, eqb, length, take, get_or}
 use Rattle.std.proofs.Math.Path.{refl, ap, subst}
 use Rattle.std.proofs.Common.{sym, ◌∙◌, length-take-le}
 use Rattle.std.proofs.Math.Bool.{false, and-eq-true_iff}
@@ -93,37 +93,8 @@ use Rattle.rules.specs.Typing.{
   typed_to,
   type_row,
 }
-
--- The types kept for each depth.
-abbrev pub Types : Type 0
-Types = List (Option ℕ)
-
-abbrev pub type_above : Types → Row → Option ℕ
-type_above above row = get_or above (row.depth - 1) none
-
-abbrev pub below : Types → Row → Option ℕ → Types
-below above row type = take row.depth above ++ (type ∷ [])
-
--- How rows are typed where they are accepted: the rows, and those that stay.
-pub data Course (items : List Item) : ℕ → Types → List Row → List Row → Type 0 where
-  end : {request : ℕ} {above : Types} → Course items request above [] []
-  entry :
-      {request : ℕ} {above : Types} {row : Row} {rows out : List Row}
-      → is_entry row ≡ true
-      → Course items row.step (some 0 ∷ []) rows out
-      → Course items request above (row ∷ rows) (row ∷ out)
-  stay :
-      {request : ℕ} {above : Types} {row : Row} {rows out : List Row} {t : ℕ}
-      → is_entry row ≡ false
-      → fate items request (type_above above row) row rows ≡ stays t
-      → Course items request (below above row (some t)) rows out
-      → Course items request above (row ∷ rows) (with_type t row ∷ out)
-  drop :
-      {request : ℕ} {above : Types} {row : Row} {rows out : List Row}
-      → is_entry row ≡ false
-      → fate items request (type_above above row) row rows ≡ dropped
-      → Course items request (below above row none) rows out
-      → Course items request above (row ∷ rows) out
+pub use Rattle.rules.specs.TypingLaws.{Types, type_above, below, Course, end, entry, stay, drop, Stood, higher, own, by_type, Covers, OfShape, IsTyped, no_type, has_type, behind}
+unfoldable pub use Rattle.rules.specs.TypingLaws.{any_field, Small, Values, AllTyped}
 
 -- rows that are accepted behind a row are that row and others that were accepted
 before_accepted :
@@ -187,11 +158,6 @@ inside [] i u e = absurd (none-ne-some u e)
 inside (x ∷ above) zero u e = omega arith
 inside (x ∷ above) (suc i) u e = omega (arith, inside above i u e)
 
--- a type among them after a row at depth d is one of before, higher up, or the row's own
-data Stood (above : Types) (d : ℕ) (type : Option ℕ) (i u : ℕ) : Type 0 where
-  higher : i < d → get_or above i none ≡ some u → Stood above d type i u
-  own : type ≡ some u → (d ≤ length above → i ≡ d) → Stood above d type i u
-
 stood :
     (above : Types) (d : ℕ) (type : Option ℕ) (i u : ℕ) → get_or (take d above ++ (type ∷ [])) i none ≡ some u → Stood above d type i u
 stood above zero type zero u e = own e (λ _. refl)
@@ -243,11 +209,6 @@ shape_again (known attributes) u t children others e none_left = e
 shape_again leaf u t true others e none_left = wrong_not_stays 11 t e
 shape_again leaf u t false others e none_left = rw (none_left refl) e
 shape_again not_strict u t children others e none_left = e
-
--- the fate of a field or a root by the type that its step leads to
-abbrev pub by_type : List Item → ℕ → Option ℕ → Bool → Bool → Fate
-by_type items request none field children = cond field dropped (wrong 9)
-by_type items request (some t) field children = of_shape (shape_of items request t) t children
 
 module _ (items : List Item) (request : ℕ) where
   -- what stays is below what stays
@@ -330,10 +291,6 @@ module _ (items : List Item) (request : ℕ) where
         | higher less h ↦ leaves u h
         | own h same ↦ absurd (none-ne-some u h)
       ])
-
--- Types that cover others: where these have one, they have the same.
-abbrev Covers : Types → Types → Type 0
-Covers above others = (i u : ℕ) → get_or above i none ≡ some u → get_or others i none ≡ some u
 
 module _ (items : List Item) where
   -- what stays is typed again as it was
@@ -494,13 +451,6 @@ module _ (items : List Item) where
 
 -- Field children. Where any row below a node is a field of it, the next row is.
 
--- whether a field is among the children of a node of a depth, with these rows behind it
-unfoldable pub any_field : ℕ → List Row → Bool
-any_field depth [] = false
-any_field depth (row ∷ rows) =
-    let rest : Bool = any_field depth rows in
-    cond (leb row.depth depth) false ((eqb row.depth (suc depth) && is_field row.step) || rest)
-
 -- behind a child that is a root there are only roots
 root_past : (m n : ℕ) → is_field m ≡ false → m < n → is_field n ≡ false
 root_past m n root less = ne_eqb (kind_of n) 0 (λ e. omega (arith, eqb-false (kind_of m) 0 root))
@@ -555,10 +505,6 @@ next_field s row (next ∷ rows) o =
     o.3.3)))
 
 -- The types given. In a lawful schema attributes, literals and actions have types below 1,024.
-
-unfoldable pub Small : List Item → Type 0
-Small [] = Unit
-Small (it ∷ items) = (entity_line < it.tag → it.value < 1024) × Small items
 
 -- what a line that fits says of its value
 small_value :
@@ -644,10 +590,6 @@ small_type t (it ∷ items) lines small e =
     subst Small same small)
     (λ later. rest (rw later at e))
 
-unfoldable Values : List Item → Type 0
-Values [] = Unit
-Values (a ∷ more) = (a.value < 1024) × Values more
-
 small_attributes : (items : List Item) → Small items → Values (attributes_of items)
 unfolding Small Values attributes_of
 small_attributes [] small = tt
@@ -668,12 +610,6 @@ small_given f v (a ∷ more) values e =
     let same : a.value ≡ v = cc in
     rw (← same) values.0)
     (λ later. rest (rw later at e))
-
--- the attributes that a type has
-abbrev OfShape : Shape → Type 0
-OfShape (known attributes) = Values attributes
-OfShape leaf = Unit
-OfShape not_strict = Unit
 
 module _ (items : List Item) (small : Small items) where
   attributes_small : (t : ℕ) → Values (attributes_at items t)
@@ -745,15 +681,6 @@ module _ (items : List Item) (small : Small items) where
       by_test (is_field row.step)
       (λ field. omega (arith, field_small request u (id_of row.step) t (rw field at way)))
       (λ root. root_small request row.step t (rw root at way))
-
--- Rows that are typed: each node has a type of the schema or one of the two more, and entries have none.
-pub data IsTyped (row : Row) : Type 0 where
-  no_type : is_entry row ≡ true → row.type ≡ none → IsTyped row
-  has_type : (t : ℕ) → is_entry row ≡ false → row.type ≡ some t → t < 1026 → IsTyped row
-
-unfoldable pub AllTyped : List Row → Type 0
-AllTyped [] = Unit
-AllTyped (row ∷ rows) = IsTyped row × AllTyped rows
 
 pub entry_untyped : (row : Row) → is_row row ≡ true → is_entry row ≡ true → row.type ≡ none
 entry_untyped row h e =
@@ -856,10 +783,6 @@ passed_untyped (some t ∷ y ∷ above) (suc d) e = passed_untyped (y ∷ above)
 -- the rows that a walk of typing ends with
 abbrev ended : Answer (Walked ℕ TypedTo) → Answer (List Row)
 ended answer = and_then answer (λ w. accepted w.state.rows)
-
--- what is accepted behind the rows so far, and behind one more
-abbrev behind : List Row → Answer (List Row) → Answer (List Row)
-behind done answer = and_then answer (λ out. accepted (done ++ out))
 
 behind_more :
     (done : List Row) (row : Row) (answer : Answer (List Row))

@@ -93,6 +93,7 @@ use Rattle.rules.proofs.TypingLaws.{
   typing_nodes,
   typing_in_order,
 }
+pub use Rattle.rules.specs.TypingPlaceLaws.{Ways}
 
 -- Ways.
 
@@ -104,12 +105,6 @@ unfolding type_after
 step_after items request t [] step = by_option (step_type items request t step) (λ q. rw q) (λ u q. rw q)
 step_after items request t (s ∷ steps) step =
     by_option (step_type items request t s) (λ q. rw q) (λ u q. rw q (step_after items request u steps step))
-
--- The types kept at a place are those of its parts.
-record Ways (items : List Item) (request : ℕ) (s : List ℕ) (above : Types) : Type 0 where
-  long : length above ≡ length s
-  opened : 0 < length s → get_or s 0 0 ≡ request
-  ways : (i : ℕ) → i < length s → get_or above i none ≡ way_type items (take (suc i) s)
 
 ways_first : (items : List Item) → Ways items 0 [] []
 ways_first items = record { long = refl; opened = λ h. omega arith; ways = λ i h. absurd (omega arith) }

@@ -55,6 +55,8 @@ use Rattle.rules.specs.ValueRows.{
   AscendingIn,
   Ascending,
 }
+pub use Rattle.rules.specs.ValueRowLaws.{Comes, Shallow, kind_of_value, number_of_value, rows_inside, own_row, Shape, a_plain, an_extension, an_entity, a_set, a_record, first_of, rest_of, rows_follow, ValueLaw, FieldsLaw, ahead, ValueSwap, FieldsSwap, Every, Kept, ValueKept, FieldsKept, Under}
+unfoldable pub use Rattle.rules.specs.ValueRowLaws.{Deep}
 
 -- What may be missing.
 
@@ -83,11 +85,6 @@ pub alone_none :
 alone_none inside x rest s e = rw (e, alone_row)
 
 -- Which row comes first.
-
--- the row x comes before those rows
-abbrev pub Comes : ValueRow → List ValueRow → Type 0
-Comes x [] = Unit
-Comes x (y ∷ b) = Before (placed_row x) (placed_row y)
 
 -- the pass takes it alone
 pub turn_left :
@@ -121,16 +118,6 @@ unfolding merge_rows merge_right
 turn_end inside = refl
 
 -- Runs.
-
--- rows that begin shallower than d
-abbrev pub Shallow : ℕ → List ValueRow → Type 0
-Shallow d [] = Unit
-Shallow d (x ∷ a) = x.depth < d
-
--- rows that are all as deep as d or deeper
-unfoldable pub Deep : ℕ → List ValueRow → Type 0
-Deep d [] = Unit
-Deep d (x ∷ a) = (d ≤ x.depth) × Deep d a
 
 pub deep_append : (d : ℕ) (p q : List ValueRow) → Deep d p → Deep d q → Deep d (p ++ q)
 unfolding Deep
@@ -226,30 +213,6 @@ fields_no_right a = refl
 
 -- A value's kind, its number, and its rows inside.
 
-abbrev pub kind_of_value : Value → ℕ
-kind_of_value (plain n) = 0
-kind_of_value (extension n) = 1
-kind_of_value (entity_id n) = 2
-kind_of_value (set_of elements) = set_kind
-kind_of_value (record_of members) = record_kind
-
-abbrev pub number_of_value : Value → ℕ
-number_of_value (plain n) = n
-number_of_value (extension n) = n
-number_of_value (entity_id n) = n
-number_of_value (set_of elements) = 0
-number_of_value (record_of members) = 0
-
-abbrev pub rows_inside : ℕ → Value → List ValueRow
-rows_inside d (plain n) = []
-rows_inside d (extension n) = []
-rows_inside d (entity_id n) = []
-rows_inside d (set_of elements) = element_rows d 0 elements
-rows_inside d (record_of members) = attribute_rows d members
-
-abbrev pub own_row : ℕ → ℕ → Value → ValueRow
-own_row d k v = value_row d k (kind_of_value v) (number_of_value v)
-
 pub rows-of : (d k : ℕ) (v : Value) → value_rows d k v ≡ own_row d k v ∷ rows_inside (suc d) v
 unfolding value_rows
 rows-of d k (plain n) = refl
@@ -257,14 +220,6 @@ rows-of d k (extension n) = refl
 rows-of d k (entity_id n) = refl
 rows-of d k (set_of elements) = refl
 rows-of d k (record_of members) = refl
-
--- a value by its kind
-data Shape : ℕ → Value → Type 0 where
-  a_plain : (n : ℕ) → Shape 0 (plain n)
-  an_extension : (n : ℕ) → Shape 1 (extension n)
-  an_entity : (n : ℕ) → Shape 2 (entity_id n)
-  a_set : (elements : Elements) → Shape 3 (set_of elements)
-  a_record : (members : Attributes) → Shape 4 (record_of members)
 
 shape : (v : Value) → Shape (kind_of_value v) v
 shape (plain n) = a_plain n
@@ -274,10 +229,6 @@ shape (set_of elements) = a_set elements
 shape (record_of members) = a_record members
 
 -- Values that are written alike are equal.
-
-abbrev first_of : List ℕ → ℕ
-first_of [] = 0
-first_of (n ∷ l) = n
 
 first_written : (v : Value) (x : List ℕ) → first_of (spelled v ++ x) ≡ kind_of_value v
 unfolding spelled
@@ -408,10 +359,6 @@ not_shallow d k v a b h e = let below : d < d = rw (e, rows-of) at h in omega ar
 row_first : List ValueRow → ValueRow
 row_first [] = value_row 0 0 0 0
 row_first (x ∷ a) = x
-
-abbrev rest_of : List ValueRow → List ValueRow
-rest_of [] = []
-rest_of (x ∷ a) = a
 
 first_row : (d k : ℕ) (v : Value) (x : List ValueRow) → row_first (value_rows d k v ++ x) ≡ own_row d k v
 unfolding row_first
@@ -616,10 +563,6 @@ set_other s (x ∷ p) (y ∷ q) a b hp hq ha hb other =
 
 -- Values.
 
--- the rows of what was merged, if it was, in front of what the rest of the pass gives
-abbrev pub rows_follow : {A : Type 0} → Option A → (A → List ValueRow) → Option (List ValueRow) → Option (List ValueRow)
-rows_follow merge rows_for rest = merge >>= (λ m. rest >>= (λ rows. some (rows_for m ++ rows)))
-
 -- the turn at two values of one key
 value_turn :
     (v w : Value) (d k : ℕ) (a b : List ValueRow)
@@ -713,25 +656,6 @@ leaf_law v w d k a b leaf ha hb =
 
 -- Fields.
 
-abbrev ValueLaw : Value → Type 0
-ValueLaw v =
-    (w : Value) (d k : ℕ) (a b : List ValueRow)
-    → AscendingIn v
-    → AscendingIn w
-    → Shallow (suc d) a
-    → Shallow (suc d) b
-    → merge_rows none (value_rows d k v ++ a) (value_rows d k w ++ b) ≡ rows_follow (merged_values v w) (value_rows d k) (merge_rows none a b)
-
-abbrev FieldsLaw : Attributes → Type 0
-FieldsLaw p =
-    (q : Attributes) (d : ℕ) (a b : List ValueRow)
-    → Ascending p
-    → Ascending q
-    → Shallow d a
-    → Shallow d b
-    → merge_rows none (attribute_rows d p ++ a) (attribute_rows d q ++ b)
-    ≡ rows_follow (merged_attributes p q) (attribute_rows d) (merge_rows none a b)
-
 -- a value that comes before all of the other side is taken as it is
 inside_come : (d : ℕ) (v : Value) (b : List ValueRow) → Shallow (suc d) b → AllCome (rows_inside (suc d) v) b
 inside_come d v b h = deep_come (suc d) (rows_inside (suc d) v) b (deep_inside (suc d) v) h
@@ -792,9 +716,6 @@ rows_field :
     → attribute_rows d (attribute f v p) ++ a ≡ value_rows d f v ++ (attribute_rows d p ++ a)
 unfolding value_rows
 rows_field d f v p a = append_assoc (value_rows d f v) (attribute_rows d p) a
-
-abbrev ahead : ℕ → ℕ → Value → Option (List ValueRow) → Option (List ValueRow)
-ahead d f v o = o >>= (λ rows. some (value_rows d f v ++ rows))
 
 -- both sides have the next field
 both_law :
@@ -984,12 +905,6 @@ leaf_swap v w leaf =
     by_test (same_value w v) (λ u. absurd (false≢true (sym t ∙ (same-value v w).1 (sym ((same-value w v).0 u))))) (λ u. u) in
     rw (merged_leaf v w leaf, merged_leaf_right w v leaf, t, turned))
 
-abbrev ValueSwap : Value → Type 0
-ValueSwap v = (w : Value) → AscendingIn v → AscendingIn w → merged_values v w ≡ merged_values w v
-
-abbrev FieldsSwap : Attributes → Type 0
-FieldsSwap p = (q : Attributes) → Ascending p → Ascending q → merged_attributes p q ≡ merged_attributes q p
-
 field_swap : (f : ℕ) (v : Value) (p : Attributes) → ValueSwap v → FieldsSwap p → FieldsSwap (attribute f v p)
 unfolding Ascending Past
 field_swap f v p on_value on-fields no_attribute hp hq = fields_no_right (attribute f v p) ∙ sym (fields_no_left (attribute f v p) hp)
@@ -1036,20 +951,6 @@ pub swapped : (a b : Attributes) → Ascending a → Ascending b → merged_attr
 swapped a b ha hb = fields_swap a b ha hb
 
 -- What is merged ascends, so that it can be merged again.
-
-abbrev pub Every : {A : Type 0} → (A → Type 0) → Option A → Type 0
-Every P none = Unit
-Every P (some a) = P a
-
-record Kept (p q m : Attributes) : Type 0 where
-  ascends : Ascending m
-  past : (k : ℕ) → Past k p → Past k q → Past k m
-
-abbrev ValueKept : Value → Type 0
-ValueKept v = (w : Value) → AscendingIn v → AscendingIn w → Every AscendingIn (merged_values v w)
-
-abbrev FieldsKept : Attributes → Type 0
-FieldsKept p = (q : Attributes) → Ascending p → Ascending q → Every (Kept p q) (merged_attributes p q)
 
 same_kept : (v w : Value) → AscendingIn v → Every AscendingIn (if_same v w)
 same_kept v w h = by_test (same_value v w) (λ t. rw t h) (λ t. rw t tt)
@@ -1146,9 +1047,6 @@ pub merged_ascends : (a b m : Attributes) → Ascending a → Ascending b → me
 merged_ascends a b m ha hb e = let kept : Kept a b m = rw e at (fields_kept a b ha hb) in kept.ascends
 
 -- A pass under way, for the code's loop: the rows `out` are written, the pass is inside that set, a and b are left.
-
-abbrev pub Under : Option (List ValueRow) → List ValueRow → Option ℕ → List ValueRow → List ValueRow → Type 0
-Under whole out inside a b = whole ≡ (merge_rows inside a b >>= (λ rows. some (out ++ rows)))
 
 module _ (whole : Option (List ValueRow)) (out : List ValueRow) (inside : Option ℕ) where
   -- one row more is written, or the answer is none

@@ -1,5 +1,5 @@
 -- A run that passes the test is the run of what is read from it, and the other way.
-use Rattle.std.specs.Prelude.{ℕ, zero, suc, ◌+◌, ◌-◌, ◌≤◌, ◌<◌, ◌≡◌, refl, ◌↔◌, Bool, true, false, cond, ◌&&◌, List, [], ◌∷◌, ◌++◌, leb, ltb, eqb, length, take, get_or}
+use Rattle.std.specs.Prelude.{ℕ, zero, suc, ◌+◌, ◌-◌, ◌≤◌, ◌<◌, ◌≡◌, refl, ◌↔◌, Bool, true, false, cond, ◌&&◌, List, [], ◌∷◌, ◌++◌, leb, ltb, eqb, length, get_or}
 use Rattle.std.proofs.Common.{arith, sym, ap, ◌∙◌, append_assoc, append-nil, length-append, take_at, ltb-true, leb-true, eqb-true, lt-ltb, le-ltb, le-leb, eq-eqb, ne_eqb}
 use Rattle.std.proofs.lemmas.Bool.{false≢true}
 use Rattle.std.proofs.Math.Bool.{and-eq-true_iff}
@@ -12,7 +12,8 @@ use Rattle.rules.specs.Listing.{◌>>=◌}
 use Rattle.rules.specs.Values.{Value, plain, extension, entity_id, set_of, record_of, Elements, no_element, element, Attributes, no_attribute, attribute, record_in, same_value, if_same, with_attribute, merged_values, merged_attributes, values_in, values_in_elements, values_in_attributes}
 use Rattle.rules.specs.ValueRows.{ValueRow, value_row, set_kind, record_kind, value_rows, element_rows, attribute_rows, merge_rows, Past, AscendingIn, Ascending}
 use Rattle.rules.proofs.ValueRowLaws.{Shallow, Deep, rows_inside, own_row, rows-of, deep_append, deep_elements, deep_fields, deep_inside, shallow_suc, shallow_elements, shallow_fields, fields_left, fields_right, fields_both, fields_no_left, fields_no_right, merged_leaf, one_pass, Every}
-use Rattle.rules.specs.ValueRowTests.{value_from, elements_from, attributes_from, Level, level, is_value_row, fits_level, level_at, inside_value, beyond_value, by_row, is_first, earlier_rows, ahead_of, in_turn, comes, level_below, levels_after, passes, lawful_value_rows, Earlier, Proper, ProperElements, ProperFields}
+use Rattle.rules.specs.ValueRowTests.{elements_from, attributes_from, Level, level, is_value_row, fits_level, level_at, inside_value, beyond_value, by_row, is_first, earlier_rows, ahead_of, in_turn, comes, level_below, levels_after, passes, lawful_value_rows, Earlier, Proper, ProperElements, ProperFields}
+pub use Rattle.rules.specs.ValueRowTestLaws.{read_value, deeper, deepen, group_rows, parts, ProperGroup, ProperParts, RowSays, after, ComesSays, Goes, ValueStays, FieldsStay}
 
 -- The count of rows is the count of values.
 
@@ -50,9 +51,6 @@ read_below d x rows h = (
   rw (le-ltb x.depth d (omega arith), ne_eqb x.depth d (λ e. omega arith)),
   rw (le-ltb x.depth d (omega arith), ne_eqb x.depth d (λ e. omega arith)),
 )
-
-abbrev pub read_value : ℕ → ValueRow → List ValueRow → Value
-read_value d x rows = value_from x (elements_from (suc d) rows) (attributes_from (suc d) rows)
 
 pub read_here : (d : ℕ) (x : ValueRow) (rows : List ValueRow) → x.depth ≡ d
     → (elements_from d (x ∷ rows) ≡ element (read_value d x rows) (elements_from d rows))
@@ -123,13 +121,6 @@ pub read_run : (d : ℕ) (f : Attributes) → attributes_from d (attribute_rows 
 read_run d f = ap (attributes_from d) (sym (append-nil (attribute_rows d f))) ∙ read_fields d f [] tt
 
 -- The order of values does not turn on how deep they lie.
-
-abbrev deeper : ValueRow → ValueRow
-deeper x = value_row (suc x.depth) x.key x.kind x.number
-
-abbrev deepen : List ValueRow → List ValueRow
-deepen [] = []
-deepen (x ∷ a) = deeper x ∷ deepen a
 
 deepen_append : (a b : List ValueRow) → deepen (a ++ b) ≡ deepen a ++ deepen b
 deepen_append [] b = refl
@@ -209,22 +200,6 @@ ahead_says x v p i (element w a) q e deep low =
 
 -- A run that passes is what is read from it, level by level: the deepest level's rows come first.
 
-abbrev group_rows : Bool → ℕ → ℕ → List ValueRow → List ValueRow
-group_rows true d n rows = element_rows d n (elements_from d rows)
-group_rows false d n rows = attribute_rows d (attributes_from d rows)
-
-abbrev parts : ℕ → List Level → List ValueRow → List ValueRow
-parts d [] rows = []
-parts d (l ∷ levels) rows = parts (suc d) levels rows ++ group_rows l.of_set d l.least rows
-
-abbrev ProperGroup : Bool → ℕ → ℕ → List ValueRow → Type 0
-ProperGroup true d n rows = ProperElements n (elements_from d rows)
-ProperGroup false d n rows = ProperFields n (attributes_from d rows)
-
-abbrev ProperParts : ℕ → List Level → List ValueRow → Type 0
-ProperParts d [] rows = Unit
-ProperParts d (l ∷ levels) rows = ProperParts (suc d) levels rows × ProperGroup l.of_set d l.least rows
-
 -- a value's own row, and what is read below it
 value_parts :
     (d k kind n : ℕ) (rows : List ValueRow)
@@ -252,13 +227,6 @@ value_proper d k (suc (suc zero)) n rows h z p = z (omega arith)
 value_proper d k (suc (suc (suc zero))) n rows h z p = p.1
 value_proper d k (suc (suc (suc (suc zero)))) n rows h z p = p.1
 value_proper d k (suc (suc (suc (suc (suc kind))))) n rows h z p = absurd (omega arith)
-
--- what the test of a row says
-record RowSays (x : ValueRow) : Type 0 where
-  kinds : x.kind ≤ 4
-  keys : x.key < ids
-  numbers : x.kind < 3 → x.number < ids
-  zeros : 3 ≤ x.kind → x.number ≡ 0
 
 cond_either : (t u w : Bool) → cond t u w ≡ true → (t ≡ true → u ≡ true) × (t ≡ false → w ≡ true)
 cond_either true u w h = (λ _. h, λ e. absurd (false≢true (sym e)))
@@ -357,10 +325,6 @@ group_above :
 group_above true d n x rows h = let e = (read_below d x rows h).0 in (rw e, λ p. rw e p)
 group_above false d n x rows h = let e = (read_below d x rows h).1 in (rw e, λ p. rw e p)
 
--- the levels that a row leaves, by the place of its own
-abbrev after : ℕ → List Level → ValueRow → List Level
-after place levels x = take place levels ++ (level (get_or levels place (level false 0)).of_set (suc x.key) ∷ level_below x)
-
 parts_step :
     (d place : ℕ) (levels : List Level) (x : ValueRow) (rows low : List ValueRow)
     → x.depth ≡ d + place
@@ -407,14 +371,6 @@ parts_none d (l ∷ levels) = go l.of_set (parts_none (suc d) levels)
         → (parts (suc d) levels [] ++ group_rows t d l.least [] ≡ []) × (ProperParts (suc d) levels [] × ProperGroup t d l.least [])
     go true more = (rw more.0, (more.1, tt))
     go false more = (rw more.0, (more.1, tt))
-
--- what the test of a row among levels says
-record ComesSays (d : ℕ) (levels : List Level) (x : ValueRow) (rows : List ValueRow) : Type 0 where
-  says : RowSays x
-  deep : x.depth ≡ d + (x.depth - d)
-  short : x.depth - d < length levels
-  fit : fits_level (level_at d levels x.depth) x ≡ true
-  turn : in_turn (level_at d levels x.depth) x rows ≡ true
 
 comes_says :
     (d : ℕ) (levels : List Level) (x : ValueRow) (rows : List ValueRow)
@@ -513,10 +469,6 @@ row_passes d k (entity_id n) h p = rw (lt-ltb k ids h, lt-ltb n ids p)
 row_passes d k (set_of a) h p = rw (lt-ltb k ids h)
 row_passes d k (record_of a) h p = rw (lt-ltb k ids h)
 
--- what comes after passes, however much is open below
-abbrev Goes : ℕ → List Level → List ValueRow → Type 0
-Goes base levels rows = (post : List Level) → passes base (levels ++ post) rows ≡ true
-
 mutual
   unfolding Proper value_rows
 
@@ -597,12 +549,6 @@ pub lawful_rows_count : (rows : List ValueRow) → lawful_value_rows rows ≡ tr
 lawful_rows_count rows h = sym (ap length (lawful_read rows h).0) ∙ count_fields 1 (attributes_from 1 rows)
 
 -- What is merged is proper, so that the merge of two runs that pass is a run that passes.
-
-abbrev ValueStays : Value → Type 0
-ValueStays v = (w : Value) → Proper v → Proper w → Every Proper (merged_values v w)
-
-abbrev FieldsStay : Attributes → Type 0
-FieldsStay p = (q : Attributes) (n : ℕ) → ProperFields n p → ProperFields n q → Every (ProperFields n) (merged_attributes p q)
 
 same_stays : (v w : Value) → Proper v → Every Proper (if_same v w)
 same_stays v w h = by_test (same_value v w) (λ t. rw t h) (λ t. rw t tt)

@@ -55,6 +55,8 @@ use Rattle.rules.specs.ValueTexts.{
   request_lines,
   read_request,
 }
+pub use Rattle.rules.specs.ValueTextLaws.{Came, CameEntity, CameStore, LawfulEntity}
+unfoldable pub use Rattle.rules.specs.ValueTextLaws.{levels_past, may_pass, Every}
 
 -- ---- rows by themselves
 
@@ -76,17 +78,6 @@ row_of_form (word ∷ b ∷ c ∷ d ∷ f ∷ []) x e =
 row_of_form (a ∷ b ∷ c ∷ d ∷ f ∷ g ∷ more) x e = absurd (none-ne-some x e)
 
 -- ---- rows one after the other
-
--- the levels after rows, and whether each row is of its form and may come
-unfoldable pub levels_past : List Level → List ValueRow → List Level
-levels_past levels [] = levels
-levels_past levels (x ∷ rows) = levels_past (levels_after 1 levels x) rows
-
-unfoldable pub may_pass : List Level → List ValueRow → Bool
-may_pass levels [] = true
-may_pass levels (x ∷ rows) =
-    let rest : Bool = may_pass (levels_after 1 levels x) rows in
-    cond (is_value_row x && may_come levels x) rest false
 
 module _ (x : ValueRow) where
   -- one row more
@@ -138,10 +129,6 @@ least_none (n ∷ ns) e =
     (λ m more. absurd (none-ne-some (cond (ltb n m) n m) (sym e ∙ rw more)))
 
 -- ---- what an accepted text gives
-
--- the rows so far may pass, and come to the levels
-abbrev pub Came : ValueRead → Type 0
-Came sofar = (may_pass field_level sofar.rows ≡ true) × (sofar.levels ≡ levels_past field_level sofar.rows)
 
 pub came_none : Came no_rows
 unfolding may_pass levels_past
@@ -199,22 +186,10 @@ request_lawful text request e = request-lines (lines_of text) request e
 
 -- ---- a store
 
--- what holds of every entity
-unfoldable pub Every : (EntityRead → Type 0) → List EntityRead → Type 0
-Every P [] = Unit
-Every P (e ∷ es) = P e × Every P es
-
 every_snoc : (P : EntityRead → Type 0) (es : List EntityRead) (e : EntityRead) → Every P es → P e → Every P (es ++ (e ∷ []))
 unfolding Every
 every_snoc P [] e all here = (here, tt)
 every_snoc P (first ∷ es) e all here = (all.0, every_snoc P es e all.1 here)
-
-abbrev pub CameEntity : EntityRead → Type 0
-CameEntity e = Came e.value
-
--- the rows of each entity so far may pass
-abbrev pub CameStore : StoreRead → Type 0
-CameStore sofar = Every CameEntity sofar.earlier × ((e : EntityRead) → sofar.last ≡ some e → CameEntity e)
 
 store_all : (sofar : StoreRead) → CameStore sofar → Every CameEntity (entities_in sofar)
 store_all sofar (earlier, last) =
@@ -286,10 +261,6 @@ store-line : (place : ℕ) (line : List ℕ) (sofar after : StoreRead) → CameS
 store-line place line sofar after came e =
     bind_some (store_line_of (fields_of line)) _ after (given place _ after e) λ said read taken.
     of-store said sofar after (line_formed (fields_of line) said read) came taken
-
--- the attributes of each entity of an accepted store pass the test of rows
-abbrev pub LawfulEntity : EntityRead → Type 0
-LawfulEntity e = lawful_value_rows e.value.rows ≡ true
 
 append_nothing : (a b : List ℕ) → a ++ b ≡ [] → (a ≡ []) × (b ≡ [])
 append_nothing [] b e = (refl, e)

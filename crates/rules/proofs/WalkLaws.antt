@@ -1,5 +1,5 @@
 -- Laws of a walk over rows (Walks): what is kept at a depth, which rows are passed over, and that the listing's order is judged so.
-use Rattle.std.specs.Prelude.{ℕ, zero, suc, ◌+◌, ◌-◌, ◌≤◌, ◌<◌, ◌≡◌, refl, Bool, true, false, cond, ◌&&◌, leb, drop, get_or, set, replicate}
+use Rattle.std.specs.Prelude.{ℕ, zero, suc, ◌+◌, ◌-◌, ◌≤◌, ◌<◌, ◌≡◌, refl, true, false, ◌&&◌, leb, drop, get_or, set, replicate}
 use Rattle.std.proofs.Common.{add-zero, add-suc, arith, sym, ◌∙◌, subst, true≢false, length-append, length-take, length-drop, drop_of_length-le, length-take-le, get_or-take, take-take, take-suc-set}
 use Rattle.std.proofs.Math.Nat.{suc-add}
 use Rattle.std.proofs.Math.Numerals.{add-one}
@@ -9,11 +9,13 @@ use Rattle.std.proofs.Math.Option.{Option, none, some}
 use Rattle.std.proofs.Math.ListN.{length, take, get_or-append}
 use Rattle.std.proofs.lemmas.List.{length-map, get_or_at, take-append-le}
 use Rattle.std.proofs.Math.Seq.{take-append-add}
-use Rattle.rules.specs.Numbers.{Answer, accepted, refused, answer_by, most_steps}
+use Rattle.rules.specs.Numbers.{accepted, refused, answer_by, most_steps}
 use Rattle.rules.specs.Facts.{by_test, by_option, compared, accepted_same, then_accepted}
 use Rattle.rules.specs.Tries.{Row, Form, kept_with, at, is_row, follows, ordered}
 use Rattle.rules.specs.Listing.{Sofar, past, refusal}
 use Rattle.rules.specs.Walks.{Walked, walked, Rule, passes_over, turn, walk}
+pub use Rattle.rules.specs.WalkLaws.{down_to, Told, all, from, WentTo, all_in, orderly, is_accepted, OrderlyTo, walked_to, sofar_of, listed}
+unfoldable pub use Rattle.rules.specs.WalkLaws.{Deeper, Stepwise}
 
 -- ---- what is kept with a row
 
@@ -75,11 +77,6 @@ module _ {K S : Type 0} (rule : Rule K S) (place : ℕ) (row : Row) (rows : List
     pub walk_refused : {number at : ℕ} → rule place row rows w ≡ refused number at → walk rule place (row ∷ rows) w ≡ refused number at
     unfolding walk
     walk_refused e = rw (looked, e)
-
--- all rows are deeper than d
-unfoldable pub Deeper : ℕ → List Row → Type 0
-Deeper d [] = Unit
-Deeper d (row ∷ rows) = (d < row.depth) × Deeper d rows
 
 -- what a row keeps is kept with it, and is nothing where it is passed over and otherwise what the rule says
 pub data Kept {K S : Type 0} (rule : Rule K S) (place : ℕ) (row : Row) (rows : List Row) (w : Walked K S) : Walked K S → Type 0 where
@@ -146,10 +143,6 @@ module _ {K S : Type 0} (rule : Rule K S) (kept : List (Option K)) (row : Row) (
       (get_or-take (row.depth + 1) (kept_with kept row k) row.depth default own ∙ kept_own kept row k near default)
 
 -- ---- which rows are passed over
-
--- what is kept where a row said that all below it is passed over: something for each depth above that row, and nothing from there on
-abbrev pub down_to : {K : Type 0} → List K → ℕ → List (Option K)
-down_to s n = map some s ++ replicate n none
 
 module _ {K : Type 0} where
   passes_none : (kept : List (Option K)) (n : ℕ) → passes_over (kept ++ replicate (suc n) none) ≡ true
@@ -218,12 +211,6 @@ module _ {K S : Type 0} (rule : Rule K S) (s : List K) (state : S) where
             ∙ rw (kept, rest, add-one, suc-add, add-suc),
       )
 
--- What is kept where each row is at most one deeper than the one before: something for each depth, or nothing from the depth of a row
--- on that said so. Q is what is known of rows that say so.
-pub data Told {K : Type 0} (Q : Row → Type 0) : List (Option K) → Type 0 where
-  all : (s : List K) → Told Q (map some s)
-  from : (s : List K) (n : ℕ) (row : Row) → Q row → row.depth ≡ length s → Told Q (down_to s (suc n))
-
 module _ {K : Type 0} {Q : Row → Type 0} where
   -- So a row that is passed over lies below one that said so.
   pub passed_below : {kept : List (Option K)} (d : ℕ) → Told Q kept → passes_over (take d kept) ≡ true → (row : Row) × Q row × (row.depth < d)
@@ -257,11 +244,6 @@ module _ {K : Type 0} {Q : Row → Type 0} where
         (λ deeper. absurd (true≢false (sym (passes_deeper s n row.depth deeper) ∙ looks)))
         (λ level. told_level (down_to s (suc n)) s k (take_level s (suc n) row.depth level) level says)
 
--- each row is at most one deeper than the one before
-unfoldable pub Stepwise : ℕ → List Row → Type 0
-Stepwise len [] = Unit
-Stepwise len (row ∷ rows) = (row.depth ≤ len) × Stepwise (row.depth + 1) rows
-
 module _ {K S : Type 0} (rule : Rule K S) (Q : Row → Type 0)
     (says_so : (place : ℕ) (row : Row) (rows : List Row) (w : Walked K S) (s : S) → rule place row rows w ≡ accepted (none, s) → Q row) where
   told_next : {place : ℕ} {row : Row} {rows : List Row} {w after : Walked K S} →
@@ -286,11 +268,6 @@ module _ {K S : Type 0} (rule : Rule K S) (Q : Row → Type 0)
       walk_told rows (place + 1) after end (rw long steps) next more
 
 -- ---- a walk from a row on: what a loop over rows cites
-
--- so many rows came to what is kept and a state: the others go on from there
-pub record WentTo {K S : Type 0} (rule : Rule K S) (start : Walked K S) (rows : List Row) (i : ℕ) (w : Walked K S) : Type 0 where
-  pub inside : i ≤ length rows
-  pub left : walk rule 0 rows start ≡ walk rule i (drop i rows) w
 
 pub went_start : {K S : Type 0} (rule : Rule K S) (start : Walked K S) (rows : List Row) → WentTo rule start rows 0 start
 went_start rule start rows = record { inside = omega arith; left = refl }
@@ -320,24 +297,9 @@ module _ {K S : Type 0} {rule : Rule K S} {start : Walked K S} {rows : List Row}
 
 -- ---- the listing's order
 
--- all that is kept
-abbrev pub all_in : {K : Type 0} → List (Option K) → List K
-all_in [] = []
-all_in (none ∷ kept) = all_in kept
-all_in (some k ∷ kept) = k ∷ all_in kept
-
 all_some : {K : Type 0} (s : List K) → all_in (map some s) ≡ s
 all_some [] = refl
 all_some {K} (k ∷ s) = ap (λ (l : List K). k ∷ l) (all_some s)
-
--- a row keeps its step where it may come
-abbrev pub orderly : Rule ℕ Unit
-orderly place row rows w =
-    cond (is_row row && (follows (all_in w.kept) row && leb row.depth most_steps)) (accepted (some row.step, tt)) (refused 1 place)
-
-abbrev pub is_accepted : {A : Type 0} → Answer A → Bool
-is_accepted (accepted a) = true
-is_accepted (refused number place) = false
 
 -- The place of a row is what a walk keeps that keeps steps, and rows are in order where it is not refused.
 pub ordered_walked :
@@ -349,10 +311,6 @@ ordered_walked s (row ∷ rows) place =
     (λ may-come.
     rw (passes_all s row.depth, all_some s, may-come) (ordered_walked (at s row) rows (place + 1) ∙ rw (kept_map some s row row.step)))
     (λ may-not. rw (passes_all s row.depth, all_some s, may-not))
-
--- a loop that judges the order: it has come to the place s
-abbrev pub OrderlyTo : List Row → ℕ → List ℕ → Type 0
-OrderlyTo rows i s = WentTo orderly (walked [] tt) rows i (walked (map some s) tt)
 
 module _ {rows : List Row} {i : ℕ} (s : List ℕ) (went : OrderlyTo rows i s) where
   pub orderly_end : length rows ≤ i → ordered [] rows ≡ true
@@ -369,18 +327,6 @@ module _ {rows : List Row} {i : ℕ} (s : List ℕ) (went : OrderlyTo rows i s) 
         ordered_walked [] rows 0 ∙ rw (went_refused went next (passes_all s row.depth) says)
 
 -- ---- a listing's rows
-
--- where a walk has come to that keeps steps and counts entries and nodes, and where reading has
-abbrev pub walked_to : Sofar → Walked ℕ (ℕ × ℕ)
-walked_to sofar = walked (map some sofar.place) (sofar.entries, sofar.nodes)
-
-abbrev pub sofar_of : Walked ℕ (ℕ × ℕ) → Sofar
-sofar_of w = record { place = all_in w.kept; entries = w.state.0; nodes = w.state.1 }
-
-abbrev pub listed : Form → Rule ℕ (ℕ × ℕ)
-listed form place row rows w =
-    let next : Sofar = past (sofar_of w) row in
-    answer_by place (some row.step, (next.entries, next.nodes)) (refusal form (sofar_of w) row)
 
 -- A row that is read after others is a turn of that walk, so reading is the fold over lines of a walk's turns.
 pub turn_past :

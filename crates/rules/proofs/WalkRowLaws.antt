@@ -10,18 +10,15 @@ use Rattle.rules.specs.ValueRows.{ValueRow, attribute_rows}
 use Rattle.rules.specs.ValueRowTests.{value_from, elements_from, attributes_from}
 use Rattle.rules.proofs.ValueRowTestLaws.{read_value, read_run}
 use Rattle.rules.specs.Typing.{is_field}
-use Rattle.rules.specs.Loading.{Request, Event, ancestor, bad, has_field_child, has_ancestors_trie, ids_in, Met, comes_to as met_fields, or14 as unless_fields, value_rule, at_node, kept_at, walk_nodes, remaining_entities, in_context}
+use Rattle.rules.specs.Loading.{Request, Event, ancestor, bad, has_field_child, has_ancestors_trie, ids_in, comes_to as met_fields, or14 as unless_fields, value_rule, at_node, kept_at, walk_nodes, remaining_entities, in_context}
 use Rattle.rules.specs.WalkRows.{field_row, ids_at, MetRows, comes_to, comes_to_nothing, or14, row_rule, rule_at, at_node_rows, kept_rows_at, walk_rows, remaining_rows, in_context_rows}
+pub use Rattle.rules.specs.WalkRowLaws.{row_value, read_kept, read_met, read_all}
 
 -- a number is below another, the same or above it
 ordered : {A : Type 0} (m n : ℕ) → (m < n → A) → (m ≡ n → A) → (n < m → A) → A
 ordered m n less equal more = compared m n less (λ h. compared n m more (λ k. equal (omega arith)))
 
 -- The field that the scan finds is the one that is read.
-
-abbrev row_value : ℕ → List ValueRow → Option Value
-row_value d [] = none
-row_value d (x ∷ rows) = some (read_value d x rows)
 
 pub field-row : (d f : ℕ) (rows : List ValueRow) → attribute_in f (attributes_from d rows) ≡ row_value d (field_row d f rows)
 unfolding attribute_in elements_from field_row
@@ -58,13 +55,6 @@ ids-at d (x ∷ rows) =
     (λ h. rw (le-ltb x.depth d (omega arith), ne_eqb x.depth d (λ e. omega arith), rest))
 
 -- What a node comes to is the same, with the fields that are read from what is kept.
-
-abbrev read_kept : ℕ → Option (List ValueRow) → Option Attributes
-read_kept d none = none
-read_kept d (some run) = some (attributes_from d run)
-
-abbrev read_met : ℕ → MetRows → Met
-read_met d m = met_fields m.events (read_kept d m.kept)
 
 read_unless : (d : ℕ) (t : Bool) (m : MetRows) → unless_fields t (read_met d m) ≡ read_met d (or14 t m)
 read_unless d true m = refl
@@ -111,10 +101,6 @@ module _ (Node-row : Row) (node-rows : List Row) (node d : ℕ) where
       (λ e. rw e)
 
 -- What is kept for each depth.
-
-abbrev read_all : ℕ → List (Option (List ValueRow)) → List (Option Attributes)
-read_all d [] = []
-read_all d (kept ∷ more) = read_kept d kept ∷ read_all (suc d) more
 
 kept-at : (d n : ℕ) (kept : List (Option (List ValueRow))) → kept_at (read_all d kept) n ≡ read_kept (d + n) (kept_rows_at kept n)
 unfolding kept_at kept_rows_at

@@ -3,7 +3,7 @@ ghost use Rattle.std.specs.Prelude.{◌≡◌, List, map, ◌+◌, ◌≤◌, le
 ghost use Rattle.std.proofs.Math.Option.{none, some};
 ghost use Rattle.rules.specs.Values.{Entity};
 ghost use Rattle.rules.specs.ValueRows.{ValueRow, merge_rows};
-ghost use Rattle.rules.proofs.MergeLaws.{merged_of};
+ghost use Rattle.rules.specs.MergeLaws.{merged_of};
 ghost use Rattle.rules.specs.Loading.{with_ids};
 ghost use Rattle.words.specs.Runs.{Wrote};
 ghost use Rattle.values.specs.ValueWords.{value_rows_of, value_word};

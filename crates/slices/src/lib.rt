@@ -8,7 +8,7 @@ mod keys;
 
 ghost use Rattle.std.specs.Prelude.{List};
 ghost use Rattle.rules.specs.Loading.{Loaded, with_ancestors};
-ghost use Rattle.rules.proofs.SliceLaws.{SliceOf};
+ghost use Rattle.rules.specs.SliceLaws.{SliceOf};
 ghost use Rattle.slices.specs.Slices.{rows_asked, answers_in, sets_in, SliceFit, WroteSlice};
 
 use entity::{NextAnswer, next_answer, write_entity};

@@ -1,6 +1,6 @@
 // What a store answers, from the words of its lines: an entity's row, and those of some ids that are among its ancestors.
 ghost use Rattle.std.specs.Prelude.{map, ◌+◌, ◌≤◌, ◌<◌, length};
-ghost use Rattle.rules.proofs.MergeLaws.{IdsFrom};
+ghost use Rattle.rules.specs.MergeLaws.{IdsFrom};
 ghost use Rattle.words.specs.Runs.{Wrote};
 ghost use Rattle.store_text.specs.Answering.{id_in, among_of, FoundEntity, EntityAnswered, AnsweredRow, AnsweredAncestors};
 

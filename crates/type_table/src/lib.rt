@@ -4,7 +4,7 @@
 ghost use Rattle.std.specs.Prelude.{◌≡◌, true, map, ◌+◌, ◌%◌, ◌<◌, ◌≤◌, length, take, drop, get_or};
 ghost use Rattle.rules.specs.Paths.{deeper};
 ghost use Rattle.rules.specs.Schema.{last_type, attributes_of};
-ghost use Rattle.rules.proofs.TypeLaws.{types_in, deepest};
+ghost use Rattle.rules.specs.TypeLaws.{types_in, deepest};
 ghost use Rattle.rows.specs.Words.{word_of, number_for};
 ghost use Rattle.schema.specs.Items.{items_of, good_items};
 ghost use Rattle.words.specs.Runs.{Wrote};

@@ -1,7 +1,7 @@
 // The rows of a value, line after line, and the order of a set's elements once every line has passed.
 ghost use Rattle.std.specs.Prelude.{◌≡◌, true, ◌<◌, length, take};
 ghost use Rattle.rules.specs.ValueTexts.{field_level, may_come};
-ghost use Rattle.rules.proofs.ValueTextLaws.{may_pass};
+ghost use Rattle.rules.specs.ValueTextLaws.{may_pass};
 ghost use Rattle.values.specs.ValueWords.{value_row_in, value_rows_of};
 ghost use Rattle.values.specs.Lawful.{level_in, levels_in};
 ghost use Rattle.value_text.specs.Rows.{ValueLineTaken, next_unless, Misplaced};

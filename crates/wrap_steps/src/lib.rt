@@ -3,7 +3,7 @@
 
 ghost use Rattle.std.specs.Prelude.{◌≡◌, ◌+◌, ◌-◌, ◌<◌, ◌≤◌, length, drop};
 ghost use Rattle.rules.specs.Steps.{from_root, default_result, judged, two_step, union_results, set_step, drop_step, rec_step};
-ghost use Rattle.rules.proofs.StepLaws.{Each};
+ghost use Rattle.rules.specs.StepLaws.{Each};
 ghost use Rattle.words.specs.Runs.{Wrote};
 ghost use Rattle.result_stack.specs.Stacks.{Holding, Working, StepsBy, WrapsBy};
 

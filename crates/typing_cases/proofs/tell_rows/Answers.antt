@@ -1,5 +1,5 @@
 -- `typing_cases::tell_rows` is safe: each LF that is found lies between the last place and the end.
-use Prim.Native.Nat.{◌≤◌, ◌<◌, ◌-◌}
+use Prim.Native.Nat.{◌≤◌, ◌<◌}
 use native.Mathlib.Omega.{arith}
 use lib.ListN.{length}
 use Rattle.text.proofs.Laws.{whole_within}

@@ -1,5 +1,5 @@
 -- `page_jobs::markup::put_ends` is safe and ends: there is room from row to row, and the rows left fall.
-use Prim.Native.Nat.{◌-◌, ◌<◌}
+use Prim.Native.Nat.{◌<◌}
 use mathlib.Core.Path.{◌≡◌}
 use lib.ListN.{length}
 use Rattle.page_jobs.proofs.markup.put_ends.Given as goal
