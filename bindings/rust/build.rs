@@ -40,6 +40,10 @@ fn build(repository: &Path) {
     let ran = Command::new(repository.join("tools/staticlib")).stdout(Stdio::null()).status();
     match ran {
         Ok(status) if status.success() => {}
+        // what the shell answers where a command is not there
+        Ok(status) if status.code() == Some(127) => stop(&format!(
+            "there is no {ARCHIVE}: set TERBAGYL_LIB to a folder that has it, or put the Rattle kit (rt) on the PATH to build it"
+        )),
         Ok(status) => stop(&format!("`tools/staticlib` failed: {status}")),
         Err(why) if why.kind() == io::ErrorKind::NotFound => stop(&format!(
             "there is no {ARCHIVE}: set TERBAGYL_LIB to a folder that has it, or put the Rattle kit (rt) on the PATH to build it"

@@ -65,7 +65,7 @@ module _ (out : List ℕ) (cs : List (List ℕ)) (long : 4161 ≤ length out) (l
       ↔ ((rows : List Row) × (add (build [] (map rows_in (take k cs))) (rows_in (get_or cs k [])) ≡ accepted rows))
   kth_is_done k h = rw (kth_reply k h) (reply_done (add (build [] (map rows_in (take k cs))) (rows_in (get_or cs k []))))
 
-  -- Writing answers the length of the build's listing and leaves the listing in the text, byte for byte, what follows it was.
+  -- Writing answers the length of the build's listing and leaves the listing in the text, byte for byte, what follows it as it was.
   pub written_is_listing :
       (text : List ℕ)
       → 62720 ≤ length text

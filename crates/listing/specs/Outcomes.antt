@@ -23,7 +23,7 @@ pub record TextOutcome : Type 0 where
   pub reply : Written
   pub buffer : List ℕ
 
--- writing: 31, then 1 at 0; otherwise the listing from the start of the text on, what follows it was
+-- writing: 31, then 1 at 0; otherwise the listing from the start of the text on, what follows it as it was
 unfoldable pub write_in : Kind → List ℕ → List ℕ → TextOutcome
 write_in kind state out =
     cond (leb (words_of kind) (length state) && leb (bytes_of kind) (length out))

@@ -105,7 +105,7 @@ fn word_of(item: &[u8]) -> u64 {
     }
 }
 
-// Puts an item, and as many more of it says, each so much above the one before, into `out` from `at` on, as much as there is room, and
+// Puts an item, and as many more of it as it says, each so much above the one before, into `out` from `at` on, as much as there is room, and
 // answers the place after it. An empty item is none.
 fn put(out: &mut [u64], at: usize, item: &[u8]) -> usize
     requires { at ≤ length out.old }

@@ -27,14 +27,14 @@ impl EntityManifest {
         Reply::Done
     }
 
-    // Adds a contribution to a manifest; a refusal leaves it was.
+    // Adds a contribution to a manifest; a refusal leaves it as it was.
     pub fn add(manifest: &mut [u64], contribution: &[u64]) -> Reply
         ensures { (result ≡ (add_in manifest.old contribution.now).reply) × (manifest.new ≡ (add_in manifest.old contribution.now).buffer) }
     {
         unite_in_place(Kind::Contribution, manifest, contribution)
     }
 
-    // Makes a manifest its union with another one; a refusal leaves it was.
+    // Makes a manifest its union with another one; a refusal leaves it as it was.
     pub fn unite_manifests(manifest: &mut [u64], other: &[u64]) -> Reply
         ensures { (result ≡ (unite_in manifest.old other.now).reply) × (manifest.new ≡ (unite_in manifest.old other.now).buffer) }
     {
@@ -56,7 +56,7 @@ pub fn unite_lawful(manifest: &mut [u64], other: &[u64], united: &mut [u64]) -> 
     Reply::Done
 }
 
-// Makes a manifest its union with a state of a kind; a refusal leaves it was.
+// Makes a manifest its union with a state of a kind; a refusal leaves it as it was.
 fn unite_in_place(kind: Kind, manifest: &mut [u64], other: &[u64]) -> Reply
     ensures { (result ≡ (united_in kind manifest.old other.now).reply) × (manifest.new ≡ (united_in kind manifest.old other.now).buffer) }
 {

@@ -1,7 +1,4 @@
-<<<<<<< HEAD
 -- `manifest_cases::ask_order` ends after 31 numbers at the latest.
-=======
->>>>>>> 24337ca1107056cebcb6802897dce36a11e6c4dd
 use Prim.Native.Nat.{◌-◌, ◌≤◌}
 use mathlib.Core.Path.{◌≡◌}
 use lib.ListN.{length}

@@ -1,9 +1,5 @@
 -- `steps_cases::replay_all` is safe: each LF that is found lies between the last place and the end.
-<<<<<<< HEAD
-use Prim.Native.Nat.{◌≤◌, ◌<◌, ◌-◌}
-=======
 use Prim.Native.Nat.{◌≤◌, ◌<◌}
->>>>>>> 24337ca1107056cebcb6802897dce36a11e6c4dd
 use native.Mathlib.Omega.{arith}
 use lib.ListN.{length}
 use Rattle.text.proofs.Laws.{whole_within}

@@ -1,7 +1,4 @@
-<<<<<<< HEAD
 -- `typing_cases::tell_changes` stays within `out`.
-=======
->>>>>>> 24337ca1107056cebcb6802897dce36a11e6c4dd
 use Prim.Native.Nat.{◌-◌, ◌≤◌}
 use lib.ListN.{length}
 use Rattle.typing_cases.proofs.tell_changes.Given as goal

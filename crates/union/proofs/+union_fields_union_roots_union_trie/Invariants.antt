@@ -1,3 +1,4 @@
+-- `union::union_fields`, `union_roots` and `union_trie` meet their contracts: what each stores is the next part of the union, and the steps left fall.
 use Rattle.std.proofs.Common.{◌+◌, ◌*◌, ◌-◌, length}
 use Rattle.union.specs.Merge.{Merged}
 use Rattle.union.proofs.+union_fields_union_roots_union_trie.Given as goal
