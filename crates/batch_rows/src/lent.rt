@@ -1,5 +1,5 @@
-// The rows of a batch in a lent slice of structs. The borrow checker covers no reference to a struct, so these are proved by hand; the work is
-// done in `handing`. Callers use `ask_rows`, whose parameters are a plain slice and an array.
+// The rows of a batch in a lent slice of structs; the work is done in `handing`. Callers use `ask_rows`, whose parameters are a plain slice and an
+// array.
 ghost use Rattle.std.specs.Prelude.{◌≡◌, ◌≤◌, length, take};
 ghost use Rattle.batch_rows.specs.Rows.{begins, batch_rows_in, RowsAs};
 
