@@ -6,16 +6,15 @@ use Rattle.rules.specs.Numbers.{Answer, accepted, refused}
 use Rattle.words.specs.Keys.{searched}
 use Rattle.words.specs.Runs.{Outcome, refusing, stored, words_in}
 use Rattle.words.specs.declared.Reply.TheVariants.{Done}
-use Rattle.words.specs.declared.Search.{Search}
-use Rattle.words.specs.declared.Search.TheVariants.{Found as FoundAt, Missing as MissingAt}
+use Rattle.std.specs.Prelude.{Result, Ok as FoundAt, Err as MissingAt}
 use Rattle.rules.specs.Names.{Named, Naming, naming, read_names}
 use Rattle.name_table.specs.Words.{name_word, named_in}
 use Rattle.name_table.specs.declared.reading.Took.{Took}
 use Rattle.name_table.specs.declared.reading.Took.TheVariants.{Name, Refused as Stopped}
 use Rattle.name_table.specs.declared.reading.GotNames.{GotNames}
 use Rattle.name_table.specs.declared.reading.GotNames.TheVariants.{Lines, Refused}
-use Rattle.name_table.specs.declared.finding.Found.{Found}
-use Rattle.name_table.specs.declared.finding.Found.TheVariants.{At, Missing}
+use Rattle.name_table.specs.declared.finding.Found.{Ok}
+use Rattle.name_table.specs.declared.finding.Found.TheVariants.{At, Err}
 
 -- where a line that was taken leaves a table: it ends at a place, behind some lines
 abbrev pub took_naming : ℕ → List Named → Took → Option Naming
@@ -53,18 +52,18 @@ read_names_in text out =
     cond (leb names_length (length out)) (cond (leb (length text) text_length) (storing_names out (read_names text)) (refusing 15 0 out)) (refusing 31 0 out)
 
 -- finding: where the name of a line stands, if all of it is in the text
-abbrev pub place_of : List ℕ → Named → Found
-place_of text n = cond (leb (n.from + n.size) (length text)) (At n.from (n.from + n.size)) Missing
+abbrev pub place_of : List ℕ → Named → Ok
+place_of text n = cond (leb (n.from + n.size) (length text)) (At n.from (n.from + n.size)) Err
 
 -- the line with a key among words
-abbrev pub place_at : List ℕ → List ℕ → Search → Found
+abbrev pub place_at : List ℕ → List ℕ → Result ℕ ℕ → Ok
 place_at text words (FoundAt i) = place_of text (named_in (get_or words i 0))
-place_at text words (MissingAt i) = Missing
+place_at text words (MissingAt i) = Err
 
-unfoldable pub name_found : List ℕ → List ℕ → ℕ → Found
+unfoldable pub name_found : List ℕ → List ℕ → ℕ → Ok
 name_found text names key =
-    cond (ltb (get_or names 0 0) (length names)) (place_at text (words_in names) (searched (words_in names) key)) Missing
+    cond (ltb (get_or names 0 0) (length names)) (place_at text (words_in names) (searched (words_in names) key)) Err
 
-abbrev pub Inside : List ℕ → Found → Type 0
+abbrev pub Inside : List ℕ → Ok → Type 0
 Inside text (At from to) = (from ≤ to) × (to ≤ length text)
-Inside text Missing = Unit
+Inside text Err = Unit

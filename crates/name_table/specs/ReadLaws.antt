@@ -21,8 +21,7 @@ use Rattle.words.specs.Keys.{key_in, later, searched}
 use Rattle.words.specs.Runs.{refusing, stored, words_in}
 use Rattle.words.specs.RunLaws.{stored_next}
 use Rattle.words.specs.declared.Reply.TheVariants.{Done}
-use Rattle.words.specs.declared.Search.{Search}
-use Rattle.words.specs.declared.Search.TheVariants.{Found as FoundAt, Missing as MissingAt}
+use Rattle.std.specs.Prelude.{Result, Ok as FoundAt, Err as MissingAt}
 use Rattle.rules.specs.Names.{Named, named, Naming, naming, named_of, is_taken, name_taken, name_line, read_names}
 use Rattle.name_table.specs.Words.{name_word, named_in}
 use Rattle.name_table.specs.Lines.{NameParsed}
@@ -30,7 +29,7 @@ use Rattle.name_table.specs.Outcomes.{took_naming, names_got, read_names_in, pla
 use Rattle.name_table.specs.NameLaws.{word_packed, words_packed}
 use Rattle.name_table.specs.declared.reading.Took.TheVariants.{Name}
 use Rattle.name_table.specs.declared.reading.GotNames.TheVariants.{Lines, Refused}
-use Rattle.name_table.specs.declared.finding.Found.TheVariants.{At, Missing}
+use Rattle.name_table.specs.declared.finding.Found.TheVariants.{At, Err}
 
 -- ---- a line, from a place of the text to its LF
 
@@ -159,17 +158,17 @@ found_inside (w ∷ words) key i e =
     (λ past. absurd (let gone : MissingAt 0 ≡ FoundAt i = rw (other, past) at e in let z : ◌≡◌ {A = ℕ} 0 1 = cc in omega arith))
     (λ low. go (searched words key) (λ j q. found_inside words key j q) (rw (other, low) at e)))
   where
-    go : (r : Search) → ((j : ℕ) → r ≡ FoundAt j → j < length words) → later r ≡ FoundAt i → i < length (w ∷ words)
+    go : (r : Result ℕ ℕ) → ((j : ℕ) → r ≡ FoundAt j → j < length words) → later r ≡ FoundAt i → i < length (w ∷ words)
     go (FoundAt j) inside e = let next : suc j ≡ i = cc in omega (arith, inside j refl)
     go (MissingAt j) inside e = absurd (let z : ◌≡◌ {A = ℕ} 0 1 = cc in omega arith)
 
 module _ (text names : List ℕ) (key : ℕ) where
-  pub no_words : length names ≤ get_or names 0 0 → Missing ≡ name_found text names key
+  pub no_words : length names ≤ get_or names 0 0 → Err ≡ name_found text names key
   unfolding name_found
   no_words h = sym (rw (le-ltb (get_or names 0 0) (length names) h))
 
   module _ (inside : get_or names 0 0 < length names) where
-    pub no_key : {i : ℕ} → searched (words_in names) key ≡ MissingAt i → Missing ≡ name_found text names key
+    pub no_key : {i : ℕ} → searched (words_in names) key ≡ MissingAt i → Err ≡ name_found text names key
     unfolding name_found
     no_key e = sym (rw (lt-ltb (get_or names 0 0) (length names) inside, e))
 
@@ -186,7 +185,7 @@ module _ (text names : List ℕ) (key : ℕ) where
           let same : get_or (words_in names) i 0 ≡ get_or names (1 + i) 0 = get_or-take (get_or names 0 0) (drop 1 names) i 0 place_inside ∙ get_or-drop 1 names i 0 in
           rw (lt-ltb (get_or names 0 0) (length names) inside, e, same)
 
-      pub no_place : length text < found.from + found.size → Missing ≡ name_found text names key
+      pub no_place : length text < found.from + found.size → Err ≡ name_found text names key
       no_place h = sym (by_place ∙ rw (lt-leb (found.from + found.size) (length text) h))
 
       pub at_place : found.from + found.size ≤ length text → At found.from (found.from + found.size) ≡ name_found text names key

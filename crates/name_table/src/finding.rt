@@ -2,7 +2,7 @@
 ghost use Rattle.std.specs.Prelude.{◌≡◌, ◌≤◌, length};
 ghost use Rattle.name_table.specs.Outcomes.{name_found, Inside};
 
-use words::Search;
+use words::search_key;
 
 // Where a name stands in the text: from a place to another; or there is none.
 #[derive(Drop)]
@@ -24,7 +24,7 @@ pub fn find_name(text: &[u8], names: &[u64], key: u64) -> Found
         return Found::Missing;
     }
     let end = count as usize + 1;
-    let Search::Found(place) = Search::of(&names[1..end], key) else {
+    let Ok(place) = search_key(&names[1..end], key) else {
         return Found::Missing;
     };
     let word = names[1 + place];

@@ -34,8 +34,7 @@ use Rattle.rules.specs.Schema.{
 use Rattle.rules.specs.Typing.{from_line, type_named}
 use Rattle.schema.specs.Items.{item_in, items_of, is_item, all_items}
 use Rattle.words.specs.Keys.{searched, later}
-use Rattle.words.specs.declared.Search.{Search}
-use Rattle.words.specs.declared.Search.TheVariants.{Found, Missing}
+use Rattle.std.specs.Prelude.{Result, Ok, Err}
 use Rattle.type_table.specs.Tables.{value_at, value_named}
 use Rattle.node_types.specs.Named.{entity_place}
 
@@ -323,9 +322,9 @@ up_all (w ∷ words) all =
     rw (le-leb (w % 16) context_line (item_tag (item_in w) item)) (ap suc (up_all words rest))
 
 -- one more word in front changes only the place
-value_later : (w : ℕ) (run : List ℕ) (s : Search) → value_at (w ∷ run) (later s) ≡ value_at run s
-value_later w run (Found place) = refl
-value_later w run (Missing place) = refl
+value_later : (w : ℕ) (run : List ℕ) (s : Result ℕ ℕ) → value_at (w ∷ run) (later s) ≡ value_at run s
+value_later w run (Ok place) = refl
+value_later w run (Err place) = refl
 
 module _ {n s : ℕ} (border : Border n s) (key : ℕ) where
   abbrev found_in : List ℕ → Option ℕ
@@ -481,38 +480,38 @@ pub record EntityThere (at : ℕ) (words table : List ℕ) (name i : ℕ) : Type
   pub inside : place < length words
   pub from : from_line entity_line name (items_of words) ≡ items_of (drop place words)
 
-abbrev pub EntitySays : ℕ → List ℕ → List ℕ → ℕ → Search → Type 0
-EntitySays at words table name (Found i) = EntityThere at words table name i
-EntitySays at words table name (Missing i) = from_line entity_line name (items_of words) ≡ []
+abbrev pub EntitySays : ℕ → List ℕ → List ℕ → ℕ → Result ℕ ℕ → Type 0
+EntitySays at words table name (Ok i) = EntityThere at words table name i
+EntitySays at words table name (Err i) = from_line entity_line name (items_of words) ≡ []
 
 -- the same with a word before them that is not found
 says_more :
-    (at w : ℕ) (words table : List ℕ) (name : ℕ) (s : Search)
+    (at w : ℕ) (words table : List ℕ) (name : ℕ) (s : Result ℕ ℕ)
     → from_line entity_line name (items_of (w ∷ words)) ≡ from_line entity_line name (items_of words)
     → EntitySays (suc at) words table name s
     → EntitySays at (w ∷ words) table name s
-says_more at w words table name (Found i) skipped there = record {
+says_more at w words table name (Ok i) skipped there = record {
   in_table = there.in_table;
   place = suc there.place;
   says = there.says ∙ omega arith;
   inside = omega (arith, there.inside);
   from = skipped ∙ there.from;
 }
-says_more at w words table name (Missing i) skipped none_there = skipped ∙ none_there
+says_more at w words table name (Err i) skipped none_there = skipped ∙ none_there
 
 -- and with one before the table
 says_later :
-    (at : ℕ) (words table : List ℕ) (w name : ℕ) (s : Search)
+    (at : ℕ) (words table : List ℕ) (w name : ℕ) (s : Result ℕ ℕ)
     → EntitySays at words table name s
     → EntitySays at words (w ∷ table) name (later s)
-says_later at words table w name (Found i) there = record {
+says_later at words table w name (Ok i) there = record {
   in_table = omega (arith, there.in_table);
   place = there.place;
   says = there.says;
   inside = there.inside;
   from = there.from;
 }
-says_later at words table w name (Missing i) none_there = none_there
+says_later at words table w name (Err i) none_there = none_there
 
 -- a search in the table finds what is found among the words
 pub entity_searched :

@@ -5,8 +5,7 @@ use Rattle.rules.specs.Facts.{compared}
 use Rattle.rules.specs.Schema.{entity_line, attribute_line, literal_line, unknown, lawful_items}
 use Rattle.schema.specs.Items.{items_of, all_items, good_items}
 use Rattle.words.specs.Keys.{searched}
-use Rattle.words.specs.declared.Search.{Search}
-use Rattle.words.specs.declared.Search.TheVariants.{Found, Missing}
+use Rattle.std.specs.Prelude.{Result, Ok, Err}
 use Rattle.type_table.specs.TypeTableLaws.{good_all, good_lawful}
 use Rattle.node_types.specs.declared.places.Places.{Places}
 use Rattle.node_types.specs.Named.{entity_place, EntityFound, EntityTable, PlacesFound}
@@ -131,8 +130,8 @@ module _ {words entities : List ℕ} {count at : ℕ} (tabling : Tabling words e
       rw (tabling.there, take_all at words past)
       (found (searched (entity_table 0 words) name) (entity_searched name 0 unknown words (good_lawful words good) (omega arith)))
     where
-      found : (s : Search) → EntitySays 0 words (entity_table 0 words) name s → EntityFound words (entity_table 0 words) name s
-      found (Found i) there =
+      found : (s : Result ℕ ℕ) → EntitySays 0 words (entity_table 0 words) name s → EntityFound words (entity_table 0 words) name s
+      found (Ok i) there =
           let place : entity_place (get_or (entity_table 0 words) i 0) ≡ there.place = omega (arith, there.says) in
           (there.in_table, rw place there.inside, rw place there.from)
-      found (Missing i) none_there = none_there
+      found (Err i) none_there = none_there

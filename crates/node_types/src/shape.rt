@@ -9,7 +9,7 @@ ghost use Rattle.node_types.specs.Shapes.{ShapeAt};
 use rows::RequestType;
 use schema::Item;
 use type_table::{attributes_end, size_at};
-use words::Search;
+use words::search_key;
 
 // Which fields there are, as attributes from a place to a place; that there are none; or nothing, for the type is not strict.
 #[derive(Drop)]
@@ -29,7 +29,7 @@ fn entity_shape(words: &[u64], entities: &[u64], name: u64) -> Shape
     requires { (good_items words.now ≡ true) × EntityTable words.now entities.now }
     ensures { ShapeAt words.now (entity_shape (items_of words.now) name) result }
 {
-    let Search::Found(i) = Search::of(entities, name) else {
+    let Ok(i) = search_key(entities, name) else {
         return Shape::NotStrict;
     };
     let first = (entities[i] % 0x100_0000_0000) as usize + 1;

@@ -7,7 +7,7 @@ ghost use Rattle.path_tries.specs.Nodes.{IsState};
 ghost use Rattle.result_stack.specs.Stacks.{Holding, Placed, TrieAt, CopiedFrom, trie_words, Pushed, TriesAt, TriesMergedFrom, ReplacedBy};
 
 use path_tries::union_into;
-use words::{copy_short_words, copy_words};
+use words::{copy_words, copy_words};
 use wrapped_paths::WrappedAccessPaths;
 
 // Where the top stands in either run, and how many results there are.
@@ -62,7 +62,7 @@ pub fn put_before(words: &[u16], out: &mut [u16], end: usize) -> usize
     ensures { Placed words.now out.old end out.new result }
 {
     let start = end - words.len();
-    copy_short_words(words, out, start);
+    copy_words(words, out, start);
     start
 }
 

@@ -13,18 +13,17 @@ use Rattle.rules.specs.Listing.{place_in}
 use Rattle.rules.proofs.ListingLaws.{place_read}
 use Rattle.text.specs.Answers.{field_at, first_field}
 use Rattle.text.specs.Before.{before as earlier}
-use Rattle.text.specs.declared.Field.{Field}
-use Rattle.text.specs.declared.Field.TheVariants.{More, Last}
+use Rattle.std.specs.Prelude.{Option as Maybe, Some, None}
 use Rattle.text.proofs.Laws.{more_within, parted_next, parted_whole, parted_cut, letter_none}
 
 -- ---- fields
 
 -- a field that a tab ends stands in front of the fields behind the tab
-fields_more : (line : List ℕ) (at end : ℕ) (r : Field) → r ≡ field_at line at → r ≡ More end →
+fields_more : (line : List ℕ) (at end : ℕ) (r : Maybe ℕ) → r ≡ field_at line at → r ≡ Some end →
     fields_of (drop at line) ≡ take (end - at) (drop at line) ∷ fields_of (drop (end + 1) line)
 fields_more line at end r ensured e = go (fields_of (drop at line)) refl (sym ensured ∙ e)
   where
-    go : (fields : List (List ℕ)) → fields_of (drop at line) ≡ fields → first_field at fields ≡ More end →
+    go : (fields : List (List ℕ)) → fields_of (drop at line) ≡ fields → first_field at fields ≡ Some end →
         fields_of (drop at line) ≡ take (end - at) (drop at line) ∷ fields_of (drop (end + 1) line)
     go [] q e = absurd (let z : ◌≡◌ {A = ℕ} 0 1 = cc in omega arith)
     go (field ∷ []) q e = absurd (let z : ◌≡◌ {A = ℕ} 0 1 = cc in omega arith)
@@ -37,24 +36,24 @@ abbrev pub Ends : List ℕ → ℕ → ℕ → Type 0
 Ends line at end =
     (at ≤ end) × (end < length line) × (fields_of (drop at line) ≡ take (end - at) (drop at line) ∷ fields_of (drop (end + 1) line))
 
-pub field_ends : (line : List ℕ) (at end : ℕ) (r : Field) → r ≡ field_at line at → r ≡ More end → Ends line at end
+pub field_ends : (line : List ℕ) (at end : ℕ) (r : Maybe ℕ) → r ≡ field_at line at → r ≡ Some end → Ends line at end
 field_ends line at end r ensured e =
     let (behind, within) = more_within line at end r ensured e in
     (behind, within, fields_more line at end r ensured e)
 
 -- a last field is all that is left
-pub fields_last : (line : List ℕ) (at : ℕ) (r : Field) → r ≡ field_at line at → r ≡ Last →
+pub fields_last : (line : List ℕ) (at : ℕ) (r : Maybe ℕ) → r ≡ field_at line at → r ≡ None →
     fields_of (drop at line) ≡ take (length line - at) (drop at line) ∷ []
 fields_last line at r ensured e =
     compared (at + length (earlier TAB (drop at line))) (length line)
     (λ h.
     let (next, others, p) = parted_cut TAB at line h in
-    let other : Last ≡ More (at + length (earlier TAB (drop at line))) = sym e ∙ ensured ∙ ap (first_field at) p in
+    let other : None ≡ Some (at + length (earlier TAB (drop at line))) = sym e ∙ ensured ∙ ap (first_field at) p in
     absurd (let z : ◌≡◌ {A = ℕ} 0 1 = cc in omega arith))
     (λ h. parted_whole TAB at line h ∙ rw (take_all (length line - at) (drop at line) (omega (arith, length-drop at line))))
 
 -- a line whose first field is the last is that field
-pub fields_whole : (line : List ℕ) (r : Field) → r ≡ field_at line 0 → r ≡ Last → fields_of line ≡ line ∷ []
+pub fields_whole : (line : List ℕ) (r : Maybe ℕ) → r ≡ field_at line 0 → r ≡ None → fields_of line ≡ line ∷ []
 fields_whole line r ensured e = fields_last line 0 r ensured e ∙ rw (sub-zero, take_all (length line) line (omega arith))
 
 -- ---- letters

@@ -20,12 +20,7 @@ use Rattle.text.specs.Answers.{line_at, first_line, field_at, first_field, numbe
 use Rattle.text.specs.Before.{before}
 use Rattle.text.specs.declared.Line.{Line}
 use Rattle.text.specs.declared.Line.TheVariants.{End, Whole, Cut}
-use Rattle.text.specs.declared.Decimal.{Decimal}
-use Rattle.text.specs.declared.Decimal.TheVariants.{Value}
-use Rattle.text.specs.declared.Field.{Field}
-use Rattle.text.specs.declared.Field.TheVariants.{More}
-use Rattle.text.specs.declared.Number.{Number}
-use Rattle.text.specs.declared.Number.TheVariants.{Of, Bad as BadNumber}
+use Rattle.std.specs.Prelude.{Option as Maybe, Some, None}
 
 -- ---- what a scan passes
 
@@ -115,10 +110,10 @@ part_within b at s part next more e =
     omega (arith, length-drop at s, ap length split.1 ∙ length-append part (b ∷ split.0))
 
 -- the tab that ends a field stands in the text
-pub more_within : (line : List ℕ) (at end : ℕ) (r : Field) → r ≡ field_at line at → r ≡ More end → (at ≤ end) × (end < length line)
+pub more_within : (line : List ℕ) (at end : ℕ) (r : Maybe ℕ) → r ≡ field_at line at → r ≡ Some end → (at ≤ end) × (end < length line)
 more_within line at end r ensured e = go (fields_of (drop at line)) refl (sym ensured ∙ e)
   where
-    go : (fields : List (List ℕ)) → fields_of (drop at line) ≡ fields → first_field at fields ≡ More end → (at ≤ end) × (end < length line)
+    go : (fields : List (List ℕ)) → fields_of (drop at line) ≡ fields → first_field at fields ≡ Some end → (at ≤ end) × (end < length line)
     go [] q e = absurd (let z : ◌≡◌ {A = ℕ} 0 1 = cc in omega arith)
     go (field ∷ []) q e = absurd (let z : ◌≡◌ {A = ℕ} 0 1 = cc in omega arith)
     go (field ∷ next ∷ fields) q e =
@@ -186,14 +181,14 @@ cut_line text at r ensured unended =
     (λ end line to. absurd (unended (at + length line) (ensured ∙ rw (to.first, (parted_some LF (drop (end + 1) text)).2))))
 
 -- a number that was read is an id
-pub value_most : (field : List ℕ) (r : Decimal) (n : ℕ) → number_of r ≡ decimal_of field → r ≡ Value n → n ≤ 65535
+pub value_most : (field : List ℕ) (r : Maybe ℕ) (n : ℕ) → number_of r ≡ decimal_of field → r ≡ Some n → n ≤ 65535
 value_most field r n ensured e = (decimal_written field n (sym ensured ∙ ap number_of e)).1
 
 -- ---- a number that is read from a place to the next b
 
 module _ (reads : List ℕ → Option ℕ) (b i : ℕ) (s : List ℕ) where
   -- no b ends it
-  pub number_past : length s ≤ i → first_number reads i (parted b (drop i s)) ≡ BadNumber
+  pub number_past : length s ≤ i → first_number reads i (parted b (drop i s)) ≡ None
   unfolding parted
   number_past h = rw (drop_of_length-le s h)
 
@@ -216,10 +211,10 @@ module _ (reads : List ℕ → Option ℕ) (b i : ℕ) (s : List ℕ) where
           go (part ∷ next ∷ more) = rw (same part, add-suc, suc-add)
 
       -- no number is read where none goes on after that byte
-      pub number_bad : ((part : List ℕ) → reads (get_or s i 0 ∷ part) ≡ none) → first_number reads i (parted b (drop i s)) ≡ BadNumber
+      pub number_bad : ((part : List ℕ) → reads (get_or s i 0 ∷ part) ≡ none) → first_number reads i (parted b (drop i s)) ≡ None
       number_bad bad = number_passed (λ part. none) bad ∙ go (parted b (drop (i + 1) s))
         where
-          go : (parts : List (List ℕ)) → first_number (λ part. none) (i + 1) parts ≡ BadNumber
+          go : (parts : List (List ℕ)) → first_number (λ part. none) (i + 1) parts ≡ None
           go [] = refl
           go (part ∷ []) = refl
           go (part ∷ next ∷ more) = refl
@@ -228,19 +223,19 @@ module _ (reads : List ℕ → Option ℕ) (b i : ℕ) (s : List ℕ) where
 
 module _ (b n i : ℕ) (s : List ℕ) where
   -- nothing is left
-  pub to_past : length s ≤ i → number_to b s n i ≡ Of n i
+  pub to_past : length s ≤ i → number_to b s n i ≡ Some (n, i)
   unfolding number_from
   to_past h = rw (before_past b i s h, add-zero)
 
   module _ (inside : i < length s) where
     -- a b ends them
-    pub to_found : get_or s i 0 ≡ b → number_to b s n i ≡ Of n i
+    pub to_found : get_or s i 0 ≡ b → number_to b s n i ≡ Some (n, i)
     unfolding number_from
     to_found e = rw (before_found b i s inside e, add-zero)
 
     module _ (other : get_or s i 0 ≢ b) where
       -- another byte is no digit, or makes the number too large
-      pub to_bad : (48 ≤ get_or s i 0 → get_or s i 0 ≤ 57 → n * 10 + (get_or s i 0 - 48) ≤ 65535 → ⊥) → number_to b s n i ≡ BadNumber
+      pub to_bad : (48 ≤ get_or s i 0 → get_or s i 0 ≤ 57 → n * 10 + (get_or s i 0 - 48) ≤ 65535 → ⊥) → number_to b s n i ≡ None
       to_bad h = rw (before_passed b i s inside other, number_from_none 65535 n (get_or s i 0) (before b (drop (i + 1) s)) h)
 
       -- or the number goes on with it
@@ -254,9 +249,9 @@ module _ (b n i : ℕ) (s : List ℕ) where
           rw (before_passed b i s inside other, number_from_digit 65535 n (get_or s i 0) (before b (drop (i + 1) s)) low high fits, place)
 
 -- a number that ends at a place, if it does
-abbrev pub ending_at : ℕ → Number → Option ℕ
-ending_at end BadNumber = none
-ending_at end (Of n place) = cond (eqb place end) (some n) none
+abbrev pub ending_at : ℕ → Maybe (ℕ × ℕ) → Option ℕ
+ending_at end None = none
+ending_at end (Some (n, place)) = cond (eqb place end) (some n) none
 
 -- a field that has no 0 in front of another digit is a decimal where no b ends its digits
 pub decimal_to :
@@ -291,9 +286,9 @@ decimal_to b field small some_byte leads =
     other end e (some n) = rw (ne_eqb end (length field) e)
 
 -- a number that ends before a place, if it does
-abbrev pub ending_before : ℕ → Number → Number
-ending_before length BadNumber = BadNumber
-ending_before length (Of n end) = cond (ltb end length) (Of n end) BadNumber
+abbrev pub ending_before : ℕ → Maybe (ℕ × ℕ) → Maybe (ℕ × ℕ)
+ending_before length None = None
+ending_before length (Some (n, end)) = cond (ltb end length) (Some (n, end)) None
 
 module _ (b : ℕ) (s : List ℕ) (small : b < 48) where
   -- what is read up to the next b, where there is one
@@ -312,13 +307,13 @@ module _ (b : ℕ) (s : List ℕ) (small : b < 48) where
       within h (some n) = rw (lt-ltb (i + length (before b (drop i s))) (length s) h)
 
       beyond : length s ≤ i + length (before b (drop i s)) → (o : Option ℕ) →
-          ending_before (length s) (ending (i + length (before b (drop i s))) o) ≡ BadNumber
+          ending_before (length s) (ending (i + length (before b (drop i s))) o) ≡ None
       beyond h none = refl
       beyond h (some n) = rw (le-ltb (i + length (before b (drop i s))) (length s) h)
 
   module _ (at : ℕ) (inside : at < length s) where
     -- a number begins with a digit
-    pub number_undigit : (48 ≤ get_or s at 0 → get_or s at 0 ≤ 57 → ⊥) → number_at b s at ≡ BadNumber
+    pub number_undigit : (48 ≤ get_or s at 0 → get_or s at 0 ≤ 57 → ⊥) → number_at b s at ≡ None
     unfolding decimal_up_to
     number_undigit none_there =
         by_test (eqb (get_or s at 0) b)
@@ -344,12 +339,14 @@ module _ (b : ℕ) (s : List ℕ) (small : b < 48) where
         ∙ first_to (number_from 65535 (get_or s at 0 - 48)) (at + 1)
 
 -- what a number is, by the answer
-ending_of : (place : ℕ) (o : Option ℕ) {n end : ℕ} → ending place o ≡ Of n end → (o ≡ some n) × (place ≡ end)
-ending_of place none e = absurd (let z : ◌≡◌ {A = ℕ} 0 1 = cc in omega arith)
-ending_of place (some m) e = (cc, cc)
+ending_of : (place : ℕ) (o : Option ℕ) {n end : ℕ} → ending place o ≡ Some (n, end) → (o ≡ some n) × (place ≡ end)
+ending_of place none {n} {end} e = absurd (let z : ◌≡◌ {A = ℕ} 0 1 = cc in omega arith)
+ending_of place (some m) {n} {end} e =
+    let same : (m, place) ≡ (n, end) = cc in
+    (ap some (ap (λ (x : ℕ × ℕ). x.0) same), ap (λ (x : ℕ × ℕ). x.1) same)
 
 -- they end inside the bytes
-pub to_within : (b n i : ℕ) (s : List ℕ) {m end : ℕ} → i ≤ length s → number_to b s n i ≡ Of m end → end ≤ length s
+pub to_within : (b n i : ℕ) (s : List ℕ) {m end : ℕ} → i ≤ length s → number_to b s n i ≡ Some (m, end) → end ≤ length s
 to_within b n i s {m} {end} inside e =
     let (_, place) = ending_of (i + length (before b (drop i s))) (number_from 65535 n (before b (drop i s))) e in
     ⊎_elim
@@ -362,11 +359,11 @@ abbrev pub NumberEnds : ℕ → List ℕ → ℕ → ℕ → ℕ → Type 0
 NumberEnds b s at n end =
     (n ≤ 65535) × (end < length s) × (at + length (decimal n) ≡ end) × (drop at s ≡ decimal n ++ b ∷ drop (end + 1) s)
 
-module _ (b : ℕ) (s : List ℕ) (at : ℕ) {r : Number} (ensured : r ≡ number_at b s at) where
-  pub number_ends : {n end : ℕ} → r ≡ Of n end → NumberEnds b s at n end
+module _ (b : ℕ) (s : List ℕ) (at : ℕ) {r : Maybe (ℕ × ℕ)} (ensured : r ≡ number_at b s at) where
+  pub number_ends : {n end : ℕ} → r ≡ Some (n, end) → NumberEnds b s at n end
   number_ends {n} {end} e = go (parted b (drop at s)) refl (sym ensured ∙ e)
     where
-      go : (parts : List (List ℕ)) → parted b (drop at s) ≡ parts → first_number decimal_of at parts ≡ Of n end → NumberEnds b s at n end
+      go : (parts : List (List ℕ)) → parted b (drop at s) ≡ parts → first_number decimal_of at parts ≡ Some (n, end) → NumberEnds b s at n end
       go [] q e = absurd (let z : ◌≡◌ {A = ℕ} 0 1 = cc in omega arith)
       go (part ∷ []) q e = absurd (let z : ◌≡◌ {A = ℕ} 0 1 = cc in omega arith)
       go (part ∷ next ∷ more) q e =
@@ -376,11 +373,11 @@ module _ (b : ℕ) (s : List ℕ) (at : ℕ) {r : Number} (ensured : r ≡ numbe
           (small, omega (arith, part_within b at s part next more q), rw (← written, place), split ∙ rw written)
 
   -- what stands there otherwise, where a b ends it, is no decimal
-  pub number_unended : r ≡ BadNumber → (part next : List ℕ) (more : List (List ℕ)) → parted b (drop at s) ≡ part ∷ next ∷ more → decimal_of part ≡ none
+  pub number_unended : r ≡ None → (part next : List ℕ) (more : List (List ℕ)) → parted b (drop at s) ≡ part ∷ next ∷ more → decimal_of part ≡ none
   number_unended bad part next more q =
       by_option (decimal_of part) (λ e. e)
       (λ n e.
-      let read : BadNumber ≡ Of n (at + length part) =
+      let read : None ≡ Some (n, (at + length part)) =
       sym bad ∙ ensured ∙ ap (first_number decimal_of at) q ∙ ap (ending (at + length part)) e in
       absurd (let z : ◌≡◌ {A = ℕ} 0 1 = cc in omega arith))
 

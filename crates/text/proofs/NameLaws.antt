@@ -19,8 +19,7 @@ use Rattle.rules.specs.Schema.{ascending}
 use Rattle.rules.specs.Steps.{reversed}
 use Rattle.text.specs.Answers.{names_counted, NamesKept, NamesRead}
 use Rattle.text.specs.Before.{before as earlier}
-use Rattle.text.specs.declared.Names.{Names}
-use Rattle.text.specs.declared.Names.TheVariants.{Of, Bad}
+use Rattle.std.specs.Prelude.{Option as Maybe, Some, None}
 use Rattle.text.proofs.Laws.{parted_next, parted_whole, parted_cut}
 
 -- ---- the field from a place to the next tab
@@ -138,11 +137,11 @@ naming_first line buffer =
     }
 
 -- no names
-bad_names : (line buffer : List ℕ) → ascending 0 (fields_of line) ≡ none → NamesRead (ascending 0 (fields_of line)) Bad buffer
+bad_names : (line buffer : List ℕ) → ascending 0 (fields_of line) ≡ none → NamesRead (ascending 0 (fields_of line)) None buffer
 bad_names line buffer e = record { answer = rw e; kept = rw e tt }
 
 module _ {line buffer : List ℕ} {from least count : ℕ} (naming : Naming line buffer from least count) where
-  pub naming_past : length line ≤ from → NamesRead (ascending 0 (fields_of line)) Bad buffer
+  pub naming_past : length line ≤ from → NamesRead (ascending 0 (fields_of line)) None buffer
   naming_past h = bad_names line buffer (naming.left ∙ rw (ascending_past least line from h))
 
   -- the next name is kept where there is room
@@ -155,11 +154,11 @@ module _ {line buffer : List ℕ} {from least count : ℕ} (naming : Naming line
 
   -- the next field, by the fields from it on
   module _ {field : List ℕ} {fields : List (List ℕ)} (here : fields_of (drop from line) ≡ field ∷ fields) where
-    pub naming_bad : decimal_of field ≡ none → NamesRead (ascending 0 (fields_of line)) Bad buffer
+    pub naming_bad : decimal_of field ≡ none → NamesRead (ascending 0 (fields_of line)) None buffer
     naming_bad e = bad_names line buffer (naming.left ∙ rw (here, ascending_bad least field fields e))
 
     module _ {n : ℕ} (value : decimal_of field ≡ some n) where
-      pub naming_low : n < least → NamesRead (ascending 0 (fields_of line)) Bad buffer
+      pub naming_low : n < least → NamesRead (ascending 0 (fields_of line)) None buffer
       naming_low h = bad_names line buffer (naming.left ∙ rw (here, ascending_low least field fields value h))
 
       module _ (h : least ≤ n) where
@@ -176,7 +175,7 @@ module _ {line buffer : List ℕ} {from least count : ℕ} (naming : Naming line
               record { done = naming.done ++ (n ∷ []); all = one_more; few = omega (arith, naming.few); kept = keeps; left = rw e at passed }
 
           -- it was the last
-          pub naming_last : fields ≡ [] → NamesRead (ascending 0 (fields_of line)) (Of (count + 1)) buffer'
+          pub naming_last : fields ≡ [] → NamesRead (ascending 0 (fields_of line)) (Some (count + 1)) buffer'
           unfolding ascending
           naming_last e =
               let names : ascending 0 (fields_of line) ≡ some (naming.done ++ (n ∷ [])) = passed ∙ rw (e, append-nil) in
@@ -184,12 +183,12 @@ module _ {line buffer : List ℕ} {from least count : ℕ} (naming : Naming line
 
 -- ---- names that were read
 
-module _ {names : Option (List ℕ)} {r : Names} {buffer : List ℕ} (names-read : NamesRead names r buffer) where
-  pub no_names : r ≡ Bad → names ≡ none
+module _ {names : Option (List ℕ)} {r : Maybe ℕ} {buffer : List ℕ} (names-read : NamesRead names r buffer) where
+  pub no_names : r ≡ None → names ≡ none
   no_names e = by_option names (λ q. q) (λ ns q. absurd (let z : ◌≡◌ {A = ℕ} 0 1 = cc (e, names-read.answer, ap names_counted q) in omega arith))
 
   -- so many names, of which those are kept for which there is room
-  pub names_kept : {count : ℕ} → r ≡ Of count →
+  pub names_kept : {count : ℕ} → r ≡ Some count →
       (ns : List ℕ) × (names ≡ some ns) × (length ns ≡ count) × (drop (length buffer - count) buffer ≡ reversed (take (length buffer) ns))
   names_kept {count} e =
       by_option names
@@ -199,7 +198,7 @@ module _ {names : Option (List ℕ)} {r : Names} {buffer : List ℕ} (names-read
       (ns, q, size, rw size at (rw q at names-read.kept)))
 
 -- a buffer for one name has the first, which is an id
-pub first_kept : (line buffer : List ℕ) {r : Names} {count : ℕ} → length buffer ≡ 1 → NamesRead (ascending 0 (fields_of line)) r buffer → r ≡ Of count →
+pub first_kept : (line buffer : List ℕ) {r : Maybe ℕ} {count : ℕ} → length buffer ≡ 1 → NamesRead (ascending 0 (fields_of line)) r buffer → r ≡ Some count →
     (others : List ℕ) × (ascending 0 (fields_of line) ≡ some (get_or buffer 0 0 ∷ others)) × (suc (length others) ≡ count) × (get_or buffer 0 0 ≤ 65535)
 first_kept line [] room names-read e = absurd (omega arith)
 first_kept line (word ∷ more ∷ words) room names-read e = absurd (omega arith)

@@ -21,47 +21,20 @@ pub enum Line {
     Cut,
 }
 
-// What begins at a place of a line: a field that the tab at a place ends, or the last field.
-#[derive(Drop)]
-pub enum Field {
-    More(usize),
-    Last,
-}
-
-// What a field writes as a decimal: a number, or no decimal of at most MOST without extra zeros.
-#[derive(Drop)]
-pub enum Decimal {
-    Value(u64),
-    Bad,
-}
-
-// What begins at a place as a decimal: a number that a byte at a place ends, or no such decimal.
-#[derive(Drop)]
-pub enum Number {
-    Of(u64, usize),
-    Bad,
-}
-
-// What the fields of a line are as decimals that ascend strictly: so many names, or no such.
-#[derive(Drop)]
-pub enum Names {
-    Of(usize),
-    Bad,
-}
+// The largest id, and the largest number that a field may hold.
+pub const MOST: u64 = 65_535;
 
 // The place of the first byte `b` of `s` from `at` on, or the length of `s`.
 fn scan(s: &[u8], at: usize, b: u8) -> usize
     requires { at ≤ length s.now }
     ensures { result ≡ at + length (before b (drop at s.now)) }
 {
-    let mut i = at;
-    while i < s.len() {
+    for i in at..s.len() {
         if s[i] == b {
             return i;
         }
-        i += 1;
     }
-    i
+    s.len()
 }
 
 // Whether a field is one letter.
@@ -91,151 +64,132 @@ impl Line {
     }
 }
 
-impl Field {
-    pub fn at(line: &[u8], at: usize) -> Field
-        ensures { result ≡ field_at line.now at }
-    {
-        if line.len() <= at {
-            return Field::Last;
-        }
-        let end = scan(line, at, TAB);
-        if end < line.len() {
-            Field::More(end)
-        } else {
-            Field::Last
-        }
+// The place of the tab that ends the field at a place of a line, or none for the last field.
+pub fn field_end(line: &[u8], at: usize) -> Option<usize>
+    ensures { result ≡ field_at line.now at }
+{
+    if line.len() <= at {
+        return None;
     }
+    let end = scan(line, at, TAB);
+    if end < line.len() { Some(end) } else { None }
 }
 
-impl Decimal {
-    // The largest id, and the largest number that a field may hold.
-    pub const MOST: u64 = 65_535;
-
-    pub fn read(field: &[u8]) -> Decimal
-        ensures { number_of result ≡ decimal_of field.now }
-    {
-        let n = field.len();
-        if n == 0 {
-            return Decimal::Bad;
-        }
-        if 1 < n && field[0] == 48 {
-            return Decimal::Bad;
-        }
-        let Number::Of(value, end) = Number::digits(field, 0, TAB, 0) else {
-            return Decimal::Bad;
-        };
-        if end < n {
-            return Decimal::Bad;
-        }
-        Decimal::Value(value)
+// The number that a field writes as a decimal of at most MOST without extra zeros, if it is one.
+pub fn read_decimal(field: &[u8]) -> Option<u64>
+    ensures { number_of result ≡ decimal_of field.now }
+{
+    let n = field.len();
+    if n == 0 {
+        return None;
     }
-
-    // Writes the decimal of `n` into `out` from `at` on, and answers the place after it.
-    pub fn write(out: &mut [u8], at: usize, n: u64) -> usize
-        requires { at + length (decimal n) ≤ length out.old }
-        ensures { (result ≡ at + length (decimal n)) × (out.new ≡ sets out.old at (decimal n)) }
-    {
-        if n < 10 {
-            out[at] = 48 + n as u8;
-            return at + 1;
-        }
-        let next = Decimal::write(out, at, n / 10);
-        out[next] = 48 + (n % 10) as u8;
-        next + 1
+    if 1 < n && field[0] == 48 {
+        return None;
     }
+    let (value, end) = digits(field, 0, TAB, 0)?;
+    if end < n {
+        return None;
+    }
+    Some(value)
 }
 
-impl Number {
-    // The number that the digits from a place to the next byte `b`, or to the end, write after the number `n` in front of them, and the
-    // place where they end; or that they write none.
-    fn digits(s: &[u8], at: usize, b: u8, n: u64) -> Number
-        requires { n ≤ 65535 }
-        ensures { result ≡ number_to b s.now n at }
-    {
-        let mut value = n;
-        let mut i = at;
-        while i < s.len() {
-            let digit = s[i];
-            if digit == b {
-                return Number::Of(value, i);
-            }
-            if digit < 48 || 57 < digit {
-                return Number::Bad;
-            }
-            value = value * 10 + (digit - 48) as u64;
-            if Decimal::MOST < value {
-                return Number::Bad;
-            }
-            i += 1;
-        }
-        Number::Of(value, i)
+// Writes the decimal of `n` into `out` from `at` on, and answers the place after it.
+pub fn write_decimal(out: &mut [u8], at: usize, n: u64) -> usize
+    requires { at + length (decimal n) ≤ length out.old }
+    ensures { (result ≡ at + length (decimal n)) × (out.new ≡ sets out.old at (decimal n)) }
+{
+    if n < 10 {
+        out[at] = 48 + n as u8;
+        return at + 1;
     }
-
-    // Reads the field from a place to the next byte `b`, which is no digit, in one pass, by the rules of `Decimal::read`.
-    pub fn at(s: &[u8], at: usize, b: u8) -> Number
-        requires { b < 48 }
-        ensures { result ≡ number_at b s.now at }
-    {
-        if s.len() <= at {
-            return Number::Bad;
-        }
-        let first = s[at];
-        if first == 48 {
-            return Number::zero(s, at + 1, b);
-        }
-        if first < 48 || 57 < first {
-            return Number::Bad;
-        }
-        let Number::Of(value, end) = Number::digits(s, at + 1, b, (first - 48) as u64) else {
-            return Number::Bad;
-        };
-        if s.len() <= end {
-            return Number::Bad;
-        }
-        Number::Of(value, end)
-    }
-
-    // What a field is that has a 0 in front of a place: 0 where it ends there.
-    fn zero(s: &[u8], at: usize, b: u8) -> Number
-        ensures { result ≡ first_number (λ field. decimal_of (48 ∷ field)) at (parted b (drop at s.now)) }
-    {
-        if s.len() <= at {
-            return Number::Bad;
-        }
-        if s[at] == b {
-            return Number::Of(0, at);
-        }
-        Number::Bad
-    }
+    let next = write_decimal(out, at, n / 10);
+    out[next] = 48 + (n % 10) as u8;
+    next + 1
 }
 
-impl Names {
-    // Reads them all; those for which `names` has room are kept at its end, the last in front of the others.
-    pub fn read(line: &[u8], names: &mut [u64]) -> Names
-        ensures { NamesRead (ascending 0 (fields_of line.now)) result names.new }
-    {
-        let mut from = 0;
-        let mut least: u64 = 0;
-        let mut count = 0;
-        while from < line.len() {
-            let end = scan(line, from, TAB);
-            let Decimal::Value(name) = Decimal::read(&line[from..end]) else {
-                return Names::Bad;
-            };
-            if name < least {
-                return Names::Bad;
-            }
-            if count < names.len() {
-                let slot = names.len() - 1 - count;
-                names[slot] = name;
-            }
-            count += 1;
-            if end == line.len() {
-                return Names::Of(count);
-            }
-            least = name + 1;
-            from = end + 1;
+// The number that the digits from a place to the next byte `b`, or to the end, write after the number `n` in front of them, and the
+// place where they end; or that they write none.
+fn digits(s: &[u8], at: usize, b: u8, n: u64) -> Option<(u64, usize)>
+    requires { (n ≤ 65535) × (at ≤ length s.now) }
+    ensures { result ≡ number_to b s.now n at }
+{
+    let mut value = n;
+    for i in at..s.len() {
+        let digit = s[i];
+        if digit == b {
+            return Some((value, i));
         }
-        Names::Bad
+        if digit < 48 || 57 < digit {
+            return None;
+        }
+        value = value * 10 + (digit - 48) as u64;
+        if MOST < value {
+            return None;
+        }
     }
+    Some((value, s.len()))
+}
+
+// Reads the field from a place to the next byte `b`, which is no digit, in one pass, by the rules of `read_decimal`: the number, and the
+// place of the byte that ends it.
+pub fn number_at(s: &[u8], at: usize, b: u8) -> Option<(u64, usize)>
+    requires { b < 48 }
+    ensures { result ≡ number_at b s.now at }
+{
+    if s.len() <= at {
+        return None;
+    }
+    let first = s[at];
+    if first == 48 {
+        return zero(s, at + 1, b);
+    }
+    if first < 48 || 57 < first {
+        return None;
+    }
+    let (value, end) = digits(s, at + 1, b, (first - 48) as u64)?;
+    if s.len() <= end {
+        return None;
+    }
+    Some((value, end))
+}
+
+// What a field is that has a 0 in front of a place: 0 where it ends there.
+fn zero(s: &[u8], at: usize, b: u8) -> Option<(u64, usize)>
+    ensures { result ≡ first_number (λ field. decimal_of (48 ∷ field)) at (parted b (drop at s.now)) }
+{
+    if s.len() <= at {
+        return None;
+    }
+    if s[at] == b {
+        return Some((0, at));
+    }
+    None
+}
+
+// How many names a line's fields are, as decimals that ascend strictly, if they are. Reads them all; those for which `names` has room are
+// kept at its end, the last in front of the others.
+pub fn read_names(line: &[u8], names: &mut [u64]) -> Option<usize>
+    ensures { NamesRead (ascending 0 (fields_of line.now)) result names.new }
+{
+    let mut from = 0;
+    let mut least: u64 = 0;
+    let mut count = 0;
+    while from < line.len() {
+        let end = scan(line, from, TAB);
+        let name = read_decimal(&line[from..end])?;
+        if name < least {
+            return None;
+        }
+        if count < names.len() {
+            let slot = names.len() - 1 - count;
+            names[slot] = name;
+        }
+        count += 1;
+        if end == line.len() {
+            return Some(count);
+        }
+        least = name + 1;
+        from = end + 1;
+    }
+    None
 }

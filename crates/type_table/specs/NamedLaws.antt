@@ -10,8 +10,7 @@ use Rattle.rules.proofs.TypeLaws.{Ascends, attribute_past, attributes_first}
 use Rattle.rules.proofs.WalkLaws.{take-map}
 use Rattle.schema.specs.Items.{item_in, items_of}
 use Rattle.words.specs.Keys.{searched, later}
-use Rattle.words.specs.declared.Search.{Search}
-use Rattle.words.specs.declared.Search.TheVariants.{Found, Missing}
+use Rattle.std.specs.Prelude.{Result, Ok, Err}
 use Rattle.rows.specs.Words.{number_for}
 use Rattle.type_table.specs.Tables.{value_at, value_named}
 
@@ -38,14 +37,14 @@ module _ (words : List ℕ) (first : ℕ) {end : ℕ} (ends : end ≡ first + le
 
 found_attribute :
     (words : List ℕ) (key place : ℕ)
-    → searched words key ≡ Found place
+    → searched words key ≡ Ok place
     → (place < length words) × (attribute_type key (items_of words) ≡ some (get_or words place 0 / 16 % 2 ^ 36))
 unfolding searched attribute_type
 found_attribute [] key place e = let z : ◌≡◌ {A = ℕ} 0 1 = cc in absurd (omega arith)
 found_attribute (w ∷ words) key place e =
     by_test (eqb (w / 2 ^ 40) key)
     (λ here.
-    let first : Found 0 ≡ Found place = rw here at e in
+    let first : Ok 0 ≡ Ok place = rw here at e in
     let zero_place : 0 ≡ place = cc in
     rw (← zero_place, here) (omega arith, refl))
     (λ other.
@@ -54,21 +53,21 @@ found_attribute (w ∷ words) key place e =
     (λ low. rw other (go (λ p. found_attribute words key p) (searched words key) refl (rw (other, low) at e))))
   where
     go :
-        ((p : ℕ) → searched words key ≡ Found p → (p < length words) × (attribute_type key (items_of words) ≡ some (get_or words p 0 / 16 % 2 ^ 36)))
-        → (s : Search)
+        ((p : ℕ) → searched words key ≡ Ok p → (p < length words) × (attribute_type key (items_of words) ≡ some (get_or words p 0 / 16 % 2 ^ 36)))
+        → (s : Result ℕ ℕ)
         → searched words key ≡ s
-        → later s ≡ Found place
+        → later s ≡ Ok place
         → (place < suc (length words)) × (attribute_type key (items_of words) ≡ some (get_or (w ∷ words) place 0 / 16 % 2 ^ 36))
-    go again (Found p) found e =
+    go again (Ok p) found e =
         let next : suc p ≡ place = cc in
         let (inside, type) = again p found in
         rw (← next) (omega arith, type)
-    go again (Missing p) found e = let z : ◌≡◌ {A = ℕ} 0 1 = cc in absurd (omega arith)
+    go again (Err p) found e = let z : ◌≡◌ {A = ℕ} 0 1 = cc in absurd (omega arith)
 
 missing_attribute :
     (words : List ℕ) (key place least : ℕ)
     → Ascends least (items_of words)
-    → searched words key ≡ Missing place
+    → searched words key ≡ Err place
     → attribute_type key (items_of words) ≡ none
 unfolding searched attribute_type Ascends
 missing_attribute [] key place least ascends e = refl
@@ -83,29 +82,29 @@ missing_attribute (w ∷ words) key place least ascends e =
     (go (λ p. missing_attribute words key p (w / 2 ^ 40 + 1) ascends.1) (searched words key) refl (rw (other, low) at e))))
   where
     go :
-        ((p : ℕ) → searched words key ≡ Missing p → attribute_type key (items_of words) ≡ none)
-        → (s : Search)
+        ((p : ℕ) → searched words key ≡ Err p → attribute_type key (items_of words) ≡ none)
+        → (s : Result ℕ ℕ)
         → searched words key ≡ s
-        → later s ≡ Missing place
+        → later s ≡ Err place
         → attribute_type key (items_of words) ≡ none
-    go again (Found p) found e = let z : ◌≡◌ {A = ℕ} 0 1 = cc in absurd (omega arith)
-    go again (Missing p) found e = again p found
+    go again (Ok p) found e = let z : ◌≡◌ {A = ℕ} 0 1 = cc in absurd (omega arith)
+    go again (Err p) found e = again p found
 
 module _ (run : List ℕ) (key : ℕ) where
   -- a key that the run has, and its type
-  pub key_inside : (place : ℕ) → searched run key ≡ Found place → place < length run
+  pub key_inside : (place : ℕ) → searched run key ≡ Ok place → place < length run
   key_inside place found = (found_attribute run key place found).0
 
-  pub type_found : (place : ℕ) → searched run key ≡ Found place → get_or run place 0 / 16 % 2 ^ 36 + 1 ≡ number_for (value_named run key)
+  pub type_found : (place : ℕ) → searched run key ≡ Ok place → get_or run place 0 / 16 % 2 ^ 36 + 1 ≡ number_for (value_named run key)
   type_found place found = rw found (omega arith)
 
-  pub type_missing : (place : ℕ) → searched run key ≡ Missing place → 0 ≡ number_for (value_named run key)
+  pub type_missing : (place : ℕ) → searched run key ≡ Err place → 0 ≡ number_for (value_named run key)
   type_missing place missing = rw missing
 
   -- attributes that ascend give a field its type so
   pub named_attribute : Ascends 0 (items_of run) → value_named run key ≡ attribute_type key (items_of run)
   named_attribute ascends = go (searched run key) refl
     where
-      go : (s : Search) → searched run key ≡ s → value_at run s ≡ attribute_type key (items_of run)
-      go (Found place) e = sym (found_attribute run key place e).1
-      go (Missing place) e = sym (missing_attribute run key place 0 ascends e)
+      go : (s : Result ℕ ℕ) → searched run key ≡ s → value_at run s ≡ attribute_type key (items_of run)
+      go (Ok place) e = sym (found_attribute run key place e).1
+      go (Err place) e = sym (missing_attribute run key place 0 ascends e)

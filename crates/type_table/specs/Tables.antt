@@ -8,8 +8,7 @@ use Rattle.rules.proofs.TypeLaws.{types_in, deepest}
 use Rattle.rules.specs.Facts.{capped}
 use Rattle.schema.specs.Items.{item_in, items_of, good_items}
 use Rattle.words.specs.Keys.{searched}
-use Rattle.words.specs.declared.Search.{Search}
-use Rattle.words.specs.declared.Search.TheVariants.{Found, Missing}
+use Rattle.std.specs.Prelude.{Result, Ok, Err}
 use Rattle.type_table.specs.declared.TypeSize.{TypeSize}
 
 -- the nodes below a node of a type
@@ -55,9 +54,9 @@ unfoldable pub attribute_at : List ℕ → ℕ → Bool
 attribute_at words at = cond (ltb at (length words)) (eqb (get_or words at 0 % 16) attribute_line) false
 
 -- the type that a run of lines gives a key, if it has a line of that key
-abbrev pub value_at : List ℕ → Search → Option ℕ
-value_at run (Found place) = some (item_in (get_or run place 0)).value
-value_at run (Missing place) = none
+abbrev pub value_at : List ℕ → Result ℕ ℕ → Option ℕ
+value_at run (Ok place) = some (item_in (get_or run place 0)).value
+value_at run (Err place) = none
 
 abbrev pub value_named : List ℕ → ℕ → Option ℕ
 value_named run key = value_at run (searched run key)

@@ -12,7 +12,7 @@ ghost use Rattle.type_table.specs.Tables.{size_word, type_place, type_depth, typ
 
 use rows::{Kind, Row};
 use schema::Item;
-use words::{Search, at_most, larger};
+use words::{at_most, larger, search_key};
 
 // A type's place among the schema's words, and the depth and nodes of its trie, both stopping one past their limit.
 #[derive(Drop)]
@@ -79,7 +79,7 @@ pub fn attributes_end(words: &[u64], first: usize) -> usize
 pub fn type_named(run: &[u64], key: u64) -> u64
     ensures { result ≡ number_for (value_named run.now key) }
 {
-    let Search::Found(place) = Search::of(run, key) else {
+    let Ok(place) = search_key(run, key) else {
         return 0;
     };
     Item::of(run[place]).value + 1

@@ -4,21 +4,20 @@ use Rattle.std.proofs.Common.{add-zero, add-one, arith, ap, ◌∙◌, drop_of_l
 use Rattle.std.proofs.Math.Path.{sym}
 use borrow.Author.Tests.{eq-eqb, ne_eqb, lt-ltb, le-ltb}
 use Rattle.words.specs.Keys.{key_in, later, searched}
-use Rattle.words.specs.declared.Search.{Search}
-use Rattle.words.specs.declared.Search.TheVariants.{Found, Missing}
+use Rattle.std.specs.Prelude.{Result, Ok, Err}
 
 -- what is answered so many words later
-abbrev moved : ℕ → Search → Search
-moved i (Found place) = Found (i + place)
-moved i (Missing place) = Missing (i + place)
+abbrev moved : ℕ → Result ℕ ℕ → Result ℕ ℕ
+moved i (Ok place) = Ok (i + place)
+moved i (Err place) = Err (i + place)
 
-moved_none : (r : Search) → moved 0 r ≡ r
-moved_none (Found place) = ap {B = Search} Found (omega arith)
-moved_none (Missing place) = ap {B = Search} Missing (omega arith)
+moved_none : (r : Result ℕ ℕ) → moved 0 r ≡ r
+moved_none (Ok place) = ap {B = Result ℕ ℕ} Ok (omega arith)
+moved_none (Err place) = ap {B = Result ℕ ℕ} Err (omega arith)
 
-moved_later : (i : ℕ) (r : Search) → moved i (later r) ≡ moved (i + 1) r
-moved_later i (Found place) = ap {B = Search} Found (omega arith)
-moved_later i (Missing place) = ap {B = Search} Missing (omega arith)
+moved_later : (i : ℕ) (r : Result ℕ ℕ) → moved i (later r) ≡ moved (i + 1) r
+moved_later i (Ok place) = ap {B = Result ℕ ℕ} Ok (omega arith)
+moved_later i (Err place) = ap {B = Result ℕ ℕ} Err (omega arith)
 
 -- i words are passed, and the others say what is answered
 pub record KeySought (words : List ℕ) (key i : ℕ) : Type 0 where
@@ -30,7 +29,7 @@ sought_none words key = record { inside = omega arith; left = sym (moved_none _)
 
 module _ {words : List ℕ} {key i : ℕ} (sought : KeySought words key i) where
   -- no word is left
-  pub sought_all : length words ≤ i → Missing i ≡ searched words key
+  pub sought_all : length words ≤ i → Err i ≡ searched words key
   unfolding searched
   sought_all h = sym (sought.left ∙ rw (drop_of_length-le words h, add-zero))
 
@@ -39,13 +38,13 @@ module _ {words : List ℕ} {key i : ℕ} (sought : KeySought words key i) where
     words_left = rw (add-one, drop-cons words i 0)
 
     -- the next word has the key
-    pub sought_found : key_in (get_or words i 0) ≡ key → Found i ≡ searched words key
+    pub sought_found : key_in (get_or words i 0) ≡ key → Ok i ≡ searched words key
     unfolding searched
     sought_found e = sym (sought.left ∙ rw (words_left, eq-eqb (key_in (get_or words i 0)) key e, add-zero))
 
     module _ (other : key_in (get_or words i 0) ≢ key) where
       -- the next word has a greater key
-      pub sought_missing : key < key_in (get_or words i 0) → Missing i ≡ searched words key
+      pub sought_missing : key < key_in (get_or words i 0) → Err i ≡ searched words key
       unfolding searched
       sought_missing h = sym (sought.left ∙ rw (words_left, ne_eqb (key_in (get_or words i 0)) key other, lt-ltb key (key_in (get_or words i 0)) h, add-zero))
 

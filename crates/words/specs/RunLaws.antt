@@ -1,8 +1,10 @@
 -- Laws of writing runs (Runs), of words with their count in front, and of copying them. No contract cites this file.
-use Rattle.std.specs.Prelude.{ℕ, suc, ◌+◌, ◌≤◌, ◌<◌, List, [], ◌∷◌, ◌++◌, ◌≡◌, refl, length, get_or, take, drop, set}
-use Rattle.std.proofs.Common.{add-zero, add-suc, suc-add, add_comm, add-one, arith, sym, ap, ◌∙◌, length-drop, length-append, get_or-take, get_or-set_same, take-suc-set, length-take-le}
+use Rattle.std.specs.Prelude.{ℕ, suc, ◌+◌, ◌-◌, ◌≤◌, ◌<◌, List, [], ◌∷◌, ◌++◌, ◌≡◌, refl, length, get_or, take, drop, set}
+use Rattle.std.proofs.Common.{append_assoc, add-zero, add-suc, suc-add, add_comm, add-one, arith, sym, ap, ◌∙◌, length-drop, length-append, get_or-take, get_or-set_same, take-suc-set, length-take-le}
 use Rattle.std.proofs.lemmas.List.Edits.{sets, sets-eq}
-use Rattle.std.proofs.Math.Seq.{length-sets, take-append_seam, take-length}
+use Rattle.std.proofs.Math.Seq.{length-sets, take-append_seam, take-length, drop-drop}
+use borrow.Rule.Slice.PartMut.{put_mid}
+use native.Mathlib.Nat.{add-sub_cancel_left}
 use Rattle.std.proofs.lemmas.List.{drop-set-add}
 use Rattle.words.specs.Runs.{Wrote, stored, Outcome}
 use Rattle.words.specs.SeqLaws.{copied_next}
@@ -47,6 +49,20 @@ wrote_same e w = rw e at w
 -- what was stored from the start on is what stands there
 pub taken_back : (l xs : List ℕ) → length xs ≤ length l → take (length xs) (sets l 0 xs) ≡ xs
 taken_back l xs h = rw (sets-eq xs l 0 (omega arith)) (take-append_seam xs (drop (0 + length xs) l))
+
+-- ---- a copy into a part of a buffer
+
+-- where items were copied to a part of a buffer that is as long, they are written there
+pub copied_part :
+    {A : Type 0} (out items copy : List A) (to : ℕ)
+    → to + length items ≤ length out
+    → copy ≡ items
+    → Wrote out to items (put_mid to (to + length items - to) out copy) (to + length items)
+copied_part out items copy to room same = record {
+  after = refl;
+  text =
+      rw (same, add-sub_cancel_left, drop-drop (length items) to out) (sym (sets-eq items out to room ∙ append_assoc (take to out) items _));
+}
 
 -- ---- a copy, word by word
 

@@ -5,7 +5,7 @@ use Rattle.words.specs.declared.Reply.{Reply}
 use Rattle.words.specs.declared.Reply.TheVariants.{Refused}
 
 -- the words or bytes xs were written from the place `at` on, and at' is the place after them
-pub record Wrote (out : List ℕ) (at : ℕ) (xs out' : List ℕ) (at' : ℕ) : Type 0 where
+pub record Wrote {A : Type 0} (out : List A) (at : ℕ) (xs out' : List A) (at' : ℕ) : Type 0 where
   pub after : at' ≡ at + length xs
   pub text : out' ≡ sets out at xs
 

@@ -14,13 +14,6 @@ pub enum Reply {
     Refused(u64, u64),
 }
 
-// What a search answers: the place of the key, or the place where it would stand.
-#[derive(Drop)]
-pub enum Search {
-    Found(usize),
-    Missing(usize),
-}
-
 // The smaller of two numbers, the second a limit.
 pub fn at_most(n: u64, most: u64) -> u64
     ensures { result ≡ capped most n }
@@ -36,16 +29,13 @@ pub fn larger(a: u64, b: u64) -> u64
 }
 
 // Copies words to a place, and answers the place after them.
-pub fn copy_words(words: &[u64], out: &mut [u64], to: usize) -> usize
+pub fn copy_words<T: Copy>(words: &[T], out: &mut [T], to: usize) -> usize
     requires { to + length words.now ≤ length out.old }
     ensures { Wrote out.old to words.now out.new result }
 {
-    let mut i = 0;
-    while i < words.len() {
-        out[to + i] = words[i];
-        i += 1;
-    }
-    to + i
+    let end = to + words.len();
+    out[to..end].copy_from_slice(words);
+    end
 }
 
 // A word of 16 bits as a number.
@@ -53,19 +43,6 @@ pub fn wide(word: u16) -> u64
     ensures { (result ≡ word) × (result < 65536) }
 {
     word as u64
-}
-
-// Copies words of 16 bits to a place, and answers the place after them.
-pub fn copy_short_words(words: &[u16], out: &mut [u16], to: usize) -> usize
-    requires { to + length words.now ≤ length out.old }
-    ensures { Wrote out.old to words.now out.new result }
-{
-    let mut i = 0;
-    while i < words.len() {
-        out[to + i] = words[i];
-        i += 1;
-    }
-    to + i
 }
 
 // Copies a state: its count, and as many rows behind it. What follows them stays.
@@ -84,22 +61,19 @@ pub fn key_of(word: u64) -> u64
     word / 0x100_0000_0000
 }
 
-impl Search {
-    // The place of a key in a run of words that ascend strictly by their keys: that of the first word whose key is not less.
-    pub fn of(words: &[u64], key: u64) -> Search
-        ensures { result ≡ searched words.now key }
-    {
-        let mut i = 0;
-        while i < words.len() {
-            let there = key_of(words[i]);
-            if there == key {
-                return Search::Found(i);
-            }
-            if key < there {
-                return Search::Missing(i);
-            }
-            i += 1;
+// The place of a key in a run of words that ascend strictly by their keys: `Ok` with the place of the first word whose key is not less
+// where that is the key, `Err` with it otherwise.
+pub fn search_key(words: &[u64], key: u64) -> Result<usize, usize>
+    ensures { result ≡ searched words.now key }
+{
+    for i in 0..words.len() {
+        let there = key_of(words[i]);
+        if there == key {
+            return Ok(i);
         }
-        Search::Missing(i)
+        if key < there {
+            return Err(i);
+        }
     }
+    Err(words.len())
 }

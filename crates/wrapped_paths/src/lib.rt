@@ -6,7 +6,7 @@ ghost use Rattle.std.specs.Prelude.{◌≡◌, [], ◌∷◌, ◌+◌, ◌^◌, 
 ghost use Rattle.wrapped_paths.specs.Code.{head_of, head_word, root_in, size_of, wraps_of, name_place, steps_at, Standing, Measures, ResultStands, FoundAt, ExtendedAt};
 ghost use Rattle.wrapped_paths.specs.Turns.{places_for, Noted, sides_of, TurnTook, Gained, Literal, FieldTaken, TurnRoom, Growing, Turned};
 
-use words::{copy_short_words, wide};
+use words::{copy_words, wide};
 
 // What a head says: a path has a root of some kind and the ids of so many steps behind it, a record so many names and then as many fields.
 #[derive(Clone, Copy)]
@@ -228,14 +228,14 @@ fn take_field(
     if place == fields {
         return Moved {
             from: end,
-            to: copy_short_words(&code[at..end], out, to),
+            to: copy_words(&code[at..end], out, to),
         };
     }
     let field = measure(code, first, place).end;
     let field_end = measure(code, field, 1).end;
     Moved {
         from: end,
-        to: copy_short_words(&code[field..field_end], out, to),
+        to: copy_words(&code[field..field_end], out, to),
     }
 }
 
@@ -255,7 +255,7 @@ fn grow_path(
     let first = at + 1;
     let end = first + steps;
     out[to] = WrappedAccessPaths::AccessPath(kind, steps + 1).word();
-    let last = copy_short_words(&code[first..end], out, to + 1);
+    let last = copy_words(&code[first..end], out, to + 1);
     out[last] = name;
     Moved {
         from: end,

@@ -4,4 +4,4 @@ use Rattle.result_stack.proofs.put_before.Goals as goal
 
 pub returns : goal.returns
 returns c =
-    placed c.args.words.now c.args.out.now c.args.end c.requires.0 c.requires.1 c.copy_short_words.ensures
+    placed c.args.words.now c.args.out.now c.args.end c.requires.0 c.requires.1 c.copy_words.ensures

@@ -7,6 +7,3 @@ use Rattle.text.proofs.scan.Given as goal
 abbrev pub invariant-loop-i : goal.invariant-loop-i
 invariant-loop-i l =
     (l.i ≤ length l.s) × (l.at + length (before l.b (drop l.at l.s)) ≡ l.i + length (before l.b (drop l.i l.s)))
-
-abbrev pub decreases-loop-i : goal.decreases-loop-i
-decreases-loop-i l = length l.s - l.i

@@ -5,13 +5,13 @@ use mathlib.Core.Path.{◌≡◌, sym, ap, ◌∙◌}
 use lib.ListN.{length, get_or}
 use Rattle.rules.specs.Schema.{Item}
 use Rattle.words.specs.Keys.{searched}
-use Rattle.words.specs.declared.Search.TheVariants.{Found}
+use Rattle.std.specs.Prelude.{Result, Ok}
 use Rattle.type_table.specs.NamedLaws.{key_inside, type_found, type_missing}
 use Rattle.type_table.proofs.type_named.Goals as goal
 use Rattle.type_table.proofs.type_named.Goals.{After-of-2, In-Found}
 
 -- the place that was found
-found : (c : In-Found) → searched c.args.run.now c.args.key ≡ Found c.in-Found.place
+found : (c : In-Found) → searched c.args.run.now c.args.key ≡ Ok c.in-Found.place
 found c = sym c.of.ensures ∙ c.in-Found.is
 
 inside : (c : In-Found) → c.in-Found.place < length c.args.run.now

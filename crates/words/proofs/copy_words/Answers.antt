@@ -1,28 +1,6 @@
--- `words::copy_words` meets its contract: the first i words are copied.
-use native.Mathlib.Omega.{arith}
-use Rattle.words.specs.RunLaws.{copying_first, copying_length, copying_next, copying_all}
+-- `words::copy_words` meets its contract: the part of the buffer is what was copied there.
+use Rattle.words.specs.RunLaws.{copied_part}
 use Rattle.words.proofs.copy_words.Goals as goal
 
-pub loop-i-init : goal.loop-i-init
-loop-i-init c = copying_first _ _ _
-
-pub overflow_add-out : goal.overflow_add-out
-overflow_add-out c = omega (arith, copying_length c.loop-i.invariant, c.requires)
-
-pub offset_bounds-out-to : goal.offset_bounds-out-to
-offset_bounds-out-to c = omega (arith, copying_length c.loop-i.invariant, c.requires)
-
-pub bounds-out-to : goal.bounds-out-to
-bounds-out-to c = omega (arith, copying_length c.loop-i.invariant, c.requires)
-
-pub loop-i-preserved : goal.loop-i-preserved
-loop-i-preserved c = copying_next c.loop-i.invariant c.loop-i-test.true
-
-pub overflow_add-result : goal.overflow_add-result
-overflow_add-result c = omega (arith, c.loop-i.invariant.so_many, c.requires)
-
-pub shape_of-out : goal.shape_of-out
-shape_of-out c = copying_length c.loop-i.invariant
-
 pub returns : goal.returns
-returns c = copying_all c.loop-i.invariant c.loop-i-test.false
+returns g c = copied_part _ _ _ _ c.requires c.copy_from_slice.ensures.after

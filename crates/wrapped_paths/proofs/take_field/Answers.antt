@@ -37,23 +37,23 @@ slice_bounds-name_place-end c = omega (arith, within (goal.at.slice_bounds-name_
 pub offset_bounds-code-at : goal.offset_bounds-code-at
 offset_bounds-code-at c = omega (arith, within (goal.at.offset_bounds-code-at c).Start)
 
-pub slice_bounds-copy_short_words-count : goal.slice_bounds-copy_short_words-count
-slice_bounds-copy_short_words-count c = omega (arith, literal_end (literal (goal.at.slice_bounds-copy_short_words-count c).Start) c.measure-end.ensures)
+pub slice_bounds-copy_words-count : goal.slice_bounds-copy_words-count
+slice_bounds-copy_words-count c = omega (arith, literal_end (literal (goal.at.slice_bounds-copy_words-count c).Start) c.measure-end.ensures)
 
-pub slice_bounds-copy_short_words-start : goal.slice_bounds-copy_short_words-start
-slice_bounds-copy_short_words-start c = omega (arith, literal_end (literal (goal.at.slice_bounds-copy_short_words-start c).Start) c.measure-end.ensures)
+pub slice_bounds-copy_words-start : goal.slice_bounds-copy_words-start
+slice_bounds-copy_words-start c = omega (arith, literal_end (literal (goal.at.slice_bounds-copy_words-start c).Start) c.measure-end.ensures)
 
-pub slice_bounds-copy_short_words-end : goal.slice_bounds-copy_short_words-end
-slice_bounds-copy_short_words-end c = omega (arith, literal_end (literal (goal.at.slice_bounds-copy_short_words-end c).Start) c.measure-end.ensures, literal_within (literal (goal.at.slice_bounds-copy_short_words-end c).Start))
+pub slice_bounds-copy_words-end : goal.slice_bounds-copy_words-end
+slice_bounds-copy_words-end c = omega (arith, literal_end (literal (goal.at.slice_bounds-copy_words-end c).Start) c.measure-end.ensures, literal_within (literal (goal.at.slice_bounds-copy_words-end c).Start))
 
-pub copy_short_words-requires : goal.copy_short_words-requires
-copy_short_words-requires c = rw (literal_copy (literal (goal.at.copy_short_words-requires c).Start) c.measure-end.ensures c.args.name c.name_place-place.ensures c.if-place-fields.true) c.requires.room
+pub copy_words-requires : goal.copy_words-requires
+copy_words-requires c = rw (literal_copy (literal (goal.at.copy_words-requires c).Start) c.measure-end.ensures c.args.name c.name_place-place.ensures c.if-place-fields.true) c.requires.room
 
 pub shape_of-out-then-place-fields : goal.shape_of-out-then-place-fields
-shape_of-out-then-place-fields c = c.copy_short_words.auto.out
+shape_of-out-then-place-fields c = c.copy_words.auto.out
 
 pub returns-then-place-fields : goal.returns-then-place-fields
-returns-then-place-fields c = λ fields rest many e. let a = c.args in let l : LiteralAt a.code.now rest fields a.at a.fields = record { as_many = many; coded = e } in record { next = literal_end l c.measure-end.ensures; wrote = rw (literal_copy l c.measure-end.ensures c.args.name c.name_place-place.ensures c.if-place-fields.true) at c.copy_short_words.ensures }
+returns-then-place-fields c = λ fields rest many e. let a = c.args in let l : LiteralAt a.code.now rest fields a.at a.fields = record { as_many = many; coded = e } in record { next = literal_end l c.measure-end.ensures; wrote = rw (literal_copy l c.measure-end.ensures c.args.name c.name_place-place.ensures c.if-place-fields.true) at c.copy_words.ensures }
 
 pub measure-field-requires : goal.measure-field-requires
 measure-field-requires c = front_standing (literal (goal.at.measure-field-requires c).Start) c.measure-end.ensures c.args.name c.name_place-place.ensures c.if-place-fields.false
@@ -64,20 +64,20 @@ measure-field_end-requires c = field_standing (literal (goal.at.measure-field_en
 pub offset_bounds-code-field : goal.offset_bounds-code-field
 offset_bounds-code-field c = omega (arith, ends (goal.at.offset_bounds-code-field c).After-measure-field_end (literal (goal.at.offset_bounds-code-field c).Start))
 
-pub slice_bounds-copy_short_words-count-2 : goal.slice_bounds-copy_short_words-count-2
-slice_bounds-copy_short_words-count-2 c = omega (arith, ends (goal.at.slice_bounds-copy_short_words-count-2 c).After-measure-field_end (literal (goal.at.slice_bounds-copy_short_words-count-2 c).Start))
+pub slice_bounds-copy_words-count-2 : goal.slice_bounds-copy_words-count-2
+slice_bounds-copy_words-count-2 c = omega (arith, ends (goal.at.slice_bounds-copy_words-count-2 c).After-measure-field_end (literal (goal.at.slice_bounds-copy_words-count-2 c).Start))
 
-pub slice_bounds-copy_short_words-start-2 : goal.slice_bounds-copy_short_words-start-2
-slice_bounds-copy_short_words-start-2 c = omega (arith, ends (goal.at.slice_bounds-copy_short_words-start-2 c).After-measure-field_end (literal (goal.at.slice_bounds-copy_short_words-start-2 c).Start))
+pub slice_bounds-copy_words-start-2 : goal.slice_bounds-copy_words-start-2
+slice_bounds-copy_words-start-2 c = omega (arith, ends (goal.at.slice_bounds-copy_words-start-2 c).After-measure-field_end (literal (goal.at.slice_bounds-copy_words-start-2 c).Start))
 
-pub slice_bounds-copy_short_words-end-2 : goal.slice_bounds-copy_short_words-end-2
-slice_bounds-copy_short_words-end-2 c = omega (arith, ends (goal.at.slice_bounds-copy_short_words-end-2 c).After-measure-field_end (literal (goal.at.slice_bounds-copy_short_words-end-2 c).Start))
+pub slice_bounds-copy_words-end-2 : goal.slice_bounds-copy_words-end-2
+slice_bounds-copy_words-end-2 c = omega (arith, ends (goal.at.slice_bounds-copy_words-end-2 c).After-measure-field_end (literal (goal.at.slice_bounds-copy_words-end-2 c).Start))
 
-pub copy_short_words-requires-2 : goal.copy_short_words-requires-2
-copy_short_words-requires-2 c = rw (field_copy (literal (goal.at.copy_short_words-requires-2 c).Start) c.measure-end.ensures c.args.name c.name_place-place.ensures c.if-place-fields.false c.measure-field.ensures c.measure-field_end.ensures) c.requires.room
+pub copy_words-requires-2 : goal.copy_words-requires-2
+copy_words-requires-2 c = rw (field_copy (literal (goal.at.copy_words-requires-2 c).Start) c.measure-end.ensures c.args.name c.name_place-place.ensures c.if-place-fields.false c.measure-field.ensures c.measure-field_end.ensures) c.requires.room
 
 pub shape_of-out : goal.shape_of-out
-shape_of-out c = c.copy_short_words-2.auto.out
+shape_of-out c = c.copy_words-2.auto.out
 
 pub returns : goal.returns
-returns c = λ fields rest many e. let a = c.args in let l : LiteralAt a.code.now rest fields a.at a.fields = record { as_many = many; coded = e } in record { next = literal_end l c.measure-end.ensures; wrote = rw (field_copy l c.measure-end.ensures c.args.name c.name_place-place.ensures c.if-place-fields.false c.measure-field.ensures c.measure-field_end.ensures) at c.copy_short_words-2.ensures }
+returns c = λ fields rest many e. let a = c.args in let l : LiteralAt a.code.now rest fields a.at a.fields = record { as_many = many; coded = e } in record { next = literal_end l c.measure-end.ensures; wrote = rw (field_copy l c.measure-end.ensures c.args.name c.name_place-place.ensures c.if-place-fields.false c.measure-field.ensures c.measure-field_end.ensures) at c.copy_words-2.ensures }

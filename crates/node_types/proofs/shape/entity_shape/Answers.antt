@@ -1,7 +1,7 @@
 -- `node_types::shape::entity_shape` meets its contract: what the search finds is the line of the name, with its attributes behind it.
 use native.Mathlib.Omega.{arith}
 use mathlib.Core.Path.{sym, ◌∙◌}
-use Rattle.words.specs.declared.Search.TheVariants.{Found, Missing}
+use Rattle.std.specs.Prelude.{Result, Ok, Err}
 use Rattle.node_types.specs.Named.{EntityFound}
 use Rattle.node_types.specs.ShapeLaws.{entity_unknown, entity_known}
 use Rattle.node_types.proofs.shape.entity_shape.Goals as goal
@@ -10,13 +10,13 @@ use Rattle.node_types.proofs.shape.entity_shape.Goals.{In-Found, In_default}
 -- what the search says of the schema's lines
 found :
     (c : In-Found) →
-    EntityFound c.args.words.now c.args.entities.now c.args.name (Found c.in-Found.i)
+    EntityFound c.args.words.now c.args.entities.now c.args.name (Ok c.in-Found.i)
 found c =
     rw (sym c.of.ensures ∙ c.in-Found.is) at (c.requires.1 c.args.name)
 
 missing :
     (c : In_default) →
-    EntityFound c.args.words.now c.args.entities.now c.args.name (Missing c.in_default.field-0)
+    EntityFound c.args.words.now c.args.entities.now c.args.name (Err c.in_default.field-0)
 missing c =
     rw (sym c.of.ensures ∙ c.in_default.is) at (c.requires.1 c.args.name)
 

@@ -1,9 +1,9 @@
--- `text::Decimal::write` meets its contract: the call writes the decimal of its tenth.
+-- `text::write_decimal` meets its contract: the call writes the decimal of its tenth.
 use Rattle.std.proofs.Common.{ℕ, ◌+◌, ◌≤◌, ◌^◌, ◌/◌, ◌%◌, ◌<◌, ◌≡◌, ap, ◌∙◌, arith, [], ◌∷◌, ◌++◌, length, length-append}
 use Rattle.rules.specs.Text.{decimal}
 use Rattle.rules.proofs.TextLaws.{decimal_in_digit, decimal_in_tenth}
 use Rattle.words.specs.SeqLaws.{sets_snoc}
-use Rattle.text.proofs.Decimal.+write.Goals as goal
+use Rattle.text.proofs.+write_decimal.Goals as goal
 
 -- below 10 the decimal is the digit that is written
 digit : (n : ℕ) → n < 10 → decimal n ≡ (48 + n) ∷ []
@@ -25,8 +25,8 @@ returns-then-n-lt10 t c =
     let one = digit c.args.n c.if-n-lt10.true in
     (omega (arith, ap length one), rw one)
 
-pub write-next-requires : goal.write-next-requires
-write-next-requires t c = (omega arith, omega (arith, tenth_length c.args.n c.if-n-lt10.false (omega arith)))
+pub write_decimal-next-requires : goal.write_decimal-next-requires
+write_decimal-next-requires t c = (omega arith, omega (arith, tenth_length c.args.n c.if-n-lt10.false (omega arith)))
 
 pub bounds-out-next : goal.bounds-out-next
 bounds-out-next t c = omega (arith, tenth_length c.args.n c.if-n-lt10.false (omega arith))
@@ -37,5 +37,5 @@ overflow_add-result-2 t c = omega (arith, tenth_length c.args.n c.if-n-lt10.fals
 pub returns : goal.returns
 returns t c = (
   omega (arith, tenth_length c.args.n c.if-n-lt10.false (omega arith)),
-  rw (tenth c.args.n c.if-n-lt10.false (omega arith), sets_snoc, c.write-next.ensures.1, c.write-next.ensures.0),
+  rw (tenth c.args.n c.if-n-lt10.false (omega arith), sets_snoc, c.write_decimal-next.ensures.1, c.write_decimal-next.ensures.0),
 )

@@ -1,13 +1,14 @@
--- `text::Number::digits` meets its contract. The loop's invariant: the bytes from `at` on come to what those from `i` on come to after `value`.
+-- `text::digits` meets its contract. The loop's invariant: the bytes from `at` on come to what those from `i` on come to after `value`.
 use native.Mathlib.Omega.{arith}
 use borrow.Author.Tests.{ltb-true, ltb-false}
 use mathlib.Core.Logic.{⊎_elim}
-use mathlib.Core.Path.{refl, sym, ◌∙◌}
+use mathlib.Core.Path.{◌≡◌, refl, sym, ◌∙◌}
+use lib.ListN.{length}
 use Rattle.text.proofs.Laws.{to_past, to_found, to_bad, to_more}
-use Rattle.text.proofs.Number.digits.Goals as goal
+use Rattle.text.proofs.digits.Goals as goal
 
 pub loop-i-init : goal.loop-i-init
-loop-i-init c = (c.requires, refl)
+loop-i-init c = (c.requires.0, refl)
 
 pub returns-then-digit-b : goal.returns-then-digit-b
 returns-then-digit-b c = sym (c.loop-i.invariant.1 ∙ to_found _ _ _ _ c.loop-i-test.true c.if-digit-b.true)
@@ -39,4 +40,6 @@ loop-i-preserved c = (
 )
 
 pub returns : goal.returns
-returns c = sym (c.loop-i.invariant.1 ∙ to_past _ _ _ _ c.loop-i-test.false)
+returns c =
+    let end : c.loop-i.i ≡ length c.args.s.now = omega arith in
+    sym (c.loop-i.invariant.1 ∙ to_past _ _ _ _ c.loop-i-test.false ∙ rw end)

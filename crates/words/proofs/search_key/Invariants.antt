@@ -1,10 +1,7 @@
 use Prim.Native.Nat.{◌-◌}
 use Rattle.words.specs.KeyLaws.{KeySought}
 use lib.ListN.{length}
-use Rattle.words.proofs.Search.of.Given as goal
+use Rattle.words.proofs.search_key.Given as goal
 
 abbrev pub invariant-loop-i : goal.invariant-loop-i
 invariant-loop-i l = KeySought l.words l.key l.i
-
-abbrev pub decreases-loop-i : goal.decreases-loop-i
-decreases-loop-i l = length l.words - l.i

@@ -1,11 +1,11 @@
--- `words::Search::of` meets its contract: the words that are passed have lower keys.
+-- `words::search_key` meets its contract: the words that are passed have lower keys.
 use native.Mathlib.Omega.{arith}
 use mathlib.Core.Path.{◌≡◌, sym, ◌∙◌}
 use Rattle.words.specs.KeyLaws.{sought_none, sought_all, sought_found, sought_missing, sought_next}
-use lib.ListN.{get_or}
+use lib.ListN.{length, get_or}
 use Rattle.words.specs.Keys.{key_in}
-use Rattle.words.proofs.Search.of.Goals as goal
-use Rattle.words.proofs.Search.of.Goals.{After-key_of-there}
+use Rattle.words.proofs.search_key.Goals as goal
+use Rattle.words.proofs.search_key.Goals.{After-key_of-there}
 
 pub loop-i-init : goal.loop-i-init
 loop-i-init c = sought_none c.args.words.now c.args.key
@@ -29,4 +29,6 @@ loop-i-preserved c =
     sought_next c.loop-i.invariant c.loop-i-test.true (λ e. c.if-there-key.false (there (goal.at.loop-i-preserved c).After-key_of-there ∙ e)) (omega (arith, there (goal.at.loop-i-preserved c).After-key_of-there))
 
 pub returns : goal.returns
-returns c = sought_all c.loop-i.invariant c.loop-i-test.false
+returns c =
+    let end : c.loop-i.i ≡ length c.args.words.now = omega arith in
+    rw end at (sought_all c.loop-i.invariant c.loop-i-test.false)

@@ -1,11 +1,11 @@
--- `text::Number::zero` meets its contract: behind a 0 a field ends, or it is no decimal.
+-- `text::zero` meets its contract: behind a 0 a field ends, or it is no decimal.
 use mathlib.Core.List.{◌∷◌}
 use mathlib.Core.Path.{refl, sym}
 use native.Mathlib.Omega.{arith}
 use Rattle.rules.specs.Text.{decimal_up_to, decimal_of, number_from}
 use Rattle.rules.proofs.TextLaws.{decimal_up_to_zero}
 use Rattle.text.proofs.Laws.{number_past, number_found, number_bad}
-use Rattle.text.proofs.Number.zero.Goals as goal
+use Rattle.text.proofs.zero.Goals as goal
 
 pub returns-then-s-at : goal.returns-then-s-at
 returns-then-s-at c = let a = c.args in sym (number_past (λ field. decimal_of (48 ∷ field)) a.b a.at a.s.now c.if-s-at.true)

@@ -2,10 +2,7 @@ use Prim.Native.Nat.{◌-◌, ◌≤◌}
 use mathlib.Core.Path.{◌≡◌}
 use lib.ListN.{length}
 use Rattle.text.specs.Answers.{number_to}
-use Rattle.text.proofs.Number.digits.Given as goal
+use Rattle.text.proofs.digits.Given as goal
 
 abbrev pub invariant-loop-i : goal.invariant-loop-i
 invariant-loop-i l = (l.value ≤ 65535) × (number_to l.b l.s l.n l.at ≡ number_to l.b l.s l.value l.i)
-
-abbrev pub decreases-loop-i : goal.decreases-loop-i
-decreases-loop-i l = length l.s - l.i
