@@ -3,15 +3,18 @@ use Prim.Native.Nat.{ℕ, ◌+◌, ◌-◌, ◌≤◌, ◌<◌}
 use native.Mathlib.Nat.{sub-zero, add-sub_cancel_left}
 use native.Mathlib.Omega.{arith}
 use mathlib.Core.List.{List, [], ◌∷◌}
-use mathlib.Core.Option.{none, some}
+use mathlib.Core.Option.{Option, none, some}
 use mathlib.Core.Path.{◌≡◌, refl, sym, ap, ◌∙◌}
 use lib.ListN.{length, get_or, take, drop, length-drop}
 use lib.Seq.{take_all}
-use Rattle.rules.specs.Facts.{compared}
+use lib.Dec.{eqb}
+use Rattle.std.specs.List.{position, position_from}
+use Rattle.std.proofs.lemmas.Iterator.Adapters.{position_from-zero}
+use Rattle.rules.specs.Facts.{by_test, compared}
 use Rattle.rules.specs.Text.{fields_of, TAB}
-use Rattle.rules.specs.Listing.{place_in}
+use Rattle.rules.specs.Listing.{◌>>=◌, place_in}
 use Rattle.rules.proofs.ListingLaws.{place_read}
-use Rattle.text.specs.Answers.{field_at, first_field}
+use Rattle.text.specs.Answers.{field_at, first_field, number_of}
 use Rattle.text.specs.Before.{before as earlier}
 use Rattle.std.specs.Prelude.{Option as Maybe, Some, None}
 use Rattle.text.proofs.Laws.{more_within, parted_next, parted_whole, parted_cut, letter_none}
@@ -73,6 +76,25 @@ one_byte (byte ∷ more ∷ field) h = absurd (omega arith)
 -- so its place among letters is that byte's
 pub place_one : (xs field : List ℕ) {byte : ℕ} → length field ≡ 1 → get_or field 0 0 ≡ byte → place_in xs field ≡ place_in xs (byte ∷ [])
 place_one xs field h e = ap (place_in xs) (one_byte field h) ∙ rw e
+
+-- which is that of the first letter that is the byte, counted from a number on
+counted_on : (r : Option ℕ) (i : ℕ) → (r >>= (λ n. some (n + (i + 1)))) ≡ ((r >>= (λ n. some (n + 1))) >>= (λ n. some (n + i)))
+counted_on none i = refl
+counted_on (some n) i = ap {B = Option ℕ} some (omega arith)
+
+place_from : (xs : List ℕ) (byte i : ℕ) → number_of (position_from (λ x. eqb byte x) i xs) ≡ (place_in xs (byte ∷ []) >>= (λ n. some (n + i)))
+unfolding place_in
+place_from [] byte i = refl
+place_from (x ∷ xs) byte i =
+    by_test (eqb byte x) (λ e. rw e (ap {B = Option ℕ} some (omega arith))) (λ e. rw e (place_from xs byte (i + 1) ∙ counted_on (place_in xs (byte ∷ [])) i))
+
+pub place_first : (xs : List ℕ) (byte : ℕ) → number_of (position (λ x. eqb byte x) xs) ≡ place_in xs (byte ∷ [])
+place_first xs byte =
+    ap number_of (position_from-zero (λ x. eqb byte x) xs) ∙ place_from xs byte 0 ∙ counted_none (place_in xs (byte ∷ []))
+  where
+    counted_none : (r : Option ℕ) → (r >>= (λ n. some (n + 0))) ≡ r
+    counted_none none = refl
+    counted_none (some n) = ap {B = Option ℕ} some (omega arith)
 
 -- a place among letters is one of theirs
 pub place_within : (xs field : List ℕ) (n : ℕ) → place_in xs field ≡ some n → n < length xs

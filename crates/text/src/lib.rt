@@ -4,7 +4,7 @@
 ghost use Rattle.std.specs.Prelude.{◌≡◌, ◌+◌, ◌≤◌, ◌<◌, length, drop, ◌∷◌};
 ghost use Rattle.std.proofs.lemmas.List.Edits.{sets};
 ghost use Rattle.rules.specs.Text.{decimal_of, decimal, parted, fields_of};
-ghost use Rattle.rules.specs.Listing.{is_letter};
+ghost use Rattle.rules.specs.Listing.{is_letter, place_in};
 ghost use Rattle.rules.specs.Schema.{ascending};
 ghost use Rattle.text.specs.Answers.{line_at, field_at, number_of, number_to, first_number, number_at, NamesRead};
 ghost use Rattle.text.specs.Before.{before};
@@ -46,6 +46,17 @@ pub fn is_letter(field: &[u8], letter: u8) -> bool
     } else {
         false
     }
+}
+
+// The place of a field's letter among some letters, if the field is one of them.
+pub fn letter_place(letters: &[u8], field: &[u8]) -> Option<usize>
+    ensures { number_of result ≡ place_in letters.now field.now }
+{
+    if field.len() != 1 {
+        return None;
+    }
+    let byte = field[0];
+    letters.iter().position(|letter| byte == *letter)
 }
 
 impl Line {

@@ -2,7 +2,7 @@
 use native.Mathlib.Omega.{arith}
 use mathlib.Core.Path.{ap}
 use Rattle.rules.specs.Text.{TAB}
-use Rattle.std.specs.Prelude.{Option as Maybe, Some, None}
+use Rattle.std.specs.Prelude.{Some}
 use Rattle.text.proofs.Laws.{parted_whole, parted_cut}
 use Rattle.text.proofs.field_end.Goals as goal
 
