@@ -5,7 +5,7 @@ use Rattle.std.proofs.lemmas.List.Edits.{sets}
 use Rattle.rules.specs.Numbers.{refused}
 use Rattle.rules.specs.Schema.{Item}
 use Rattle.rules.specs.Policies.{add_policy}
-use Rattle.words.specs.declared.Reply.TheVariants.{Done, Refused}
+use Rattle.words.specs.Replies.{Done, Refused}
 use Rattle.rows.specs.States.{rows_in}
 use Rattle.rows.specs.LentLaws.{stored_lent, lent_lawful, lent_copied}
 use Rattle.rows.specs.declared.Kind.TheVariants.{Manifest}

@@ -18,7 +18,7 @@ use result_stack::Stack;
 use rows::Kind;
 use step_runs::{Answered, answer_steps};
 use type_table::{TypeSize, fill_table};
-use words::Reply;
+use words::Refusal;
 use wrapped_paths::WrappedAccessPaths;
 
 // What is asked of a text: the contribution of its steps under a request type, or that all its contributions are added.
@@ -47,10 +47,10 @@ fn answer_policy(
     words::copy_rows(manifest, &mut rows);
     match run_policy(words, table, types, text, &mut rows, code, tries, paths) {
         PolicyRan::Full => Answered::Full,
-        PolicyRan::Refused(number, line) => Answered::Reply(Reply::Refused(number, line)),
+        PolicyRan::Refused(number, line) => Answered::Reply(Err(Refusal { number, place: line })),
         PolicyRan::Done => {
             words::copy_rows(&rows, manifest);
-            Answered::Reply(Reply::Done)
+            Answered::Reply(Ok(()))
         }
     }
 }
@@ -107,7 +107,7 @@ fn answer_large(
     types: u64,
     text: &[u8],
     out: &mut [u64],
-) -> Reply
+) -> Result<(), Refusal>
     requires { GoodTypes words.now table.now types × JobLent job out.old }
     ensures { AnswerStored (answer_to (items_of words.now) job text.now out.old) out.old out.new result }
 {
@@ -125,7 +125,7 @@ fn answer_large(
 }
 
 // The answer with a schema's words.
-fn answer(job: Job, words: &[u64], text: &[u8], out: &mut [u64]) -> Reply
+fn answer(job: Job, words: &[u64], text: &[u8], out: &mut [u64]) -> Result<(), Refusal>
     requires words_value { (good_items words.now ≡ true) × (length words.now < 142337) }
     requires job_lent { JobLent job out.old }
     ensures { AnswerStored (answer_to (items_of words.now) job text.now out.old) out.old out.new result }
@@ -142,40 +142,40 @@ fn answer(job: Job, words: &[u64], text: &[u8], out: &mut [u64]) -> Reply
 const LAST_REQUEST: u64 = 0xffff_ffff_ffff;
 
 // The contribution of a step text under a request type; a refusal leaves the output as it was.
-pub fn analyse(schema: &[u64], request: u64, text: &[u8], out: &mut [u64]) -> Reply
+pub fn analyse(schema: &[u64], request: u64, text: &[u8], out: &mut [u64]) -> Result<(), Refusal>
     ensures { (result ≡ (analyse_in schema.now request text.now out.old).reply) × (out.new ≡ (analyse_in schema.now request text.now out.old).buffer) }
 {
     if schema.len() < schema::Schema::WORDS {
-        return Reply::Refused(31, 0);
+        return Err(Refusal::SHORT);
     }
     if out.len() < Kind::Contribution.words() {
-        return Reply::Refused(31, 0);
+        return Err(Refusal::SHORT);
     }
     if !schema::is_lawful(schema) {
-        return Reply::Refused(1, 0);
+        return Err(Refusal::UNLAWFUL);
     }
     if LAST_REQUEST < request {
-        return Reply::Refused(1, 0);
+        return Err(Refusal::UNLAWFUL);
     }
     let end = schema[0] as usize + 1;
     answer(Job::Steps(request), &schema[1..end], text, out)
 }
 
 // Adds all contributions of a policy text to a manifest, in order; a refusal leaves the manifest as it was.
-pub fn add_policy(schema: &[u64], text: &[u8], manifest: &mut [u64]) -> Reply
+pub fn add_policy(schema: &[u64], text: &[u8], manifest: &mut [u64]) -> Result<(), Refusal>
     ensures { (result ≡ (add_policy_in schema.now text.now manifest.old).reply) × (manifest.new ≡ (add_policy_in schema.now text.now manifest.old).buffer) }
 {
     if schema.len() < schema::Schema::WORDS {
-        return Reply::Refused(31, 0);
+        return Err(Refusal::SHORT);
     }
     if manifest.len() < EntityManifest::WORDS {
-        return Reply::Refused(31, 0);
+        return Err(Refusal::SHORT);
     }
     if !schema::is_lawful(schema) {
-        return Reply::Refused(1, 0);
+        return Err(Refusal::UNLAWFUL);
     }
     if !rows::is_lawful(Kind::Manifest, manifest) {
-        return Reply::Refused(1, 0);
+        return Err(Refusal::UNLAWFUL);
     }
     let end = schema[0] as usize + 1;
     answer(Job::Policy, &schema[1..end], text, manifest)

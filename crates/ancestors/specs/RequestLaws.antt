@@ -12,8 +12,7 @@ use Rattle.rules.specs.Loading.{LoadAnswer, done, refused_at, counted, â—Œthenâ—
 use Rattle.words.specs.Runs.{Wrote}
 use Rattle.words.specs.RunLaws.{wrote_more}
 use Rattle.words.specs.SeqLaws.{sets_snoc, set_before}
-use Rattle.words.specs.declared.Reply.{Reply}
-use Rattle.words.specs.declared.Reply.TheVariants.{Done, Refused as RefusedReply}
+use Rattle.words.specs.Replies.{Reply, Done, Refused as RefusedReply}
 use Rattle.rows.specs.Words.{row_in, depth_in}
 use Rattle.rows.specs.States.{rows_of}
 use Rattle.values.specs.ValueWords.{row_asked}

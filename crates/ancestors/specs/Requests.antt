@@ -5,8 +5,7 @@ use Rattle.std.proofs.lemmas.List.Edits.{sets}
 use Rattle.rules.specs.Tries.{Row, ids}
 use Rattle.rules.specs.Loading.{LoadAnswer, done, refused_at, counted, EntityRequest, has_ancestors_trie, ancestors_requests}
 use Rattle.rows.specs.States.{rows_of}
-use Rattle.words.specs.declared.Reply.{Reply}
-use Rattle.words.specs.declared.Reply.TheVariants.{Done, Refused}
+use Rattle.words.specs.Replies.{Reply, Done, Refused}
 use Rattle.row_walk.specs.Initial.{request_with as request_of}
 use Rattle.row_walk.specs.declared.initial.Request.{Request as Asked}
 use Rattle.ancestors.specs.declared.requests.AncestorsRequest.{AncestorsRequest}

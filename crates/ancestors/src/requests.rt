@@ -12,7 +12,7 @@ use crate::set::AncestorSet;
 use row_walk::{Request, has_child};
 use rows::Row;
 use values::EntityRequest;
-use words::Reply;
+use words::Refusal;
 
 // A request's head is one word: the entity whose ancestors are asked for, and how many ids are wanted.
 #[derive(Drop)]
@@ -73,7 +73,7 @@ fn judge_requests(
     asked: &[u64],
     rows: &mut [u64],
     found: &mut [u64],
-) -> Reply
+) -> Result<(), Refusal>
     requires nodes_len_bound { (length nodes.now ≤ 65536) × (request.principal < 65536) × (request.resource < 65536) }
     requires nodes_in_bounds { (length nodes.now ≤ length rows.old) × (length nodes.now ≤ length found.old) }
     ensures { JudgedAs (all_requests request context.now nodes.now slice.now asked.now) result }
@@ -87,13 +87,13 @@ fn judge_requests(
             match next {
                 Next::To(_) => {}
                 Next::Refused(number) => {
-                    return Reply::Refused(number, i as u64);
+                    return Err(Refusal { number, place: i as u64 });
                 }
             }
         }
         i += 1;
     }
-    Reply::Done
+    Ok(())
 }
 
 // Writes all requests, none of which is refused: their count, a head each, and then their ids.
@@ -141,7 +141,7 @@ pub fn compute_ancestors_requests(
     context: &[u64],
     asked: &[u64],
     out: &mut [u64],
-) -> Reply
+) -> Result<(), Refusal>
     requires nodes_len_bound { (length nodes.now ≤ 4096) × (request.principal < 65536) × (request.resource < 65536) }
     requires room_for { RoomFor (all_requests request context.now nodes.now slice.now asked.now) asked.now out.old }
     ensures { RequestsAnswered (all_requests request context.now nodes.now slice.now asked.now)
@@ -158,7 +158,7 @@ pub fn compute_ancestors_requests(
         &mut rows[..],
         &mut found[..],
     );
-    let Reply::Done = judged else {
+    let Ok(()) = judged else {
         return judged;
     };
     write_requests(
@@ -171,5 +171,5 @@ pub fn compute_ancestors_requests(
         &mut found[..],
         out,
     );
-    Reply::Done
+    Ok(())
 }

@@ -11,12 +11,12 @@ use Rattle.rules.specs.Building.{add, after, build, keep, accepted_of, Contribut
 use Rattle.rules.proofs.BuildingLaws.{lawful_empty, after_lawful, accepted_most}
 use Rattle.rules.specs.Listing.{listing}
 use Rattle.words.specs.RunLaws.{taken_back}
-use Rattle.words.specs.declared.Reply.TheVariants.{Done}
+use Rattle.words.specs.Replies.{Done}
 use Rattle.rows.specs.States.{rows_in, storing, Lent}
 use Rattle.rows.specs.declared.Kind.TheVariants.{Contribution, Manifest}
 use Rattle.listing.specs.Outcomes.{write_in}
 use Rattle.listing.specs.WriteLaws.{listing_fits}
-use Rattle.listing.specs.declared.whole.Written.TheVariants.{Bytes}
+use Rattle.std.specs.Prelude.{Ok}
 use Rattle.manifest.specs.Outcomes.{empty_in, add_in}
 use Rattle.manifest.specs.UniteLaws.{unite_lawful}
 use Rattle.calls.specs.Calls.{left_by, replies_by, AllDone, reply_of, AllLent}
@@ -114,7 +114,7 @@ done_exactly (c ∷ cs) m rows lent-m (one, lent) =
 -- ---- writing
 
 module _ (m : List ℕ) (rows : List Row) (lent : Lent Manifest m rows) (text : List ℕ) (long : 62720 ≤ length text) where
-  pub lent_written : write_in Manifest m text ≡ record { reply = Bytes (length (listing rows)); buffer = sets text 0 (listing rows) }
+  pub lent_written : write_in Manifest m text ≡ record { reply = Ok (length (listing rows)); buffer = sets text 0 (listing rows) }
   unfolding write_in
   lent_written = rw (le-leb 4161 (length m) lent.long, le-leb 62720 (length text) long, lent.lawful-state, lent.has_rows)
 

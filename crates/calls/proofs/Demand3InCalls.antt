@@ -22,12 +22,12 @@ use Rattle.rules.proofs.Demand3.{order_free, exactly_those}
 use Rattle.rules.specs.Demand3Listed.{ExactlyThose}
 use Rattle.rules.proofs.Demand3Listed.{listed_exactly, listed_exactly_of}
 use Rattle.rules.proofs.Demand3Policies.{ContributionOf, policies_order_free, policies_exactly_those}
-use Rattle.words.specs.declared.Reply.TheVariants.{Done}
+use Rattle.words.specs.Replies.{Done}
 use Rattle.rows.specs.States.{form_of, rows_in, Lent}
 use Rattle.rows.specs.declared.Kind.{Kind}
 use Rattle.rows.specs.declared.Kind.TheVariants.{Contribution, Manifest}
 use Rattle.listing.specs.Outcomes.{TextOutcome, write_in, read_listing_in}
-use Rattle.listing.specs.declared.whole.Written.TheVariants.{Bytes}
+use Rattle.std.specs.Prelude.{Ok}
 use Rattle.schema.specs.Items.{lawful_schema, items_in}
 use Rattle.schema_text.specs.Outcomes.{read_schema_in}
 use Rattle.manifest.specs.Outcomes.{empty_in}
@@ -70,7 +70,7 @@ module _ (out : List ℕ) (cs : List (List ℕ)) (long : 4161 ≤ length out) (l
       (text : List ℕ)
       → 62720 ≤ length text
       → write_in Manifest (built_in out cs) text
-      ≡ record { reply = Bytes (length (listing (build [] (map rows_in cs)))); buffer = sets text 0 (listing (build [] (map rows_in cs))) }
+      ≡ record { reply = Ok (length (listing (build [] (map rows_in cs)))); buffer = sets text 0 (listing (build [] (map rows_in cs))) }
   written_is_listing text room = lent_written (built_in out cs) _ built_in_lent text room
 
 -- Where all of some lent contributions are Done, the same ones in any order, with any repeats, in any buffer are all Done too, and writing
@@ -182,7 +182,7 @@ module _ (schema : List ℕ) (good : lawful_schema schema ≡ true) where
         (policies_are_done out' others long').1 (again, f),
         λ text room.
             lent_written (policies_in schema out' others) again (policies_are_lent out' others long' again f) text room
-            ∙ (ap (λ (bytes : List ℕ). record { reply = Bytes (length bytes); buffer = sets text 0 bytes }) listed
+            ∙ (ap (λ (bytes : List ℕ). record { reply = Ok (length bytes); buffer = sets text 0 bytes }) listed
             ∙ sym (lent_written (policies_in schema out texts) rows (policies_are_lent out texts long rows e) text room)),
       )
 
@@ -200,12 +200,12 @@ pub listed_exactly_in_calls :
     → AllLent cs
     → 62720 ≤ length text
     → 4161 ≤ length again
-    → (write_in Manifest (built_in out cs) text).reply ≡ Bytes n
+    → (write_in Manifest (built_in out cs) text).reply ≡ Ok n
     → ((read_listing_in Manifest (take n (written_by (built_in out cs) text)) again).reply ≡ Done)
     × ExactlyThose (map rows_in cs) (rows_in (read_listing_in Manifest (take n (written_by (built_in out cs) text)) again).buffer)
 listed_exactly_in_calls out cs text again n long lent room long' e =
     let held = built_in_lent out cs long lent in
-    let size : Bytes (length (listing (build [] (map rows_in cs)))) ≡ Bytes n = sym (ap (λ (o : TextOutcome). o.reply) (written_is_listing out cs long lent text room)) ∙ e in
+    let size : Ok (length (listing (build [] (map rows_in cs)))) ≡ Ok n = sym (ap (λ (o : TextOutcome). o.reply) (written_is_listing out cs long lent text room)) ∙ e in
     let all : length (listing (build [] (map rows_in cs))) ≡ n = cc in
     let bytes : take n (written_by (built_in out cs) text) ≡ listing (build [] (map rows_in cs)) = rw (sym all) (bytes_back (built_in out cs) _ held text room) in
     rw bytes (read_exactly (listed_exactly (map rows_in cs) (lent_contributions cs lent)))

@@ -14,7 +14,7 @@ use Rattle.rules.proofs.ListingLaws.{read_written}
 use Rattle.rules.specs.Steps.{analyse}
 use Rattle.rules.proofs.AnalysisLaws.{analyse_lawful}
 use Rattle.words.specs.Runs.{Outcome, refusing}
-use Rattle.words.specs.declared.Reply.TheVariants.{Done, Refused}
+use Rattle.words.specs.Replies.{Done, Refused}
 use Rattle.rows.specs.States.{form_of, words_of, Lent, storing}
 use Rattle.rows.specs.declared.Kind.{Kind}
 use Rattle.rows.specs.declared.Kind.TheVariants.{Contribution}

@@ -13,7 +13,7 @@ use Rattle.rules.specs.Facts.{accepted_same}
 use Rattle.rules.specs.Tries.{Row}
 use Rattle.rules.specs.Steps.{analyse}
 use Rattle.words.specs.Runs.{Outcome}
-use Rattle.words.specs.declared.Reply.TheVariants.{Done}
+use Rattle.words.specs.Replies.{Done}
 use Rattle.rows.specs.States.{rows_in}
 use Rattle.schema.specs.Items.{items_in}
 use Rattle.manifest.specs.UniteLaws.{same_reply}

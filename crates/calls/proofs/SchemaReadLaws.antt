@@ -21,7 +21,7 @@ use Rattle.rules.proofs.SchemaLaws.{Said, schema_said}
 use Rattle.rules.proofs.StepLaws.{Each, GoodSchema}
 use Rattle.words.specs.Runs.{words_in}
 use Rattle.words.specs.RunLaws.{held_count}
-use Rattle.words.specs.declared.Reply.TheVariants.{Done}
+use Rattle.words.specs.Replies.{Done}
 use Rattle.schema.specs.Items.{item_in, item_word, is_item, all_items, items_of, items_in, schema_words, lawful_schema}
 use Rattle.schema_text.specs.Outcomes.{storing_items, read_schema_in}
 use Rattle.schema.specs.ItemLaws.{bounded_none}

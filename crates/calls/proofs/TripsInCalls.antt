@@ -8,7 +8,7 @@ use Rattle.std.specs.Prelude.{ℕ, ◌≡◌, List}
 use Rattle.rules.specs.Trips.{trip_bound}
 use Rattle.rows.specs.States.{rows_in}
 use Rattle.entries.specs.Bounds.{told, trip_bound_in}
-use Rattle.entries.specs.declared.trips.Bound.TheVariants.{AtMost}
+use Rattle.std.specs.Prelude.{Ok}
 use Rattle.calls.specs.LoadsIn.{StateOf, bound_in, CallsWithin}
 use Rattle.calls.proofs.TripsInLaws.{state_bound, within_state, within_begun}
 
@@ -21,7 +21,7 @@ any_state_within state = within_state state
 pub calls_within :
     (manifest : List ℕ) (type : ℕ) (state : List ℕ)
     → StateOf manifest type state
-    → (trip_bound_in manifest type ≡ AtMost (told (trip_bound (rows_in manifest) type)))
+    → (trip_bound_in manifest type ≡ Ok (told (trip_bound (rows_in manifest) type)))
     × CallsWithin state (trip_bound (rows_in manifest) type)
 calls_within manifest type state h =
     let (same, tells) = state_bound h in

@@ -62,7 +62,7 @@ use Rattle.load_state.specs.declared.LoadReply.TheVariants.{Done, Refused, Count
 use Rattle.entries.specs.EntryLaws.{entry_few}
 use Rattle.entries.specs.Bounds.{told, trip_bound_in}
 use Rattle.entries.specs.BoundLaws.{bound_lawful}
-use Rattle.entries.specs.declared.trips.Bound.TheVariants.{AtMost}
+use Rattle.std.specs.Prelude.{Ok}
 use Rattle.load_begin.specs.Begins.{manifest_words, lawful_context, entry_words, begun_state, begun_with, begun_by, begin_in}
 use Rattle.load_begin.specs.BeginLaws.{begin_short, begin_unlawful, begin_lawful, manifest_nodes}
 use Rattle.load_batch.specs.Handing.{batch_words, handing_batch, batch_in}
@@ -379,14 +379,14 @@ begin_bound :
     (lent : List ℕ) (triple principal resource : ℕ) (context state : List ℕ) (count batches rows : ℕ)
     → (begin_in lent triple principal resource context state).reply ≡ Done count batches rows
     → SameTrips (bound_in (begin_in lent triple principal resource context state).buffer) (trip_bound (rows_in lent) triple)
-    × (trip_bound_in lent triple ≡ AtMost (told (trip_bound (rows_in lent) triple)))
+    × (trip_bound_in lent triple ≡ Ok (told (trip_bound (rows_in lent) triple)))
 begin_bound lent triple principal resource context state count batches rows e =
     by_test (leb manifest_words (length lent) && (leb context_words (length context) && leb load_words (length state))) long short
   where
     short :
         (leb manifest_words (length lent) && (leb context_words (length context) && leb load_words (length state))) ≡ false
         → SameTrips (bound_in (begin_in lent triple principal resource context state).buffer) (trip_bound (rows_in lent) triple)
-        × (trip_bound_in lent triple ≡ AtMost (told (trip_bound (rows_in lent) triple)))
+        × (trip_bound_in lent triple ≡ Ok (told (trip_bound (rows_in lent) triple)))
     short t =
         let refused = (begin_short lent triple principal resource context state t).0 in
         let z : ◌≡◌ {A = ℕ} 0 1 = cc in
@@ -395,7 +395,7 @@ begin_bound lent triple principal resource context state count batches rows e =
     long :
         (leb manifest_words (length lent) && (leb context_words (length context) && leb load_words (length state))) ≡ true
         → SameTrips (bound_in (begin_in lent triple principal resource context state).buffer) (trip_bound (rows_in lent) triple)
-        × (trip_bound_in lent triple ≡ AtMost (told (trip_bound (rows_in lent) triple)))
+        × (trip_bound_in lent triple ≡ Ok (told (trip_bound (rows_in lent) triple)))
     long t =
         by_test (lawful_state manifest lent && (is_request triple principal resource && lawful_context context))
         (λ u.
@@ -420,7 +420,7 @@ begin_bound lent triple principal resource context state count batches rows e =
 pub state_bound :
     {manifest : List ℕ} {type : ℕ} {state : List ℕ}
     → StateOf manifest type state
-    → SameTrips (bound_in state) (trip_bound (rows_in manifest) type) × (trip_bound_in manifest type ≡ AtMost (told (trip_bound (rows_in manifest) type)))
+    → SameTrips (bound_in state) (trip_bound (rows_in manifest) type) × (trip_bound_in manifest type ≡ Ok (told (trip_bound (rows_in manifest) type)))
 state_bound (begin_called principal resource context state count batches rows e) = begin_bound _ _ principal resource context state count batches rows e
 state_bound (batch_called {state} out h) = rw (batch_keeps state out) (state_bound h)
 state_bound (answer_called {state} answers h) = rw (answer_keeps state answers) (state_bound h)

@@ -4,8 +4,7 @@ use mathlib.Core.List.{List, [], ◌∷◌, map, Memᴰ as Member}
 use Rattle.rules.specs.Numbers.{Answer, accepted, refused}
 use Rattle.rules.specs.Tries.{Row}
 use Rattle.words.specs.Runs.{Outcome}
-use Rattle.words.specs.declared.Reply.{Reply}
-use Rattle.words.specs.declared.Reply.TheVariants.{Done, Refused}
+use Rattle.words.specs.Replies.{Reply, Done, Refused}
 use Rattle.rows.specs.States.{Lent, rows_in}
 use Rattle.rows.specs.declared.Kind.TheVariants.{Contribution, Manifest}
 use Rattle.listing.specs.Outcomes.{write_in}

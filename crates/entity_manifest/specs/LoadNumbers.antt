@@ -1,7 +1,8 @@
 -- What the C names of loads answer: a refusal's number, or 0; and beside it three values.
 use Rattle.std.specs.Prelude.{ℕ, ◌≡◌, List, [], ◌∷◌}
-use Rattle.entries.specs.declared.trips.Bound.{Bound}
-use Rattle.entries.specs.declared.trips.Bound.TheVariants.{AtMost, Refused as Unbounded}
+use Rattle.std.specs.Prelude.{Result, Ok, Err}
+use Rattle.words.specs.declared.Refusal.{Refusal}
+use Rattle.entries.specs.declared.trips.TripBound.{TripBound}
 use Rattle.load_state.specs.Outcomes.{LoadOutcome, HandedOut, AnsweredAs, HandedAs}
 use Rattle.load_state.specs.declared.LoadReply.{LoadReply}
 use Rattle.load_state.specs.declared.LoadReply.TheVariants.{Done, Refused, Counted}
@@ -17,9 +18,9 @@ load_values (Refused number place) = place ∷ 0 ∷ 0 ∷ []
 load_values (Counted expected got) = 0 ∷ expected ∷ got ∷ []
 
 -- a bound on trips as a reply
-abbrev pub bound_reply : Bound → LoadReply
-bound_reply (AtMost most) = Done most.ancestors most.batches most.rows
-bound_reply (Unbounded number place) = Refused number place
+abbrev pub bound_reply : Result TripBound Refusal → LoadReply
+bound_reply (Ok most) = Done most.ancestors most.batches most.rows
+bound_reply (Err refusal) = Refused refusal.number refusal.place
 
 -- what a call answers and leaves, told: its number, the values beside it, and the lent buffer
 pub record CallTold (outcome : LoadOutcome) (number : ℕ) (values buffer : List ℕ) : Type 0 where

@@ -11,10 +11,9 @@ ghost use Rattle.type_annotations.specs.Outcomes.{typed_in};
 ghost use Rattle.rows.specs.declared.Kind.TheVariants.{Contribution, Manifest};
 ghost use Rattle.entity_manifest.specs.Numbers.{version, reply_number, reply_place, ToldAs, written_number, written_value, held_number, held_value};
 
-use listing::Written;
 use manifest::EntityManifest;
-use rows::{Held, Kind};
-use words::Reply;
+use rows::Kind;
+use words::Refusal;
 
 // The version of the library: its first number times 65,536, and its second.
 pub fn terbagyl_version() -> u64
@@ -24,15 +23,15 @@ pub fn terbagyl_version() -> u64
 }
 
 // A reply as its number, its place beside it.
-fn tell(reply: Reply, value: &mut u64) -> u64
+fn tell(reply: Result<(), Refusal>, value: &mut u64) -> u64
     ensures { (result ≡ reply_number reply) × (value.new ≡ reply_place reply) }
 {
     match reply {
-        Reply::Done => {
+        Ok(()) => {
             *value = 0;
             0
         }
-        Reply::Refused(number, place) => {
+        Err(Refusal { number, place }) => {
             *value = place;
             number
         }
@@ -40,15 +39,15 @@ fn tell(reply: Reply, value: &mut u64) -> u64
 }
 
 // What was written as a number, the count of bytes or the place beside it.
-fn tell_written(written: Written, value: &mut u64) -> u64
+fn tell_written(written: Result<usize, Refusal>, value: &mut u64) -> u64
     ensures { (result ≡ written_number written) × (value.new ≡ written_value written) }
 {
     match written {
-        Written::Bytes(bytes) => {
+        Ok(bytes) => {
             *value = bytes as u64;
             0
         }
-        Written::Refused(number, place) => {
+        Err(Refusal { number, place }) => {
             *value = place;
             number
         }
@@ -56,19 +55,19 @@ fn tell_written(written: Written, value: &mut u64) -> u64
 }
 
 // What is held as a number; beside it 0 for missing, 1 for there, 2 for there and marked, or the place.
-fn tell_held(held: Held, value: &mut u64) -> u64
+fn tell_held(held: Result<Option<bool>, Refusal>, value: &mut u64) -> u64
     ensures { (result ≡ held_number held) × (value.new ≡ held_value held) }
 {
     match held {
-        Held::Missing => {
+        Ok(None) => {
             *value = 0;
             0
         }
-        Held::There(marked) => {
+        Ok(Some(marked)) => {
             *value = if marked { 2 } else { 1 };
             0
         }
-        Held::Unheld(number, place) => {
+        Err(Refusal { number, place }) => {
             *value = place;
             number
         }

@@ -10,8 +10,9 @@ ghost use Rattle.load_ancestors.specs.Asking.{ancestors_in};
 ghost use Rattle.load_ends.specs.Ends.{ancestors_answer_in, result_in};
 ghost use Rattle.entity_manifest.specs.LoadNumbers.{load_number, load_values, bound_reply, CallTold, HandTold};
 
-use entries::Bound;
+use entries::TripBound;
 use load_state::LoadReply;
+use words::Refusal;
 
 // A reply as its number, its values beside it.
 fn tell_load(reply: LoadReply, value: &mut u64, first: &mut u64, second: &mut u64) -> u64
@@ -40,12 +41,12 @@ fn tell_load(reply: LoadReply, value: &mut u64, first: &mut u64, second: &mut u6
 }
 
 // A bound as a reply: the ancestors calls are what is counted.
-fn bound_reply(bound: Bound) -> LoadReply
+fn bound_reply(bound: Result<TripBound, Refusal>) -> LoadReply
     ensures { result ≡ bound_reply bound }
 {
     match bound {
-        Bound::AtMost(most) => LoadReply::Done(most.ancestors, most.batches, most.rows),
-        Bound::Refused(number, place) => LoadReply::Refused(number, place),
+        Ok(most) => LoadReply::Done(most.ancestors, most.batches, most.rows),
+        Err(Refusal { number, place }) => LoadReply::Refused(number, place),
     }
 }
 

@@ -27,7 +27,9 @@ use Rattle.rules.proofs.TripLaws.{entry_in_order}
 use Rattle.rows.specs.States.{lawful_state, rows_in, words_of}
 use Rattle.rows.specs.declared.Kind.TheVariants.{Manifest}
 use Rattle.entries.specs.Bounds.{NodesOf, told, trip_bound_in}
-use Rattle.entries.specs.declared.trips.Bound.TheVariants.{AtMost, Refused}
+use Rattle.words.specs.Replies.{Refused}
+use Rattle.std.specs.Prelude.{Result, Ok}
+use Rattle.words.specs.declared.Refusal.{Refusal}
 
 -- Whether a place is a primary node's, by each of its steps behind the root.
 
@@ -252,6 +254,6 @@ module _ (lent : List ℕ) (request : ℕ) where
 
     pub bound_lawful :
         (lawful_state manifest lent && ltb request (2 ^ 48)) ≡ true
-        → trip_bound_in lent request ≡ AtMost (told (trip_bound (rows_in lent) request))
+        → trip_bound_in lent request ≡ Ok (told (trip_bound (rows_in lent) request))
     unfolding trip_bound_in
     bound_lawful e = rw (le-leb (words_of Manifest) (length lent) long, e)

@@ -6,8 +6,9 @@ use Rattle.rules.specs.Trips.{TripBound as RulesBound, trip_bound}
 use Rattle.rows.specs.States.{lawful_state, rows_in, words_of}
 use Rattle.rows.specs.declared.Kind.TheVariants.{Manifest}
 use Rattle.entries.specs.declared.trips.TripBound.{TripBound}
-use Rattle.entries.specs.declared.trips.Bound.{Bound}
-use Rattle.entries.specs.declared.trips.Bound.TheVariants.{AtMost, Refused}
+use Rattle.words.specs.Replies.{Refused}
+use Rattle.std.specs.Prelude.{Result, Ok}
+use Rattle.words.specs.declared.Refusal.{Refusal}
 
 -- rows that are the nodes of a request type's entry: in listing order behind its place, and no entry among them
 pub record NodesOf (request : ℕ) (nodes : List Row) : Type 0 where
@@ -19,8 +20,8 @@ abbrev pub told : RulesBound → TripBound
 told bound = record { rows = bound.rows; batches = bound.batches; ancestors = bound.ancestors }
 
 -- 31, then 1 at 0 for the manifest or the request type, then the bound
-unfoldable pub trip_bound_in : List ℕ → ℕ → Bound
+unfoldable pub trip_bound_in : List ℕ → ℕ → Result TripBound Refusal
 trip_bound_in lent request =
     cond (leb (words_of Manifest) (length lent))
-    (cond (lawful_state manifest lent && ltb request (2 ^ 48)) (AtMost (told (trip_bound (rows_in lent) request))) (Refused 1 0))
+    (cond (lawful_state manifest lent && ltb request (2 ^ 48)) (Ok (told (trip_bound (rows_in lent) request))) (Refused 1 0))
     (Refused 31 0)

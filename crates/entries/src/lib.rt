@@ -5,4 +5,4 @@ mod entry;
 mod trips;
 
 pub use entry::{FoundEntry, find_entry};
-pub use trips::{Bound, TripBound, trip_bound};
+pub use trips::{TripBound, trip_bound};

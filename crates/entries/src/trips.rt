@@ -7,6 +7,7 @@ ghost use Rattle.entries.specs.Bounds.{NodesOf, told, trip_bound_in};
 
 use crate::entry::{FoundEntry, find_entry};
 use rows::{Kind, Row, StepParts};
+use words::Refusal;
 
 // What a load takes at most: rows and batches, and the ancestors calls on top.
 #[derive(Drop)]
@@ -14,13 +15,6 @@ pub struct TripBound {
     pub rows: u64,
     pub batches: u64,
     pub ancestors: u64,
-}
-
-// The bound, or the refusal of the manifest or of the request type.
-#[derive(Drop)]
-pub enum Bound {
-    AtMost(TripBound),
-    Refused(u64, u64),
 }
 
 // The bound for the nodes of an entry. A root is a primary node, and so is a field below one. `primary` is how many steps of the last
@@ -71,18 +65,18 @@ fn bound_in(rows: &[u64], request: u64) -> TripBound
 }
 
 // What a load for a request type takes at most: 31, then 1 at 0 for the manifest or the request type.
-pub fn trip_bound(manifest: &[u64], request: u64) -> Bound
+pub fn trip_bound(manifest: &[u64], request: u64) -> Result<TripBound, Refusal>
     ensures { result ≡ trip_bound_in manifest.now request }
 {
     if manifest.len() < Kind::Manifest.words() {
-        return Bound::Refused(31, 0);
+        return Err(Refusal::SHORT);
     }
     if !rows::is_lawful(Kind::Manifest, manifest) {
-        return Bound::Refused(1, 0);
+        return Err(Refusal::UNLAWFUL);
     }
     if 0x1_0000_0000_0000 <= request {
-        return Bound::Refused(1, 0);
+        return Err(Refusal::UNLAWFUL);
     }
     let end = manifest[0] as usize + 1;
-    Bound::AtMost(bound_in(&manifest[1..end], request))
+    Ok(bound_in(&manifest[1..end], request))
 }

@@ -3,7 +3,7 @@
 
 ghost use Rattle.io.specs.Counts.{IsPrefixLen};
 
-use entity_manifest::{Kind, Reply, Written};
+use entity_manifest::{Kind, Refusal};
 use files::{DONE, Loaded, REFUSED, To};
 use forms::Form;
 
@@ -52,7 +52,7 @@ pub fn load_schema(to: To, line: &[u8], i: usize, count: usize, schema: &mut [u6
     }
     let n = loaded.bytes;
     let reply = entity_manifest::read_schema(&text[..n], schema);
-    if let Reply::Refused(number, place) = reply {
+    if let Err(Refusal { number, place }) = reply {
         return refuse(to, line, i, count, Form::Schema, number, place, &text[..n]);
     }
     DONE
@@ -67,7 +67,7 @@ pub fn load_listing(to: To, line: &[u8], i: usize, count: usize, manifest: &mut 
     }
     let n = loaded.bytes;
     let reply = entity_manifest::read_listing(Kind::Manifest, &text[..n], manifest);
-    if let Reply::Refused(number, place) = reply {
+    if let Err(Refusal { number, place }) = reply {
         return refuse(to, line, i, count, Form::Listing, number, place, &text[..n]);
     }
     DONE
@@ -89,7 +89,7 @@ pub fn load_names(to: To, line: &[u8], count: usize, text: &mut [u8], names: &mu
     }
     let n = loaded.bytes;
     let reply = name_table::read_names(&text[..n], names);
-    if let Reply::Refused(number, place) = reply {
+    if let Err(Refusal { number, place }) = reply {
         return Loaded {
             status: refuse(to, line, 3, count, Form::Names, number, place, &text[..n]),
             bytes: 0,
@@ -102,7 +102,7 @@ pub fn load_names(to: To, line: &[u8], count: usize, text: &mut [u8], names: &mu
 pub fn write_listing(to: To, kind: Kind, state: &[u64]) -> u64 {
     let mut out = [0u8; LISTING];
     let written = entity_manifest::write_listing(kind, state, &mut out);
-    let Written::Bytes(n) = written else {
+    let Ok(n) = written else {
         return REFUSED;
     };
     if LISTING < n {
@@ -115,7 +115,7 @@ pub fn write_listing(to: To, kind: Kind, state: &[u64]) -> u64 {
 fn refuse_node(to: To, name: &[u8], manifest: &[u64], number: u64, place: u64) -> u64 {
     let mut listing = [0u8; LISTING];
     let written = entity_manifest::write_listing(Kind::Manifest, manifest, &mut listing);
-    let Written::Bytes(n) = written else {
+    let Ok(n) = written else {
         return REFUSED;
     };
     if LISTING < n {
@@ -129,7 +129,7 @@ fn refuse_node(to: To, name: &[u8], manifest: &[u64], number: u64, place: u64) -
 pub fn write_typed(to: To, name: &[u8], schema: &[u64], manifest: &[u64]) -> u64 {
     let mut typed = [0u64; WORDS];
     let reply = entity_manifest::to_typed(schema, manifest, &mut typed);
-    if let Reply::Refused(number, place) = reply {
+    if let Err(Refusal { number, place }) = reply {
         return refuse_node(to, name, manifest, number, place);
     }
     write_listing(to, Kind::Manifest, &typed)

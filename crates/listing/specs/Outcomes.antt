@@ -6,8 +6,9 @@ use Rattle.words.specs.Runs.{Outcome, refusing}
 use Rattle.rows.specs.States.{form_of, words_of, rows_in, lawful_state, storing}
 use Rattle.rows.specs.declared.Kind.{Kind}
 use Rattle.rows.specs.declared.Kind.TheVariants.{Contribution, Manifest}
-use Rattle.listing.specs.declared.whole.Written.{Written}
-use Rattle.listing.specs.declared.whole.Written.TheVariants.{Bytes, Refused}
+use Rattle.words.specs.Replies.{Refused}
+use Rattle.std.specs.Prelude.{Result, Ok}
+use Rattle.words.specs.declared.Refusal.{Refusal}
 
 -- reading: 31, then what the text gives by line
 unfoldable pub read_listing_in : Kind → List ℕ → List ℕ → Outcome
@@ -20,7 +21,7 @@ bytes_of Manifest = 62720
 
 -- What writing answers, and what the lent text then holds.
 pub record TextOutcome : Type 0 where
-  pub reply : Written
+  pub reply : Result ℕ Refusal
   pub buffer : List ℕ
 
 -- writing: 31, then 1 at 0; otherwise the listing from the start of the text on, what follows it as it was
@@ -28,6 +29,6 @@ unfoldable pub write_in : Kind → List ℕ → List ℕ → TextOutcome
 write_in kind state out =
     cond (leb (words_of kind) (length state) && leb (bytes_of kind) (length out))
     (cond (lawful_state (form_of kind) state)
-    (record { reply = Bytes (length (listing (rows_in state))); buffer = sets out 0 (listing (rows_in state)) })
+    (record { reply = Ok (length (listing (rows_in state))); buffer = sets out 0 (listing (rows_in state)) })
     (record { reply = Refused 1 0; buffer = out }))
     (record { reply = Refused 31 0; buffer = out })

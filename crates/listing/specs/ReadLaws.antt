@@ -21,7 +21,7 @@ use Rattle.rows.specs.States.{form_of, words_of, storing}
 use Rattle.words.specs.Runs.{refusing, stored}
 use Rattle.rows.specs.declared.Kind.{Kind}
 use Rattle.rows.specs.declared.Limits.{Limits}
-use Rattle.words.specs.declared.Reply.TheVariants.{Done}
+use Rattle.words.specs.Replies.{Done}
 use Rattle.text.proofs.FoldLaws.{CameTo, came_start, came_end, came_cut, came_refused, came_next}
 use Rattle.listing.specs.declared.reading.Sofar.{Sofar as Kept}
 use Rattle.listing_lines.specs.Lines.{ended_at, row_at, RowFits}

@@ -13,7 +13,9 @@ use Rattle.rows.specs.declared.Kind.TheVariants.{Contribution, Manifest}
 use Rattle.listing.specs.Outcomes.{TextOutcome, bytes_of, write_in}
 use Rattle.listing_lines.specs.WriteLaws.{listing_short}
 use Rattle.words.specs.Runs.{Wrote}
-use Rattle.listing.specs.declared.whole.Written.TheVariants.{Bytes, Refused}
+use Rattle.words.specs.Replies.{Refused}
+use Rattle.std.specs.Prelude.{Result, Ok}
+use Rattle.words.specs.declared.Refusal.{Refusal}
 
 -- the listing of a lawful state fits the text of its kind
 pub listing_fits : (kind : Kind) (state : List ℕ) → lawful_state (form_of kind) state ≡ true → length (listing (rows_in state)) ≤ bytes_of kind
@@ -48,7 +50,7 @@ module _ (kind : Kind) (state out : List ℕ) where
           lawful_state (form_of kind) state ≡ true
           → {out' : List ℕ} {end : ℕ}
           → Wrote out 0 (listing (rows_in state)) out' end
-          → write_in kind state out ≡ record { reply = Bytes end; buffer = out' }
+          → write_in kind state out ≡ record { reply = Ok end; buffer = out' }
       unfolding write_in
       write_lawful e {end} w =
           let all : end ≡ length (listing (rows_in state)) = omega (arith, w.after) in

@@ -4,4 +4,4 @@
 mod reading;
 mod whole;
 
-pub use whole::{Written, read_listing, write_listing};
+pub use whole::{read_listing, write_listing};

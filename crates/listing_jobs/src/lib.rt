@@ -4,7 +4,7 @@
 
 ghost use Rattle.std.specs.Prelude.{◌≤◌, length};
 
-use entity_manifest::{Kind, Reply};
+use entity_manifest::{Kind, Refusal};
 use files::{DONE, REFUSED, To};
 use forms::Form;
 use jobs::{
@@ -34,16 +34,16 @@ pub fn list(to: To, line: &[u8]) -> u64 {
 }
 
 // Adds all entries of a listing to a manifest.
-fn unite(listing: &[u64], manifest: &mut [u64]) -> Reply
+fn unite(listing: &[u64], manifest: &mut [u64]) -> Result<(), Refusal>
     requires { 4161 ≤ length manifest.old }
 {
     let mut united = [0u64; WORDS];
     let reply = entity_manifest::union(Kind::Manifest, manifest, listing, &mut united);
-    if let Reply::Refused(number, place) = reply {
-        return Reply::Refused(number, place);
+    if let Err(Refusal { number, place }) = reply {
+        return Err(Refusal { number, place });
     }
     words::copy_words(&united, manifest, 0);
-    Reply::Done
+    Ok(())
 }
 
 // Adds the listing that word i names to a manifest. One without an entry is no contribution, and none of a whole manifest is lost.
@@ -59,7 +59,7 @@ fn add_file(to: To, line: &[u8], i: usize, count: usize, manifest: &mut [u64]) -
         return refuse(to, line, i, count, Form::Listing, 1, 0, b"");
     }
     let added = unite(&listing, manifest);
-    if let Reply::Refused(number, _) = added {
+    if let Err(Refusal { number, place: _ }) = added {
         return refuse_adding(to, line, i, count, number);
     }
     DONE

@@ -11,8 +11,7 @@ use Rattle.rows.specs.Words.{row_in}
 use Rattle.rows.specs.States.{rows_of}
 use Rattle.ancestors.specs.Requests.{RequestsAnswered}
 use Rattle.ancestors.specs.RoomLaws.{load_room}
-use Rattle.words.specs.declared.Reply.{Reply}
-use Rattle.words.specs.declared.Reply.TheVariants.{Done as All-done, Refused as One-refused}
+use Rattle.words.specs.Replies.{Reply, Done as All-done, Refused as One-refused}
 use Rattle.load_state.specs.Transcripts.{node_words, transcript_in, lent_load}
 use Rattle.load_state.specs.Outcomes.{refusing_out, HandedAs}
 use Rattle.load_state.specs.WorkedLaws.{nodes_few}

@@ -12,7 +12,7 @@ use ancestors::compute_ancestors_requests;
 use load_state::{LoadReply, LoadState, Worked, nodes_from, read_load};
 use row_walk::Request;
 use slices::build_slice;
-use words::Reply;
+use words::Refusal;
 
 // The one length of requests that are handed out: a count, heads and ids.
 const REQUEST_WORDS: usize = 528_385;
@@ -52,7 +52,7 @@ fn write_requests(
     asked: usize,
     out: &mut [u64],
     scratch: &mut [u64],
-) -> Reply
+) -> Result<(), Refusal>
     requires in_bounds { (36874 ≤ length state.now) × ((4096 ≤ length places.now) × (get_or state.now 0 0 ≡ 3)) }
     requires in_bounds_2 { (528385 ≤ length out.old) × (12288 ≤ length scratch.old) }
     requires by_index { (batches : ℕ) × (sum : ℕ) × ReadTo state.now rows.now places.now asked batches sum }
@@ -95,7 +95,7 @@ fn ask_ancestors(
     requires by_index { (sum : ℕ) × ReadTo state.old rows.now places.now asked batches sum }
     ensures { HandedAs (asking_of state.old out.old (lent_load state.old)) result state.new out.new }
 {
-    if let Reply::Refused(number, place) = write_requests(
+    if let Err(Refusal { number, place }) = write_requests(
         state, rows, places, asked, out, scratch,
     ) {
         return LoadReply::Refused(number, place);

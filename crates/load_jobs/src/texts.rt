@@ -1,7 +1,7 @@
 // The texts of a load, each read once.
 ghost use Rattle.std.specs.Prelude.{◌≡◌, ◌≤◌, length};
 
-use entity_manifest::Reply;
+use entity_manifest::Refusal;
 use files::{DONE, To};
 use forms::Form;
 use jobs::refuse;
@@ -60,7 +60,7 @@ fn read_store(to: To, line: &[u8], i: usize, count: usize, store: &mut [u64]) ->
     }
     let n = loaded.bytes;
     let reply = store_text::read_store(&text[..n], store);
-    if let Reply::Refused(number, place) = reply {
+    if let Err(Refusal { number, place }) = reply {
         return refuse(to, line, i, count, Form::Store, number, place, &text[..n]);
     }
     DONE

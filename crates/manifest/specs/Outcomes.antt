@@ -6,7 +6,7 @@ use Rattle.words.specs.Runs.{Outcome, refusing}
 use Rattle.rows.specs.States.{form_of, words_of, rows_in, lawful_state, holding, storing}
 use Rattle.rows.specs.declared.Kind.{Kind}
 use Rattle.rows.specs.declared.Kind.TheVariants.{Contribution, Manifest}
-use Rattle.words.specs.declared.Reply.TheVariants.{Done}
+use Rattle.words.specs.Replies.{Done}
 
 -- an empty manifest
 unfoldable pub empty_in : List ℕ → Outcome

@@ -11,7 +11,7 @@ use Rattle.rows.specs.States.{form_of, words_of, lawful_state, storing}
 use Rattle.rows.specs.declared.Kind.{Kind}
 use Rattle.words.specs.Runs.{refusing}
 use Rattle.rows.specs.StateLaws.{all_rows}
-use Rattle.words.specs.declared.Reply.TheVariants.{Done, Refused}
+use Rattle.words.specs.Replies.{Done, Refused}
 use Rattle.manifest.specs.Outcomes.{empty_in, united_rows, united_in}
 
 -- ---- an empty manifest

@@ -7,7 +7,7 @@ ghost use Rattle.rows.specs.States.{lawful_state, storing};
 ghost use Rattle.manifest.specs.Outcomes.{empty_in, LawfulOfSomeKind, united_rows, united_in, add_in, unite_in};
 
 use rows::Kind;
-use words::Reply;
+use words::Refusal;
 
 // The lent state of a manifest: its limits and its length.
 #[derive(Drop)]
@@ -17,25 +17,25 @@ impl EntityManifest {
     pub const WORDS: usize = 4_161;
 
     // Makes a lent state the empty manifest.
-    pub fn new(out: &mut [u64]) -> Reply
+    pub fn new(out: &mut [u64]) -> Result<(), Refusal>
         ensures { (result ≡ (empty_in out.old).reply) × (out.new ≡ (empty_in out.old).buffer) }
     {
         if out.len() < EntityManifest::WORDS {
-            return Reply::Refused(31, 0);
+            return Err(Refusal::SHORT);
         }
         out[0] = 0;
-        Reply::Done
+        Ok(())
     }
 
     // Adds a contribution to a manifest; a refusal leaves it as it was.
-    pub fn add(manifest: &mut [u64], contribution: &[u64]) -> Reply
+    pub fn add(manifest: &mut [u64], contribution: &[u64]) -> Result<(), Refusal>
         ensures { (result ≡ (add_in manifest.old contribution.now).reply) × (manifest.new ≡ (add_in manifest.old contribution.now).buffer) }
     {
         unite_in_place(Kind::Contribution, manifest, contribution)
     }
 
     // Makes a manifest its union with another one; a refusal leaves it as it was.
-    pub fn unite_manifests(manifest: &mut [u64], other: &[u64]) -> Reply
+    pub fn unite_manifests(manifest: &mut [u64], other: &[u64]) -> Result<(), Refusal>
         ensures { (result ≡ (unite_in manifest.old other.now).reply) × (manifest.new ≡ (unite_in manifest.old other.now).buffer) }
     {
         unite_in_place(Kind::Manifest, manifest, other)
@@ -43,41 +43,38 @@ impl EntityManifest {
 }
 
 // Makes a lawful manifest its union with a lawful state of either kind; `united` is scratch.
-pub fn unite_lawful(manifest: &mut [u64], other: &[u64], united: &mut [u64]) -> Reply
+pub fn unite_lawful(manifest: &mut [u64], other: &[u64], united: &mut [u64]) -> Result<(), Refusal>
     requires manifest_value { (lawful_state manifest_form manifest.old ≡ true) × LawfulOfSomeKind other.now }
     requires in_bounds { (4161 ≤ length manifest.old) × (4161 ≤ length united.old) }
     ensures { (result ≡ (storing manifest.old (united_rows manifest.old other.now)).reply) × (manifest.new ≡ (storing manifest.old (united_rows manifest.old other.now)).buffer) }
 {
-    let reply = unite(manifest, other, united);
-    let Reply::Done = reply else {
-        return reply;
-    };
+    unite(manifest, other, united)?;
     words::copy_rows(united, manifest);
-    Reply::Done
+    Ok(())
 }
 
 // Makes a manifest its union with a state of a kind; a refusal leaves it as it was.
-fn unite_in_place(kind: Kind, manifest: &mut [u64], other: &[u64]) -> Reply
+fn unite_in_place(kind: Kind, manifest: &mut [u64], other: &[u64]) -> Result<(), Refusal>
     ensures { (result ≡ (united_in kind manifest.old other.now).reply) × (manifest.new ≡ (united_in kind manifest.old other.now).buffer) }
 {
     if manifest.len() < EntityManifest::WORDS {
-        return Reply::Refused(31, 0);
+        return Err(Refusal::SHORT);
     }
     if other.len() < kind.words() {
-        return Reply::Refused(31, 0);
+        return Err(Refusal::SHORT);
     }
     if !rows::is_lawful(Kind::Manifest, manifest) {
-        return Reply::Refused(1, 0);
+        return Err(Refusal::UNLAWFUL);
     }
     if !rows::is_lawful(kind, other) {
-        return Reply::Refused(1, 0);
+        return Err(Refusal::UNLAWFUL);
     }
     let mut united = [0u64; EntityManifest::WORDS];
     unite_lawful(manifest, other, &mut united)
 }
 
 // The union of the rows of a manifest and of another state, in a state of its own.
-fn unite(manifest: &[u64], other: &[u64], united: &mut [u64]) -> Reply
+fn unite(manifest: &[u64], other: &[u64], united: &mut [u64]) -> Result<(), Refusal>
     requires { (lawful_state manifest_form manifest.now ≡ true) × LawfulOfSomeKind other.now × (4161 ≤ length united.old) }
     ensures { (result ≡ (storing united.old (united_rows manifest.now other.now)).reply) × (united.new ≡ (storing united.old (united_rows manifest.now other.now)).buffer) }
 {

@@ -6,7 +6,7 @@ ghost use Rattle.std.specs.Prelude.{◌≤◌, length};
 ghost use Rattle.io.specs.Counts.{IsPrefixLen};
 
 use cases::{kind_of, print, print_refused};
-use entity_manifest::{EntityManifest, Kind, Reply, Written};
+use entity_manifest::{EntityManifest, Kind, Refusal};
 use text::Line;
 
 // The longest text of a case, and the words of a contribution and of a manifest. Eight contributions are kept.
@@ -69,8 +69,8 @@ fn ask_text(line: &[u8]) {
     let mut state = [0u64; MANIFEST];
     let reply = entity_manifest::read_listing(kind_of(line), &text[..n], &mut state);
     match reply {
-        Reply::Refused(number, place) => print_refused(number, place),
-        Reply::Done => ask_written(line, &state, &text[..n]),
+        Err(Refusal { number, place }) => print_refused(number, place),
+        Ok(()) => ask_written(line, &state, &text[..n]),
     }
 }
 
@@ -78,8 +78,8 @@ fn ask_written(line: &[u8], state: &[u64], text: &[u8]) {
     let mut out = [0u8; TEXT];
     let written = entity_manifest::write_listing(kind_of(line), state, &mut out);
     match written {
-        Written::Refused(number, place) => print_refused(number, place),
-        Written::Bytes(n) => {
+        Err(Refusal { number, place }) => print_refused(number, place),
+        Ok(n) => {
             if n <= TEXT {
                 if check::same(&out[..n], text) {
                     print(b"the same again");
@@ -92,15 +92,15 @@ fn ask_written(line: &[u8], state: &[u64], text: &[u8]) {
 }
 
 // Reads the text of a case into a state.
-fn read_text(kind: Kind, line: &[u8], state: &mut [u64]) -> Reply {
+fn read_text(kind: Kind, line: &[u8], state: &mut [u64]) -> Result<(), Refusal> {
     let mut text = [0u8; TEXT];
     let n = text_of(line, &mut text);
     entity_manifest::read_listing(kind, &text[..n], state)
 }
 
 // Says the line of a text that was refused.
-fn tell_unread(line: &[u8], reply: Reply) {
-    if let Reply::Refused(number, place) = reply {
+fn tell_unread(line: &[u8], reply: Result<(), Refusal>) {
+    if let Err(Refusal { number, place }) = reply {
         cases::print_case(line);
         print_refused(number, place);
         print(b"\n");
@@ -108,11 +108,11 @@ fn tell_unread(line: &[u8], reply: Reply) {
 }
 
 // Keeps a contribution under a number, one of 0 to 7.
-fn keep(line: &[u8], kept: &mut [u64]) -> Reply {
+fn keep(line: &[u8], kept: &mut [u64]) -> Result<(), Refusal> {
     let from = cases::number(line, 1) as usize * WORDS;
     let end = from + WORDS;
     if kept.len() < end {
-        return Reply::Refused(1, 0);
+        return Err(Refusal::UNLAWFUL);
     }
     read_text(Kind::Contribution, line, &mut kept[from..end])
 }
@@ -121,8 +121,8 @@ fn keep(line: &[u8], kept: &mut [u64]) -> Reply {
 fn ask_keep(line: &[u8], kept: &mut [u64]) {
     let reply = keep(line, kept);
     match reply {
-        Reply::Done => print(b"kept"),
-        Reply::Refused(number, place) => print_refused(number, place),
+        Ok(()) => print(b"kept"),
+        Err(Refusal { number, place }) => print_refused(number, place),
     }
 }
 
@@ -142,7 +142,7 @@ fn add_kept(state: &mut [u64], kept: &[u64], number: u64) {
         return;
     }
     let reply = EntityManifest::add(state, &kept[from..end]);
-    if let Reply::Refused(number, place) = reply {
+    if let Err(Refusal { number, place }) = reply {
         print_refused(number, place);
         print(b", ");
     }
@@ -153,8 +153,8 @@ fn tell_listing(line: &[u8], field: usize, state: &[u64]) {
     let mut out = [0u8; TEXT];
     let written = entity_manifest::write_listing(Kind::Manifest, state, &mut out);
     match written {
-        Written::Refused(number, place) => print_refused(number, place),
-        Written::Bytes(n) => {
+        Err(Refusal { number, place }) => print_refused(number, place),
+        Ok(n) => {
             if n <= TEXT {
                 if cases::is_word(line, field, b"") {
                     print(b"\n");
@@ -228,7 +228,7 @@ fn lent(whole: usize, line: &[u8], n: usize) -> usize
 }
 
 // Unites a manifest in place with another one, as many words of each as a line says.
-fn unite_lent(line: &[u8], manifest: &mut [u64], other: &[u64]) -> Reply {
+fn unite_lent(line: &[u8], manifest: &mut [u64], other: &[u64]) -> Result<(), Refusal> {
     let m = lent(manifest.len(), line, 2);
     let o = lent(other.len(), line, 3);
     EntityManifest::unite_manifests(&mut manifest[..m], &other[..o])
@@ -243,8 +243,8 @@ fn ask_unite(line: &[u8], manifest: &[u64], other: &[u64], want: &[u64]) {
     words::copy_words(manifest, &mut state, 0);
     let reply = unite_lent(line, &mut state, other);
     match reply {
-        Reply::Done => say_held(cases::has_rows(&state, want, manifest), b"as expected"),
-        Reply::Refused(number, place) => {
+        Ok(()) => say_held(cases::has_rows(&state, want, manifest), b"as expected"),
+        Err(Refusal { number, place }) => {
             print_refused(number, place);
             print(b", ");
             say_held(cases::has_rows(&state, manifest, manifest), b"as it was");

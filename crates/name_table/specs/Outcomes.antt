@@ -5,7 +5,7 @@ use Rattle.std.proofs.lemmas.List.Edits.{sets}
 use Rattle.rules.specs.Numbers.{Answer, accepted, refused}
 use Rattle.words.specs.Keys.{searched}
 use Rattle.words.specs.Runs.{Outcome, refusing, stored, words_in}
-use Rattle.words.specs.declared.Reply.TheVariants.{Done}
+use Rattle.words.specs.Replies.{Done}
 use Rattle.std.specs.Prelude.{Result, Ok as FoundAt, Err as MissingAt}
 use Rattle.rules.specs.Names.{Named, Naming, naming, read_names}
 use Rattle.name_table.specs.Words.{name_word, named_in}

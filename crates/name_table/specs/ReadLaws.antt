@@ -20,7 +20,7 @@ use Rattle.text.proofs.FoldLaws.{CameTo, came_start, came_end, came_cut, came_re
 use Rattle.words.specs.Keys.{key_in, later, searched}
 use Rattle.words.specs.Runs.{refusing, stored, words_in}
 use Rattle.words.specs.RunLaws.{stored_next}
-use Rattle.words.specs.declared.Reply.TheVariants.{Done}
+use Rattle.words.specs.Replies.{Done}
 use Rattle.std.specs.Prelude.{Result, Ok as FoundAt, Err as MissingAt}
 use Rattle.rules.specs.Names.{Named, named, Naming, naming, named_of, is_taken, name_taken, name_line, read_names}
 use Rattle.name_table.specs.Words.{name_word, named_in}

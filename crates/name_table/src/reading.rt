@@ -6,7 +6,7 @@ ghost use Rattle.name_table.specs.Outcomes.{took_naming, Long, names_got, line_c
 
 use crate::line::{ParsedName, parse};
 use text::Line;
-use words::{Reply, key_of};
+use words::{Refusal, key_of};
 
 // How long a text may be, and how many words it takes: a count, and a word a line. A line has at least six bytes.
 const BYTES: usize = 65_536;
@@ -107,22 +107,22 @@ fn read_lines(text: &[u8], words: &mut [u64]) -> GotNames
 }
 
 // Reads a name table into a state: the count of its lines, and a word a line. A refusal leaves the state as it was.
-pub fn read_names(text: &[u8], out: &mut [u64]) -> Reply
+pub fn read_names(text: &[u8], out: &mut [u64]) -> Result<(), Refusal>
     ensures { (result ≡ (read_names_in text.now out.old).reply) × (out.new ≡ (read_names_in text.now out.old).buffer) }
 {
     if out.len() < WORDS {
-        return Reply::Refused(31, 0);
+        return Err(Refusal::SHORT);
     }
     if BYTES < text.len() {
-        return Reply::Refused(15, 0);
+        return Err(Refusal { number: 15, place: 0 });
     }
     let mut words = [0u64; WORDS];
     match read_lines(text, &mut words) {
-        GotNames::Refused(line) => Reply::Refused(1, line),
+        GotNames::Refused(line) => Err(Refusal { number: 1, place: line }),
         GotNames::Lines(count) => {
             words[0] = count as u64;
             words::copy_rows(&words, out);
-            Reply::Done
+            Ok(())
         }
     }
 }

@@ -29,7 +29,7 @@ use Rattle.rows.specs.States.{all_words, rows_of, rows_in, holding}
 use Rattle.words.specs.Runs.{words_in, Wrote}
 use Rattle.rows.specs.StateLaws.{all_rows}
 use Rattle.rows.specs.declared.Kind.TheVariants.{Contribution}
-use Rattle.words.specs.declared.Reply.TheVariants.{Done, Refused}
+use Rattle.words.specs.Replies.{Done, Refused}
 use Rattle.words.specs.RunLaws.{wrote_length, wrote_more, taken_back, held_count}
 use Rattle.wrapped_paths.specs.Code.{rooted, path_at, paths_at, AllWithin}
 use Rattle.path_tries.specs.Nodes.{node_word, below_word, all_nodes, all_below, IsState, Became, leaf_of, any_deep, AllFit, chain_words, deeper_words, RunOf}

@@ -14,7 +14,7 @@ ghost use Rattle.wrapped_paths.specs.Code.{path_at, paths_at, AllWithin};
 ghost use Rattle.path_tries.specs.Nodes.{all_nodes, all_below, IsState, Became, PathsToAdd, leaf_of, any_deep, AllFit, chain_words, deeper_words, RunOf};
 
 use rows::{Kind, Row};
-use words::{Reply, larger, wide};
+use words::{larger, wide};
 use wrapped_paths::steps_at;
 
 // The words of a trie: its count and at most as many nodes as a contribution has. A path with its leaf has at most 24 more.
@@ -66,7 +66,7 @@ fn union_by(trie: &mut [u64], run: &[u64], united: &mut [u64]) -> bool
 {
     let end = trie[0] as usize + 1;
     let reply = union::union_rows(Kind::Contribution, &trie[1..end], run, united);
-    let Reply::Done = reply else {
+    let Ok(()) = reply else {
         return false;
     };
     words::copy_rows(united, trie);

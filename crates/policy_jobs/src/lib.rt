@@ -1,7 +1,7 @@
 // The jobs on policies: a manifest built of policy texts, also typed, and a step text analysed.
 #![tactic(auto)]
 
-use entity_manifest::{Kind, Reply};
+use entity_manifest::{Kind, Refusal};
 use files::{DONE, To};
 use forms::Form;
 use jobs::{SCHEMA, WORDS, load_schema, refuse, write_listing, write_typed};
@@ -22,7 +22,7 @@ fn add_policy(
     }
     let n = loaded.bytes;
     let reply = entity_manifest::add_policy(schema, &text[..n], manifest);
-    if let Reply::Refused(number, place) = reply {
+    if let Err(Refusal { number, place }) = reply {
         return refuse(to, line, i, count, Form::Policy, number, place, &text[..n]);
     }
     DONE
@@ -78,7 +78,7 @@ pub fn analyse(to: To, line: &[u8], request: u64) -> u64 {
     let n = loaded.bytes;
     let mut contribution = [0u64; 1_026];
     let reply = entity_manifest::analyse(&schema, request, &text[..n], &mut contribution);
-    if let Reply::Refused(number, place) = reply {
+    if let Err(Refusal { number, place }) = reply {
         return refuse(to, line, 6, 7, Form::Steps, number, place, &text[..n]);
     }
     write_listing(to, Kind::Contribution, &contribution)

@@ -22,8 +22,7 @@ use Rattle.listing_lines.specs.Lines.{ended_at, row_at}
 use Rattle.listing_lines.specs.LineLaws.{line_read}
 use Rattle.schema.specs.Items.{items_of}
 use Rattle.step_runs.specs.StepRuns.{TookLine}
-use Rattle.words.specs.declared.Reply.{Reply}
-use Rattle.words.specs.declared.Reply.TheVariants.{Done, Refused}
+use Rattle.words.specs.Replies.{Reply, Done, Refused}
 use Rattle.rows.specs.States.{Lent, rows_in, holding, storing}
 use Rattle.rows.specs.LentLaws.{stored_lent, lent_lawful}
 use Rattle.rows.specs.declared.Kind.TheVariants.{Contribution, Manifest}

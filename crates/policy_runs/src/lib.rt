@@ -18,7 +18,7 @@ use rows::Kind;
 use step_lines::Step;
 use step_runs::{StepTaken, step_line, write_contribution};
 use text::Line;
-use words::Reply;
+use words::Refusal;
 
 // What a line of a policy text is: an `A` line with its request type, or another one.
 #[derive(Drop)]
@@ -92,8 +92,8 @@ fn close(
     }
     write_contribution(reading.request, tries, reading.stack.tries, contribution);
     match unite_lawful(rows, contribution, united) {
-        Reply::Done => Closed::Done,
-        Reply::Refused(number, _) => Closed::Refused(number),
+        Ok(()) => Closed::Done,
+        Err(Refusal { number, place: _ }) => Closed::Refused(number),
     }
 }
 

@@ -10,7 +10,7 @@ use Rattle.rules.specs.Tries.{Row, ordered, entries_in, nodes_in, lawful}
 use Rattle.rules.proofs.TrieLaws.{Ordered, ordered_true}
 use Rattle.words.specs.Runs.{words_in}
 use Rattle.words.specs.RunLaws.{held_count}
-use Rattle.words.specs.declared.Reply.TheVariants.{Done}
+use Rattle.words.specs.Replies.{Done}
 use Rattle.rows.specs.Words.{word_of, row_in}
 use Rattle.rows.specs.WordLaws.{row_word, all_words_cons, word_row}
 use Rattle.rows.specs.States.{Lent, form_of, words_of, all_words, rows_of, lawful_state, holding, storing, rows_in}

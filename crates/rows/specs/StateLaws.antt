@@ -9,7 +9,8 @@ use Rattle.words.specs.Runs.{words_in}
 use Rattle.rows.specs.States.{form_of, words_of, all_words, rows_in, lawful_state, held_as, has_of}
 use Rattle.rows.specs.declared.Kind.{Kind}
 use Rattle.rows.specs.declared.Kind.TheVariants.{Contribution, Manifest}
-use Rattle.rows.specs.declared.place.Held.TheVariants.{Unheld}
+use Rattle.words.specs.Replies.{Refused}
+use Rattle.std.specs.Prelude.{Ok}
 
 -- ---- a lawful state
 
@@ -87,15 +88,15 @@ lawful_many kind state many =
 -- ---- places, by what was tested
 
 module _ (kind : Kind) (state place : List ℕ) where
-  pub has_short : length state < words_of kind → has_of kind state place ≡ Unheld 31 0
+  pub has_short : length state < words_of kind → has_of kind state place ≡ Refused 31 0
   unfolding has_of
   has_short h = rw (lt-leb (words_of kind) (length state) h)
 
   module _ (long : words_of kind ≤ length state) where
-    pub has_unlawful : lawful_state (form_of kind) state ≡ false → has_of kind state place ≡ Unheld 1 0
+    pub has_unlawful : lawful_state (form_of kind) state ≡ false → has_of kind state place ≡ Refused 1 0
     unfolding has_of
     has_unlawful e = rw (le-leb (words_of kind) (length state) long, e)
 
-    pub has_lawful : lawful_state (form_of kind) state ≡ true → has_of kind state place ≡ held_as (found [] (rows_in state) place)
+    pub has_lawful : lawful_state (form_of kind) state ≡ true → has_of kind state place ≡ Ok (held_as (found [] (rows_in state) place))
     unfolding has_of
     has_lawful e = rw (le-leb (words_of kind) (length state) long, e)

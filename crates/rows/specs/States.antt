@@ -7,9 +7,9 @@ use Rattle.rules.specs.Tries.{Row, Form, manifest, contribution, follows, ordere
 use Rattle.rows.specs.Words.{depth_in, is_word, row_in, word_of}
 use Rattle.rows.specs.declared.Kind.{Kind}
 use Rattle.rows.specs.declared.Kind.TheVariants.{Contribution, Manifest}
-use Rattle.words.specs.declared.Reply.TheVariants.{Done}
-use Rattle.rows.specs.declared.place.Held.{Held}
-use Rattle.rows.specs.declared.place.Held.TheVariants.{Missing, There, Unheld}
+use Rattle.words.specs.Replies.{Done, Refused}
+use Rattle.words.specs.declared.Refusal.{Refusal}
+use Rattle.std.specs.Prelude.{Option as Maybe, Some, None, Result, Ok}
 use Rattle.words.specs.Runs.{words_in, Outcome, refusing}
 
 -- the limits of each kind of state
@@ -65,15 +65,15 @@ storing out (accepted rows) = record { reply = Done; buffer = holding out rows }
 storing out (refused number place) = refusing number place out
 
 -- whether a state has a place, and whether it marks it
-abbrev pub held_as : Option Bool → Held
-held_as none = Missing
-held_as (some mark) = There mark
+abbrev pub held_as : Option Bool → Maybe Bool
+held_as none = None
+held_as (some mark) = Some mark
 
-unfoldable pub has_of : Kind → List ℕ → List ℕ → Held
+unfoldable pub has_of : Kind → List ℕ → List ℕ → Result (Maybe Bool) Refusal
 has_of kind state place =
     cond (leb (words_of kind) (length state))
-    (cond (lawful_state (form_of kind) state) (held_as (found [] (rows_in state) place)) (Unheld 1 0))
-    (Unheld 31 0)
+    (cond (lawful_state (form_of kind) state) (Ok (held_as (found [] (rows_in state) place))) (Refused 1 0))
+    (Refused 31 0)
 
 -- of words, all but those that are left are counted: so many entries and so many nodes
 pub record Counted (words rest : List ℕ) (entries nodes : ℕ) : Type 0 where

@@ -10,7 +10,7 @@ ghost use Rattle.std.specs.Prelude.{◌≡◌};
 ghost use Rattle.rows.specs.States.{words_of, form_of};
 
 pub use lawful::{is_lawful, is_lawful_entry};
-pub use place::{Held, has};
+pub use place::has;
 pub use row::{RequestType, Row, StepParts};
 
 // The kinds of state: rows with their count in front.

@@ -6,17 +6,10 @@ ghost use Rattle.rows.specs.States.{has_of, held_as, rows_of};
 use crate::Kind;
 use crate::lawful::is_lawful;
 use crate::row::Row;
-
-// What a state answers about a place: it is not there, it is there and marked or not, or the state is refused.
-#[derive(Drop)]
-pub enum Held {
-    Missing,
-    There(bool),
-    Unheld(u64, u64),
-}
+use words::Refusal;
 
 // Whether rows have a place: one pass that keeps how many of the place's steps lead to the last row.
-fn find(words: &[u64], place: &[u64]) -> Held
+fn find(words: &[u64], place: &[u64]) -> Option<bool>
     requires { ordered [] (rows_of words.now) ≡ true }
     ensures { result ≡ held_as (found [] (rows_of words.now) place.now) }
 {
@@ -31,26 +24,26 @@ fn find(words: &[u64], place: &[u64]) -> Held
                 if place[depth] == row.step() {
                     matched = depth + 1;
                     if matched == place.len() {
-                        return Held::There(row.is_marked());
+                        return Some(row.is_marked());
                     }
                 }
             }
         }
         i += 1;
     }
-    Held::Missing
+    None
 }
 
-// Whether a lawful state has a place, given as its request type and then the steps of a position.
-pub fn has(kind: Kind, state: &[u64], place: &[u64]) -> Held
+// Whether a lawful state has a place, given as its request type and then the steps of a position: and, if so, whether it is marked.
+pub fn has(kind: Kind, state: &[u64], place: &[u64]) -> Result<Option<bool>, Refusal>
     ensures { result ≡ has_of kind state.now place.now }
 {
     if state.len() < kind.words() {
-        return Held::Unheld(31, 0);
+        return Err(Refusal::SHORT);
     }
     if !is_lawful(kind, state) {
-        return Held::Unheld(1, 0);
+        return Err(Refusal::UNLAWFUL);
     }
     let end = state[0] as usize + 1;
-    find(&state[1..end], place)
+    Ok(find(&state[1..end], place))
 }

@@ -5,7 +5,7 @@ ghost use Rattle.std.specs.Prelude.{◌≤◌, length};
 
 use cases::{STDOUT_FILENO, print, print_refused};
 use text::Line;
-use words::Reply;
+use words::Refusal;
 
 // The longest text of a case, and the most words that an answer gives.
 const TEXT: usize = 200_000;
@@ -52,8 +52,8 @@ fn ask_text(line: &[u8]) {
     let mut state = [0u64; 142_337];
     let reply = schema_text::read_schema(&text[..n], &mut state);
     match reply {
-        Reply::Refused(number, place) => print_refused(number, place),
-        Reply::Done => {
+        Err(Refusal { number, place }) => print_refused(number, place),
+        Ok(()) => {
             print_words(&state);
             if !schema::is_lawful(&state) {
                 print(b" UNLAWFUL");
@@ -69,8 +69,8 @@ fn ask_names(line: &[u8]) {
     let mut state = [0u64; name_table::WORDS];
     let reply = name_table::read_names(&text[..n], &mut state);
     match reply {
-        Reply::Refused(number, place) => print_refused(number, place),
-        Reply::Done => print_words(&state),
+        Err(Refusal { number, place }) => print_refused(number, place),
+        Ok(()) => print_words(&state),
     }
 }
 

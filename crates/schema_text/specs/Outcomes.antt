@@ -4,7 +4,7 @@ use Rattle.std.proofs.lemmas.List.Edits.{sets}
 use Rattle.rules.specs.Numbers.{Answer, accepted, refused}
 use Rattle.rules.specs.Schema.{Item, read_schema}
 use Rattle.words.specs.Runs.{Outcome, refusing}
-use Rattle.words.specs.declared.Reply.TheVariants.{Done}
+use Rattle.words.specs.Replies.{Done}
 use Rattle.schema.specs.Items.{item_word, schema_words}
 
 -- reading: 31, then what the text gives by line

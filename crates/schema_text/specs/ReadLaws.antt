@@ -20,7 +20,7 @@ use Rattle.text.proofs.FoldLaws.{CameTo, came_start, came_end, came_cut, came_re
 use Rattle.text.specs.declared.Line.{Line}
 use Rattle.text.specs.declared.Line.TheVariants.{Whole}
 use Rattle.words.specs.Runs.{refusing}
-use Rattle.words.specs.declared.Reply.TheVariants.{Done}
+use Rattle.words.specs.Replies.{Done}
 use Rattle.text.proofs.FieldLaws.{place_within}
 use Rattle.words.specs.SeqLaws.{sets_snoc, set_before}
 use Rattle.schema.specs.declared.known.Known.{Known as Kept}

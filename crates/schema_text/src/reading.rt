@@ -6,7 +6,7 @@ ghost use Rattle.schema_text.specs.Reads.{ItemRoom, ItemTaken, ItemsRead, kept_a
 use crate::line::{ParsedItem, parse};
 use schema::{Known, Schema};
 use text::Line;
-use words::Reply;
+use words::Refusal;
 
 // What a line gives: where the schema has come to, or that it is not of the stated form or may not stand there.
 #[derive(Drop)]
@@ -76,18 +76,18 @@ fn read_items(text: &[u8], out: &mut [u64], stores: bool) -> GotItems
 }
 
 // Reads a schema's text into a state: judges it in a first pass and stores it in a second, so that a refusal leaves the state as it was.
-pub fn read_schema(text: &[u8], out: &mut [u64]) -> Reply
+pub fn read_schema(text: &[u8], out: &mut [u64]) -> Result<(), Refusal>
     ensures { (result ≡ (read_schema_in text.now out.old).reply) × (out.new ≡ (read_schema_in text.now out.old).buffer) }
 {
     if out.len() < Schema::WORDS {
-        return Reply::Refused(31, 0);
+        return Err(Refusal::SHORT);
     }
     match read_items(text, out, false) {
-        GotItems::Refused(line) => Reply::Refused(1, line),
+        GotItems::Refused(line) => Err(Refusal { number: 1, place: line }),
         GotItems::Items(count) => {
             read_items(text, out, true);
             out[0] = count;
-            Reply::Done
+            Ok(())
         }
     }
 }

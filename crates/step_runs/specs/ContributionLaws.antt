@@ -6,7 +6,7 @@ use Rattle.rules.specs.Listing.{read}
 use Rattle.rules.specs.Schema.{Item}
 use Rattle.rules.specs.Steps.{run, analyse}
 use Rattle.rows.specs.States.{holding}
-use Rattle.words.specs.declared.Reply.TheVariants.{Done, Refused}
+use Rattle.words.specs.Replies.{Done, Refused}
 use Rattle.result_stack.specs.Stacks.{trie_words}
 use Rattle.step_runs.specs.StepRuns.{Finished, AnswerStored}
 use Rattle.step_runs.specs.StepRunLaws.{ended_many, only_result, only_there}

@@ -6,7 +6,7 @@ use Rattle.rules.specs.Schema.{Item}
 use Rattle.rules.specs.Tries.{Row}
 use Rattle.rules.specs.Steps.{Result, step_line, run}
 use Rattle.rows.specs.States.{storing}
-use Rattle.words.specs.declared.Reply.{Reply}
+use Rattle.words.specs.Replies.{Reply}
 use Rattle.result_stack.specs.Stacks.{Held, Scratch}
 use Rattle.result_stack.specs.declared.Stack.{Stack}
 use Rattle.step_runs.specs.declared.StepTaken.{StepTaken}

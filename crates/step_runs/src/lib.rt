@@ -17,7 +17,7 @@ use rows::Row;
 use step_lines::{Step, parse};
 use steps::apply;
 use text::Line;
-use words::Reply;
+use words::Refusal;
 
 // What a step line makes of the stack: the next one, or a refusal's number, or that its runs are full.
 #[derive(Drop)]
@@ -38,7 +38,7 @@ pub enum Ran {
 // The reply to a text, or that the runs of the stack are full.
 #[derive(Drop)]
 pub enum Answered {
-    Reply(Reply),
+    Reply(Result<(), Refusal>),
     Full,
 }
 
@@ -156,13 +156,13 @@ pub fn answer_steps(
 {
     match run(words, table, types, text, code, tries, paths) {
         Ran::Full => Answered::Full,
-        Ran::Refused(number, line) => Answered::Reply(Reply::Refused(number, line)),
+        Ran::Refused(number, line) => Answered::Reply(Err(Refusal { number, place: line })),
         Ran::Stack(stack, lines) => {
             if stack.results != 1 {
-                return Answered::Reply(Reply::Refused(6, lines));
+                return Answered::Reply(Err(Refusal { number: 6, place: lines }));
             }
             write_contribution(request, tries, stack.tries, out);
-            Answered::Reply(Reply::Done)
+            Answered::Reply(Ok(()))
         }
     }
 }

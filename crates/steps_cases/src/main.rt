@@ -3,7 +3,7 @@
 #![tactic(auto)]
 
 use cases::print;
-use entity_manifest::{Kind, Reply, Written};
+use entity_manifest::{Kind, Refusal};
 use schema::Schema;
 use text::Line;
 
@@ -29,8 +29,8 @@ fn tell_listing(line: &[u8], kind: Kind, state: &[u64]) {
     let mut out = [0u8; TEXT];
     let written = entity_manifest::write_listing(kind, state, &mut out);
     match written {
-        Written::Refused(number, place) => tell_refused(line, number, place),
-        Written::Bytes(n) => {
+        Err(Refusal { number, place }) => tell_refused(line, number, place),
+        Ok(n) => {
             if n <= TEXT {
                 tell(line, b"\n", &out[..n]);
             }
@@ -45,8 +45,8 @@ fn ask_steps(line: &[u8], schema: &[u64]) {
     let mut state = [0u64; 1_026];
     let reply = entity_manifest::analyse(schema, 42_982_440_980, &text[..n], &mut state);
     match reply {
-        Reply::Refused(number, place) => tell_refused(line, number, place),
-        Reply::Done => tell_listing(line, Kind::Contribution, &state),
+        Err(Refusal { number, place }) => tell_refused(line, number, place),
+        Ok(()) => tell_listing(line, Kind::Contribution, &state),
     }
 }
 
@@ -55,7 +55,7 @@ fn add_text(line: &[u8], field: usize, schema: &[u64], manifest: &mut [u64]) -> 
     let mut text = [0u8; TEXT];
     let n = cases::decode_field(line, field, &mut text);
     let reply = entity_manifest::add_policy(schema, &text[..n], manifest);
-    if let Reply::Refused(number, place) = reply {
+    if let Err(Refusal { number, place }) = reply {
         tell_refused(line, number, place);
         return false;
     }
@@ -81,8 +81,8 @@ fn ask(line: &[u8]) {
     let mut state = [0u64; Schema::WORDS];
     let reply = entity_manifest::read_schema(&text[..n], &mut state);
     match reply {
-        Reply::Refused(number, place) => tell_refused(line, number, place),
-        Reply::Done => {
+        Err(Refusal { number, place }) => tell_refused(line, number, place),
+        Ok(()) => {
             if cases::is_word(line, 0, b"policy") {
                 ask_policies(line, &state);
             } else {

@@ -4,7 +4,7 @@ use Rattle.std.proofs.lemmas.List.Edits.{sets}
 use Rattle.rules.specs.Numbers.{Answer, accepted, refused, and_then}
 use Rattle.rules.specs.ValueTexts.{EntityRead, store_in_order, read_store}
 use Rattle.words.specs.Runs.{Outcome, refusing, stored}
-use Rattle.words.specs.declared.Reply.TheVariants.{Done}
+use Rattle.words.specs.Replies.{Done}
 use Rattle.store_text.specs.Words.{store_words}
 use Rattle.store_text.specs.Entities.{HoldsEntities}
 use Rattle.store_text.specs.declared.reading.GotLines.{GotLines}

@@ -15,7 +15,7 @@ use Rattle.text.specs.declared.Line.{Line}
 use Rattle.text.specs.declared.Line.TheVariants.{Whole}
 use Rattle.words.specs.Runs.{stored, refusing}
 use Rattle.words.specs.RunLaws.{stored_next}
-use Rattle.words.specs.declared.Reply.TheVariants.{Done}
+use Rattle.words.specs.Replies.{Done}
 use Rattle.values.specs.Lawful.{levels_in}
 use Rattle.store_text.specs.LineLaws.{line_formed}
 use Rattle.store_text.specs.Words.{store_words}

@@ -13,7 +13,7 @@ use Rattle.rules.proofs.TextLaws.{joined_by, joined_parted}
 use Rattle.rules.specs.ValueTexts.{StoreLine, StoreRead, EntityRead, store_read, entities_in, store_line_of, store_line, unordered_in, least_of, read_store}
 use Rattle.words.specs.Runs.{words_in}
 use Rattle.words.specs.RunLaws.{held_count}
-use Rattle.words.specs.declared.Reply.TheVariants.{Done, Refused}
+use Rattle.words.specs.Replies.{Done, Refused}
 use Rattle.store_text.specs.LineLaws.{line_formed}
 use Rattle.store_text.specs.Words.{store_words}
 use Rattle.store_text.specs.Entities.{All, EntityKept, HoldsEntities}

@@ -5,7 +5,7 @@ ghost use Rattle.store_text.specs.Outcomes.{LinesGot, line_count, store_got, sto
 use crate::order::first_unordered;
 use crate::taking::{Took, take_line};
 use text::Line;
-use words::Reply;
+use words::Refusal;
 
 // How long a text may be, and how many words it takes: a count, and a word a line. A line has at least four bytes.
 const BYTES: usize = 65_536;
@@ -73,22 +73,22 @@ fn read_ordered(text: &[u8], words: &mut [u64]) -> GotLines
 }
 
 // Reads a store's text into a state: the count of its lines, and a word a line. A refusal leaves the state as it was.
-pub fn read_store(text: &[u8], out: &mut [u64]) -> Reply
+pub fn read_store(text: &[u8], out: &mut [u64]) -> Result<(), Refusal>
     ensures { (result ≡ (read_store_in text.now out.old).reply) × (out.new ≡ (read_store_in text.now out.old).buffer) }
 {
     if out.len() < WORDS {
-        return Reply::Refused(31, 0);
+        return Err(Refusal::SHORT);
     }
     if BYTES < text.len() {
-        return Reply::Refused(15, 0);
+        return Err(Refusal { number: 15, place: 0 });
     }
     let mut words = [0u64; 16_385];
     match read_ordered(text, &mut words) {
-        GotLines::Refused(line) => Reply::Refused(1, line),
+        GotLines::Refused(line) => Err(Refusal { number: 1, place: line }),
         GotLines::Lines(count) => {
             words[0] = count as u64;
             words::copy_rows(&words, out);
-            Reply::Done
+            Ok(())
         }
     }
 }

@@ -4,9 +4,9 @@
 ghost use Rattle.std.specs.Prelude.{◌≤◌, ◌<◌, length};
 
 use cases::{kind_of, print, print_refused};
-use rows::{Held, Row};
+use rows::Row;
 use text::Line;
-use words::Reply;
+use words::Refusal;
 
 // The words of a manifest, and the places of a position with its request type.
 const WORDS: usize = 4_161;
@@ -114,14 +114,14 @@ fn ask_union(line: &[u8], a: &[u64], b: &[u64], want: &[u64]) {
     let mut out = [0u64; WORDS];
     let reply = union::union(kind_of(line), a, b, &mut out);
     match reply {
-        Reply::Done => {
+        Ok(()) => {
             if cases::has_rows(&out, want, &before) {
                 print(b"as expected");
             } else {
                 print(b"OTHER ROWS");
             }
         }
-        Reply::Refused(number, place) => print_refused(number, place),
+        Err(Refusal { number, place }) => print_refused(number, place),
     }
 }
 
@@ -131,8 +131,8 @@ fn ask_rust(line: &[u8], a: &[u64], b: &[u64], want: &[u64]) {
     let mut out = [0u64; WORDS];
     let reply = union::union(kind_of(line), a, b, &mut out);
     match reply {
-        Reply::Done => cases::say_rust(cases::has_rows(&out, want, &before)),
-        Reply::Refused(number, place) => {
+        Ok(()) => cases::say_rust(cases::has_rows(&out, want, &before)),
+        Err(Refusal { number, place }) => {
             print_refused(number, place);
             print(b", ");
             cases::say_rust(false);
@@ -158,17 +158,17 @@ fn read_steps(line: &[u8], place: &mut [u64]) -> usize
     n
 }
 
-fn say_held(held: Held) {
+fn say_held(held: Result<Option<bool>, Refusal>) {
     match held {
-        Held::Missing => print(b"missing"),
-        Held::There(marked) => {
+        Ok(None) => print(b"missing"),
+        Ok(Some(marked)) => {
             if marked {
                 print(b"there and marked");
             } else {
                 print(b"there");
             }
         }
-        Held::Unheld(number, place) => print_refused(number, place),
+        Err(Refusal { number, place }) => print_refused(number, place),
     }
 }
 

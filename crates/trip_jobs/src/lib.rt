@@ -3,7 +3,7 @@
 
 ghost use Rattle.std.specs.Prelude.{◌≡◌, ◌≤◌, ◌<◌, length};
 
-use entity_manifest::{Bound, TripBound, trip_bound};
+use entity_manifest::{TripBound, trip_bound};
 use files::{DONE, REFUSED, To};
 use jobs::{WORDS, load_listing, load_names};
 use row_labels::{ROOM, Sink, flush, put, put_entry, put_number, rows_end};
@@ -75,7 +75,7 @@ fn put_row(
         return sink;
     }
     let request = row.step();
-    let Bound::AtMost(bound) = trip_bound(manifest, request) else {
+    let Ok(bound) = trip_bound(manifest, request) else {
         return refused(sink);
     };
     put_request(sink, buffer, text, names, request, bound)

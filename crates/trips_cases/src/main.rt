@@ -4,10 +4,10 @@
 ghost use Rattle.std.specs.Prelude.{◌≤◌, length};
 
 use cases::{STDOUT_FILENO, print, print_refused};
-use entries::{Bound, TripBound};
+use entries::TripBound;
 use rows::Kind;
 use text::Line;
-use words::Reply;
+use words::Refusal;
 
 // The longest text of a case.
 const TEXT: usize = 65_536;
@@ -32,7 +32,7 @@ fn read_manifest(line: &[u8], state: &mut [u64]) -> bool {
     let mut text = [0u8; TEXT];
     let end = text_of(line, &mut text);
     let reply = listing::read_listing(Kind::Manifest, &text[..end], state);
-    if let Reply::Refused(number, place) = reply {
+    if let Err(Refusal { number, place }) = reply {
         print(b"LISTING ");
         print_refused(number, place);
         return false;
@@ -96,8 +96,8 @@ fn ask_bound(line: &[u8], state: &[u64]) {
     let words = lent(line, state.len());
     let bound = entries::trip_bound(&state[..words], request_of(line));
     match bound {
-        Bound::AtMost(most) => tell_bound(most),
-        Bound::Refused(number, place) => print_refused(number, place),
+        Ok(most) => tell_bound(most),
+        Err(Refusal { number, place }) => print_refused(number, place),
     }
 }
 

@@ -15,7 +15,7 @@ use node_types::{Fate, Places, fate_at};
 use rows::{Kind, Row};
 use schema::Schema;
 use type_table::{TypeSize, fill_table};
-use words::Reply;
+use words::Refusal;
 
 // What typing gives: so many rows that stay, or a refusal at a node.
 #[derive(Drop)]
@@ -78,7 +78,7 @@ fn type_rows(
 }
 
 // The rows typed by a schema's words; a refusal leaves the output as it was.
-fn type_manifest(words: &[u64], rows: &[u64], out: &mut [u64]) -> Reply
+fn type_manifest(words: &[u64], rows: &[u64], out: &mut [u64]) -> Result<(), Refusal>
     requires words_value { (good_items words.now ≡ true) × ((length words.now < 142337) × (length rows.now ≤ 4160)) }
     requires rows_value { (all_words rows.now ≡ true) × ((ordered [] (rows_of rows.now) ≡ true) × (4161 ≤ length out.old)) }
     ensures { (result ≡ (storing out.old (typed_rows (items_of words.now) (rows_of rows.now))).reply) × (out.new ≡ (storing out.old (typed_rows (items_of words.now) (rows_of rows.now))).buffer) }
@@ -98,33 +98,33 @@ fn type_manifest(words: &[u64], rows: &[u64], out: &mut [u64]) -> Reply
         rows,
         &mut kept,
     ) {
-        Typed::Refused(number, place) => Reply::Refused(number, place),
+        Typed::Refused(number, place) => Err(Refusal { number, place }),
         Typed::Rows(count) => {
             kept[0] = count;
             words::copy_rows(&kept, out);
-            Reply::Done
+            Ok(())
         }
     }
 }
 
 // Types a manifest by a schema; a refusal leaves the output as it was.
-pub fn to_typed(schema: &[u64], manifest: &[u64], out: &mut [u64]) -> Reply
+pub fn to_typed(schema: &[u64], manifest: &[u64], out: &mut [u64]) -> Result<(), Refusal>
     ensures { (result ≡ (typed_in schema.now manifest.now out.old).reply) × (out.new ≡ (typed_in schema.now manifest.now out.old).buffer) }
 {
     if schema.len() < Schema::WORDS {
-        return Reply::Refused(31, 0);
+        return Err(Refusal::SHORT);
     }
     if manifest.len() < Kind::Manifest.words() {
-        return Reply::Refused(31, 0);
+        return Err(Refusal::SHORT);
     }
     if out.len() < Kind::Manifest.words() {
-        return Reply::Refused(31, 0);
+        return Err(Refusal::SHORT);
     }
     if !schema::is_lawful(schema) {
-        return Reply::Refused(1, 0);
+        return Err(Refusal::UNLAWFUL);
     }
     if !rows::is_lawful(Kind::Manifest, manifest) {
-        return Reply::Refused(1, 0);
+        return Err(Refusal::UNLAWFUL);
     }
     let end = schema[0] as usize + 1;
     let last = manifest[0] as usize + 1;

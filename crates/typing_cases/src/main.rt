@@ -5,7 +5,7 @@
 ghost use Rattle.std.specs.Prelude.{◌≤◌, length};
 
 use cases::{STDOUT_FILENO, print, print_refused};
-use entity_manifest::{Kind, Reply, Written};
+use entity_manifest::{Kind, Refusal};
 use rows::Row;
 use text::Line;
 
@@ -37,8 +37,8 @@ fn text_of(line: &[u8], n: usize, many: &[u8], out: &mut [u8]) -> usize
 }
 
 // Whether a call was accepted; a refusal is told, after what was refused.
-fn is_done(reply: Reply, what: &[u8]) -> bool {
-    if let Reply::Refused(number, place) = reply {
+fn is_done(reply: Result<(), Refusal>, what: &[u8]) -> bool {
+    if let Err(Refusal { number, place }) = reply {
         print(what);
         print_refused(number, place);
         return false;
@@ -110,11 +110,11 @@ fn tell_manifest(state: &[u64]) {
     let mut out = [0u8; LISTING];
     let written = entity_manifest::write_listing(Kind::Manifest, state, &mut out);
     match written {
-        Written::Refused(number, place) => {
+        Err(Refusal { number, place }) => {
             print(b"UNLAWFUL ");
             print_refused(number, place);
         }
-        Written::Bytes(n) => {
+        Ok(n) => {
             if n <= LISTING {
                 tell_rows(&out[..n], state);
             }
@@ -137,10 +137,10 @@ fn tell_done(out: &[u64]) {
 }
 
 // Says what came of a call: what is in its output, or the refusal and whether the output changed.
-fn tell(reply: Reply, out: &[u64]) {
+fn tell(reply: Result<(), Refusal>, out: &[u64]) {
     match reply {
-        Reply::Done => tell_done(out),
-        Reply::Refused(number, place) => {
+        Ok(()) => tell_done(out),
+        Err(Refusal { number, place }) => {
             print_refused(number, place);
             tell_changes(out, 0);
         }
@@ -180,7 +180,7 @@ fn lent(whole: usize, line: &[u8], n: usize) -> usize
 }
 
 // Types a manifest with buffers of the lengths that a line gives.
-fn type_lent(line: &[u8], schema: &[u64], manifest: &[u64], out: &mut [u64]) -> Reply {
+fn type_lent(line: &[u8], schema: &[u64], manifest: &[u64], out: &mut [u64]) -> Result<(), Refusal> {
     let s = lent(schema.len(), line, 4);
     let m = lent(manifest.len(), line, 5);
     let o = lent(out.len(), line, 6);

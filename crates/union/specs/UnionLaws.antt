@@ -16,7 +16,7 @@ use Rattle.union.specs.Merge.{Decides}
 use Rattle.rows.specs.CountLaws.{counted_all}
 use Rattle.rows.specs.declared.Limits.{Limits}
 use Rattle.rows.specs.declared.Kind.{Kind}
-use Rattle.words.specs.declared.Reply.TheVariants.{Done}
+use Rattle.words.specs.Replies.{Done}
 use Rattle.rows.specs.StateLaws.{kind_room, all_rows}
 
 -- ---- the union of words

@@ -8,7 +8,7 @@ ghost use Rattle.rows.specs.States.{all_words, Counted};
 ghost use Rattle.union.specs.Merge.{key_at, next_key, UnionTurn, MergeRoom, Merged, below_at, CopiedBelow, Copied, Decides};
 
 use rows::{Kind, Limits, Row, is_lawful};
-use words::Reply;
+use words::Refusal;
 
 // How many rows of each run are passed, and the place of the next store.
 #[derive(Drop)]
@@ -273,43 +273,43 @@ fn union_roots(a: &[u64], b: &[u64], out: &mut [u64], c: Cursors, left: u64) -> 
 }
 
 // The union of two runs of rows in a state, within the limits of its kind: counted first, so that a refusal changes nothing.
-pub fn union_rows(kind: Kind, a: &[u64], b: &[u64], out: &mut [u64]) -> Reply
+pub fn union_rows(kind: Kind, a: &[u64], b: &[u64], out: &mut [u64]) -> Result<(), Refusal>
     requires { (all_words a.now ≡ true) × (all_words b.now ≡ true) × Roomy kind a.now b.now out.old }
     ensures { (result ≡ (union_into kind a.now b.now out.old).reply) × (out.new ≡ (union_into kind a.now b.now out.old).buffer) }
 {
     let limits = kind.limits();
     let size = judged_size(limits, a, b);
     if limits.entries < size.entries {
-        return Reply::Refused(5, 0);
+        return Err(Refusal { number: 5, place: 0 });
     }
     if limits.nodes < size.nodes {
-        return Reply::Refused(4, 0);
+        return Err(Refusal { number: 4, place: 0 });
     }
     let start = Cursors { a: 0, b: 0, out: 1 };
     let end = union_roots(a, b, out, start, Kind::STEPS);
     out[0] = end.out as u64 - 1;
-    Reply::Done
+    Ok(())
 }
 
 // The union of two lawful states of one kind in a third, within that kind's limits.
-pub fn union(kind: Kind, a: &[u64], b: &[u64], out: &mut [u64]) -> Reply
+pub fn union(kind: Kind, a: &[u64], b: &[u64], out: &mut [u64]) -> Result<(), Refusal>
     ensures { (result ≡ (union_of kind a.now b.now out.old).reply) × (out.new ≡ (union_of kind a.now b.now out.old).buffer) }
 {
     let words = kind.words();
     if a.len() < words {
-        return Reply::Refused(31, 0);
+        return Err(Refusal::SHORT);
     }
     if b.len() < words {
-        return Reply::Refused(31, 0);
+        return Err(Refusal::SHORT);
     }
     if out.len() < words {
-        return Reply::Refused(31, 0);
+        return Err(Refusal::SHORT);
     }
     if !is_lawful(kind, a) {
-        return Reply::Refused(1, 0);
+        return Err(Refusal::UNLAWFUL);
     }
     if !is_lawful(kind, b) {
-        return Reply::Refused(1, 0);
+        return Err(Refusal::UNLAWFUL);
     }
     let a_end = a[0] as usize + 1;
     let b_end = b[0] as usize + 1;

@@ -13,7 +13,7 @@ use Rattle.text.specs.Answers.{line_at}
 use Rattle.text.specs.declared.Line.{Line}
 use Rattle.text.specs.declared.Line.TheVariants.{Whole}
 use Rattle.text.proofs.Laws.{whole_line, cut_line}
-use Rattle.words.specs.declared.Reply.TheVariants.{Done, Refused}
+use Rattle.words.specs.Replies.{Done, Refused}
 use Rattle.value_text.specs.declared.request.RequestReply.TheVariants.{Done as DoneRequest}
 use Rattle.value_text.specs.Outcomes.{storing_rows, read_value_in}
 use Rattle.value_text.specs.Asking.{RequestOutcome, refusing_request, storing_request, read_request_in}

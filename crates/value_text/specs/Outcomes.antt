@@ -6,7 +6,7 @@ use Rattle.rules.specs.Text.{lines_of}
 use Rattle.rules.specs.ValueRows.{ValueRow}
 use Rattle.rules.specs.ValueTexts.{value_from_lines}
 use Rattle.words.specs.Runs.{Outcome, refusing}
-use Rattle.words.specs.declared.Reply.TheVariants.{Done}
+use Rattle.words.specs.Replies.{Done}
 use Rattle.values.specs.ValueWords.{value_word}
 
 -- docs/FORMS.md, 'Lent buffers': 1 count of rows + 8,192 rows

@@ -22,7 +22,7 @@ use Rattle.text.specs.declared.Line.{Line}
 use Rattle.text.specs.declared.Line.TheVariants.{Whole}
 use Rattle.words.specs.Runs.{stored, refusing}
 use Rattle.words.specs.RunLaws.{stored_next}
-use Rattle.words.specs.declared.Reply.TheVariants.{Done}
+use Rattle.words.specs.Replies.{Done}
 use Rattle.values.specs.ValueWords.{value_row_in, value_rows_of, value_word}
 use Rattle.values.specs.ValueWordLaws.{word_again}
 use Rattle.values.specs.Lawful.{levels_in}

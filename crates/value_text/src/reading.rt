@@ -7,7 +7,7 @@ ghost use Rattle.value_text.specs.Outcomes.{read_value_in};
 
 use crate::rows::{TookRow, first_misplaced, take_row};
 use text::Line;
-use words::Reply;
+use words::Refusal;
 
 // How many rows a value may have, and how many words it takes: a count and the rows.
 const ROWS: usize = 8_192;
@@ -75,20 +75,20 @@ fn read_ordered(text: &[u8], from: usize, place: u64, words: &mut [u64]) -> GotR
 
 // Reads the lines of a value from a place of a text on, the first of a number, into a state: its count and its rows. A refusal leaves the
 // state as it was.
-pub fn read_value(text: &[u8], from: usize, place: u64, out: &mut [u64]) -> Reply
+pub fn read_value(text: &[u8], from: usize, place: u64, out: &mut [u64]) -> Result<(), Refusal>
     requires { (from ≤ length text.now) × (place ≤ from) }
     ensures { (result ≡ (read_value_in place (drop from text.now) out.old).reply) × (out.new ≡ (read_value_in place (drop from text.now) out.old).buffer) }
 {
     if out.len() < WORDS {
-        return Reply::Refused(31, 0);
+        return Err(Refusal::SHORT);
     }
     let mut words = [0u64; 8_193];
     match read_ordered(text, from, place, &mut words) {
-        GotRows::Refused(line) => Reply::Refused(1, line),
+        GotRows::Refused(line) => Err(Refusal { number: 1, place: line }),
         GotRows::Rows(count) => {
             words[0] = count as u64;
             words::copy_rows(&words, out);
-            Reply::Done
+            Ok(())
         }
     }
 }

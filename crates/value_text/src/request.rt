@@ -7,7 +7,7 @@ ghost use Rattle.value_text.specs.Asking.{asked_read, asked_fields, read_request
 use crate::line::{Behind, after_letter};
 use crate::reading::{WORDS, read_value};
 use text::{Decimal, Line, Number, TAB};
-use words::Reply;
+use words::Refusal;
 
 // What a first line is read as: the request type, the principal and the resource, or not of the stated form.
 #[derive(Drop)]
@@ -70,7 +70,7 @@ pub fn read_request(text: &[u8], out: &mut [u64]) -> RequestReply
         return RequestReply::Refused(1, 0);
     };
     match read_value(text, end + 1, 1, out) {
-        Reply::Done => RequestReply::Done(request, principal, resource),
-        Reply::Refused(number, place) => RequestReply::Refused(number, place),
+        Ok(()) => RequestReply::Done(request, principal, resource),
+        Err(Refusal { number, place }) => RequestReply::Refused(number, place),
     }
 }

@@ -1,4 +1,5 @@
--- Runs of words: what copying and searching them leaves and answers.
+-- Runs of words: what operations on them answer, and what copying and searching them leaves and answers.
+pub mod Replies
 pub mod Runs
 pub mod SeqLaws
 pub mod RunLaws

@@ -1,8 +1,7 @@
 -- What a step of writing leaves, what a lent state's words are (docs/FORMS.md, 'Lent buffers'), and what an operation on it answers and leaves.
 use Rattle.std.specs.Prelude.{ℕ, ◌+◌, ◌≡◌, List, length, take, drop, get_or}
 use Rattle.std.proofs.lemmas.List.Edits.{sets}
-use Rattle.words.specs.declared.Reply.{Reply}
-use Rattle.words.specs.declared.Reply.TheVariants.{Refused}
+use Rattle.words.specs.Replies.{Reply, Refused}
 
 -- the words or bytes xs were written from the place `at` on, and at' is the place after them
 pub record Wrote {A : Type 0} (out : List A) (at : ℕ) (xs out' : List A) (at' : ℕ) : Type 0 where

@@ -7,11 +7,25 @@ ghost use Rattle.rules.specs.Facts.{capped, larger as larger_of};
 ghost use Rattle.words.specs.Keys.{key_in, searched};
 ghost use Rattle.words.specs.Runs.{Wrote};
 
-// What an operation answers: it is done, or refused with a number and a place.
-#[derive(Drop)]
-pub enum Reply {
-    Done,
-    Refused(u64, u64),
+// Why an operation refuses, and where: a number and a place of docs/FORMS.md, 'Numbers given back'.
+#[derive(Clone, Copy, PartialEq, Eq, Debug)]
+pub struct Refusal {
+    pub number: u64,
+    pub place: u64,
+}
+
+impl Refusal {
+    // A lent buffer is shorter than its one length.
+    pub const SHORT: Refusal = Refusal {
+        number: 31,
+        place: 0,
+    };
+
+    // A lent state is not a lawful one, or a number that is lent is not of its form.
+    pub const UNLAWFUL: Refusal = Refusal {
+        number: 1,
+        place: 0,
+    };
 }
 
 // The smaller of two numbers, the second a limit.

@@ -13,28 +13,32 @@ use Rattle.rows.specs.States.{rows_in, holding, storing}
 use Rattle.words.specs.RunLaws.{held_count, held_copied}
 use Rattle.manifest.specs.Outcomes.{united_rows}
 use Rattle.manifest.specs.UniteLaws.{same_reply, refused_kept, done_rows, added_most}
+use Rattle.std.proofs.lemmas.Result.{err_from_is_err_and}
 use Rattle.manifest.proofs.unite_lawful.Goals as goal
-use Rattle.manifest.proofs.unite_lawful.Goals.{In-Done}
+use Rattle.manifest.proofs.unite_lawful.Goals.{In_ok-unite}
 
-pub returns-in_default : goal.returns-in_default
-returns-in_default c =
+pub returns-in_err-unite : goal.returns-in_err-unite
+returns-in_err-unite c =
     let a = c.args in
-    let answer = united_rows a.manifest.now a.other.now in (
-      c.unite-reply.ensures.0 ∙ same_reply a.united.now a.manifest.now answer,
-      sym (refused_kept a.united.now a.manifest.now answer c.in_default.field-0 c.in_default.field-1 (sym c.unite-reply.ensures.0 ∙ c.in_default.is)),
+    let answer = united_rows a.manifest.now a.other.now in
+    let why = c.in_err-unite.field-0.0 in
+    let handed = err_from_is_err_and c.from_residual.result c.from_residual.ensures.1 in
+    rw (handed.1, handed.2) (
+      sym c.in_err-unite.was ∙ c.unite.ensures.0 ∙ same_reply a.united.now a.manifest.now answer,
+      sym (refused_kept a.united.now a.manifest.now answer why.number why.place (sym c.unite.ensures.0 ∙ c.in_err-unite.was)),
     )
 
 -- what was united are rows that fit a manifest
-united-rows : (c : In-Done) → let a = c.args in (rows : List Row) × (united_rows a.manifest.now a.other.now ≡ accepted rows) × (length rows ≤ 4160) × (c.unite-reply.new.united ≡ holding a.united.now rows)
+united-rows : (c : In_ok-unite) → let a = c.args in (rows : List Row) × (united_rows a.manifest.now a.other.now ≡ accepted rows) × (length rows ≤ 4160) × (c.unite.new.united ≡ holding a.united.now rows)
 united-rows c =
     let a = c.args in
     let answer = united_rows a.manifest.now a.other.now in
-    let (rows, e) = done_rows a.united.now answer (sym c.unite-reply.ensures.0 ∙ c.in-Done.is) in
-    (rows, e, added_most (rows_in a.manifest.now) (rows_in a.other.now) rows e, c.unite-reply.ensures.1 ∙ ap (λ (o : Answer (List Row)). (storing a.united.now o).buffer) e)
+    let (rows, e) = done_rows a.united.now answer (sym c.unite.ensures.0 ∙ c.in_ok-unite.was) in
+    (rows, e, added_most (rows_in a.manifest.now) (rows_in a.other.now) rows e, c.unite.ensures.1 ∙ ap (λ (o : Answer (List Row)). (storing a.united.now o).buffer) e)
 
 pub copy_rows-requires : goal.copy_rows-requires
 copy_rows-requires c =
-    let u = united-rows (goal.at.copy_rows-requires c).In-Done in
+    let u = united-rows (goal.at.copy_rows-requires c).In_ok-unite in
     let count = held_count c.args.united.now (map word_of u.0) (length-map u.0 word_of) (omega (arith, u.2, c.requires.in_bounds.1)) in (
       rw (u.3, count) (omega (arith, u.2, c.requires.in_bounds.1, length-sets c.args.united.now 0 (length u.0 ∷ map word_of u.0))),
       rw (u.3, count) (omega (arith, u.2, c.requires.in_bounds.0)),
@@ -43,7 +47,7 @@ copy_rows-requires c =
 pub returns : goal.returns
 returns c =
     let a = c.args in
-    let u = united-rows (goal.at.returns c).In-Done in
+    let u = united-rows (goal.at.returns c).In_ok-unite in
     let stored = ap (λ (o : Answer (List Row)). storing a.manifest.now o) u.1 in
     let copied = rw u.3 at c.copy_rows.ensures in (
       ap (λ (o : Outcome). o.reply) (sym stored),

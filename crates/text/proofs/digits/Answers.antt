@@ -2,13 +2,10 @@
 use native.Mathlib.Omega.{arith}
 use borrow.Author.Tests.{ltb-true, ltb-false}
 use mathlib.Core.Logic.{⊎_elim}
-use mathlib.Core.Path.{◌≡◌, refl, sym, ◌∙◌}
+use mathlib.Core.Path.{◌≡◌, sym, ◌∙◌}
 use lib.ListN.{length}
 use Rattle.text.proofs.Laws.{to_past, to_found, to_bad, to_more}
 use Rattle.text.proofs.digits.Goals as goal
-
-pub loop-i-init : goal.loop-i-init
-loop-i-init c = (c.requires.0, refl)
 
 pub returns-then-digit-b : goal.returns-then-digit-b
 returns-then-digit-b c = sym (c.loop-i.invariant.1 ∙ to_found _ _ _ _ c.loop-i-test.true c.if-digit-b.true)
@@ -19,12 +16,6 @@ returns-then-digit-lt48 c =
     (c.loop-i.invariant.1
     ∙ to_bad _ _ _ _ c.loop-i-test.true c.if-digit-b.false
     (λ low high fits. ⊎_elim (λ w. omega arith) (λ w. omega (arith, ltb-true)) c.then-digit-lt48.either))
-
-pub overflow_cast-value : goal.overflow_cast-value
-overflow_cast-value c = omega (arith, ltb-false)
-
-pub overflow_add-value : goal.overflow_add-value
-overflow_add-value c = omega (arith, ltb-false)
 
 pub returns-then-value-gt-MOST : goal.returns-then-value-gt-MOST
 returns-then-value-gt-MOST c =

@@ -28,12 +28,6 @@ returns-then-first-lt48 c =
     (number_undigit a.b a.s.now c.requires a.at c.if-s-at.false
     (λ low high. ⊎_elim (λ w. omega arith) (λ w. omega (arith, ltb-true)) c.then-first-lt48.either))
 
-pub overflow_cast-first : goal.overflow_cast-first
-overflow_cast-first c = omega (arith, ltb-false)
-
-pub digits-requires : goal.digits-requires
-digits-requires c = omega (arith, ltb-false)
-
 -- what the field is, by its digits
 by_digits : (c : After-digits) → let a = c.args in number_at a.b a.s.now a.at ≡ ending_before (length a.s.now) c.digits.result
 by_digits c =

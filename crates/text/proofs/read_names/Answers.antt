@@ -3,14 +3,14 @@ use Prim.Native.Nat.{◌-◌, ◌≤◌, ◌<◌}
 use native.Mathlib.Omega.{arith}
 use mathlib.Core.List.{[], ◌∷◌, ◌++◌}
 use mathlib.Core.Option.{some}
-use mathlib.Core.Path.{◌≡◌, refl, sym, ap, ◌∙◌}
+use mathlib.Core.Path.{◌≡◌, sym, ap, ◌∙◌}
 use borrow.Author.Tests.{lt-ltb, le-ltb}
 use mathlib.Core.Bool.{false}
 use lib.Dec.{ltb}
 use lib.ListN.{length, take, drop}
 use Rattle.rules.specs.Text.{decimal_of}
 use Rattle.text.specs.Answers.{number_of, NamesKept}
-use Rattle.text.proofs.NameLaws.{Scanned, scanned, naming_first, naming_past, naming_bad, naming_low, naming_room, naming_full, naming_next, naming_last}
+use Rattle.text.proofs.NameLaws.{Scanned, scanned, naming_past, naming_bad, naming_low, naming_room, naming_full, naming_next, naming_last}
 use Rattle.text.proofs.Laws.{value_most}
 use Rattle.text.proofs.read_names.Goals as goal
 use Rattle.text.proofs.read_names.Goals.{After-scan-end, In_ok-name, Joined-count-names, then-count-names, else-count-names}
@@ -42,9 +42,6 @@ room : (c : Joined-count-names) →
 room c =
     c.if-count-names.auto.names ∙ c.loop-from.invariant.1
 
-pub loop-from-init : goal.loop-from-init
-loop-from-init c = (omega arith, refl, naming_first _ _)
-
 pub slice_bounds-read_decimal-end : goal.slice_bounds-read_decimal-end
 slice_bounds-read_decimal-end c = omega (arith, ends (goal.at.slice_bounds-read_decimal-end c).After-scan-end)
 
@@ -55,9 +52,6 @@ returns-in_err-name c =
 pub returns-then-name-least : goal.returns-then-name-least
 returns-then-name-least c = naming_low c.loop-from.invariant.2 (ends (goal.at.returns-then-name-least c).After-scan-end).2 (value (goal.at.returns-then-name-least c).In_ok-name) c.if-name-least.true
 
-pub shape_of-names-then-end-line : goal.shape_of-names-then-end-line
-shape_of-names-then-end-line c = room (goal.at.shape_of-names-then-end-line c).Joined-count-names
-
 pub returns-then-end-line : goal.returns-then-end-line
 returns-then-end-line c =
     let last : ltb c.scan-end.result (length c.args.line.now) ≡ false = le-ltb c.scan-end.result (length c.args.line.now) (omega arith) in
@@ -65,12 +59,6 @@ returns-then-end-line c =
 
 pub overflow_add-least : goal.overflow_add-least
 overflow_add-least c = omega (arith, most (goal.at.overflow_add-least c).In_ok-name)
-
-pub overflow_add-from : goal.overflow_add-from
-overflow_add-from c = omega (arith, ends (goal.at.overflow_add-from c).After-scan-end)
-
-pub loop-from-smaller : goal.loop-from-smaller
-loop-from-smaller c = omega (arith, ends (goal.at.loop-from-smaller c).After-scan-end)
 
 pub loop-from-preserved : goal.loop-from-preserved
 loop-from-preserved c =

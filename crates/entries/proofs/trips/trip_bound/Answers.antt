@@ -10,7 +10,9 @@ use Rattle.rules.specs.Tries.{manifest}
 use Rattle.rows.specs.States.{lawful_state}
 use Rattle.rows.specs.StateLaws.{count_within, rows_ordered}
 use Rattle.entries.specs.BoundLaws.{bound_short, bound_unlawful, bound_lawful}
-use Rattle.entries.specs.declared.trips.Bound.TheVariants.{AtMost}
+use Rattle.words.specs.Replies.{Refused}
+use Rattle.std.specs.Prelude.{Result, Ok}
+use Rattle.words.specs.declared.Refusal.{Refusal}
 use Rattle.entries.proofs.trips.trip_bound.Goals as goal
 use Rattle.entries.proofs.trips.trip_bound.Goals.{Else-manifest-words, Else-not-is_lawful}
 
@@ -48,5 +50,5 @@ bound_in-requires c = rw add-sub_cancel (rows_ordered _ _ (lawful-state (goal.at
 pub returns : goal.returns
 returns c =
     let bound = simp add-sub_cancel at c.bound_in.ensures in
-    ap AtMost bound
+    ap Ok bound
     ∙ sym (bound_lawful _ _ (long (goal.at.returns c).Else-manifest-words) (rw (lawful-state (goal.at.returns c).Else-not-is_lawful, lt-ltb _ (2 ^ 48) c.if-request-ge281474976710656.false)))

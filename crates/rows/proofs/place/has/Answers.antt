@@ -1,7 +1,8 @@
 -- `rows::place::has` meets its contract: each test that fails gives its refusal, and what is left is the search in the state's rows.
 use Prim.Native.Nat.{◌≤◌, ◌<◌}
 use mathlib.Core.Bool.{true}
-use mathlib.Core.Path.{◌≡◌, sym, ◌∙◌}
+use mathlib.Core.Path.{◌≡◌, sym, ap, ◌∙◌}
+use Rattle.std.specs.Prelude.{Ok}
 use native.Mathlib.Nat.{add-sub_cancel}
 use native.Mathlib.Omega.{arith}
 use lib.ListN.{length, get_or}
@@ -41,4 +42,4 @@ find-requires c = rw add-sub_cancel (rows_ordered _ _ (lawful-state (goal.at.fin
 pub returns : goal.returns
 returns c =
     let searched = simp add-sub_cancel at c.find.ensures in
-    searched ∙ sym (has_lawful _ _ _ (long (goal.at.returns c).Else-state-words) (lawful-state (goal.at.returns c).Else-not-is_lawful))
+    ap Ok searched ∙ sym (has_lawful _ _ _ (long (goal.at.returns c).Else-state-words) (lawful-state (goal.at.returns c).Else-not-is_lawful))
