@@ -4,12 +4,11 @@ use native.Mathlib.Numerals.{add-one}
 use native.Mathlib.Omega.{arith}
 use mathlib.Core.Bool.{Bool, true, false, cond, ◌&&◌, and-true, and-false, and_assoc, and-eq-true_iff}
 use mathlib.Core.List.{List, [], ◌∷◌, map}
-use mathlib.Core.Logic.{◌≢◌}
 use mathlib.Core.Path.{◌≡◌, refl, sym, ◌∙◌}
 use borrow.Author.Tests.{lt-ltb, le-ltb, le-leb, lt-leb, leb-true}
 use lib.Dec.{leb, ltb, eqb}
 use lib.ListN.{length, take, drop, get_or, set, length-map, drop_of_length-le}
-use lib.Seq.{length-take-le, get_or-take, drop-cons}
+use lib.Seq.{length-take-le, drop-cons}
 use Rattle.rules.specs.Numbers.{most_steps}
 use Rattle.rules.specs.Tries.{Form, is_row, at, follows, ordered, entries_in, nodes_in}
 use Rattle.rules.specs.Facts.{by_test}
@@ -17,9 +16,12 @@ use Rattle.rules.specs.Walks.{walked}
 use Rattle.rules.proofs.WalkLaws.{kept_stored, went_start, orderly, OrderlyTo, orderly_end, orderly_next, orderly_refused}
 use Rattle.rules.proofs.TrieLaws.{follows_true}
 use Rattle.rows.specs.Words.{depth_in, step_in, is_word, row_in}
-use Rattle.rows.specs.States.{all_words, rows_of, good_rows, may_follow, lawful_state, Counted}
+use Rattle.rows.specs.States.{all_words, rows_of, good_rows, may_follow, counted_rows, lawful_state}
+use Rattle.rows.specs.Sizes.{Counted}
+use Rattle.rows.specs.declared.size.Size.{Size}
+use Rattle.std.specs.Prelude.{Some, None}
 use Rattle.words.specs.Runs.{words_in}
-use Rattle.rows.specs.CountLaws.{counted_none, counted_entry, counted_node, counted_all}
+use Rattle.rows.specs.CountLaws.{counted_none, counted_all}
 
 -- ---- one row
 
@@ -36,25 +38,28 @@ follow_depth s word h =
     let (after, shallow) = (and-eq-true_iff (follows s (row_in word)) _).0 place in
     ((follows_true s (row_in word) after).near, leb-true _ _ shallow)
 
-module _ (path : List ℕ) (len word : ℕ) (fits : len ≤ length path) where
-  -- after a place that is the front of a path, a row of at most 24 steps is judged by `follows`
-  module _ (whole : is_word word ≡ true) (shallow : depth_in word ≤ most_steps) where
-    follow_shallow : may_follow (take len path) word ≡ follows (take len path) (row_in word)
-    unfolding may_follow
-    follow_shallow = rw (whole, le-leb (depth_in word) most_steps shallow, and-true)
+-- after a place a row of at most 24 steps is judged by `follows`
+module _ (s : List ℕ) (word : ℕ) (whole : is_word word ≡ true) (shallow : depth_in word ≤ most_steps) where
+  follow_shallow : may_follow s word ≡ follows s (row_in word)
+  unfolding may_follow
+  follow_shallow = rw (whole, le-leb (depth_in word) most_steps shallow, and-true)
 
-    pub follow_above : depth_in word < len → may_follow (take len path) word ≡ ltb (get_or path (depth_in word) 0) (step_in word)
-    follow_above above = rw (follow_shallow, length-take-le len path, lt-ltb (depth_in word) len above, get_or-take)
+  pub follow_above : depth_in word < length s → may_follow s word ≡ ltb (get_or s (depth_in word) 0) (step_in word)
+  follow_above above = rw (follow_shallow, lt-ltb (depth_in word) (length s) above)
 
-    pub follow_level : len ≤ depth_in word → may_follow (take len path) word ≡ eqb (depth_in word) len
-    follow_level level = rw (follow_shallow, length-take-le len path, le-ltb (depth_in word) len level)
+  pub follow_level : length s ≤ depth_in word → may_follow s word ≡ eqb (depth_in word) (length s)
+  follow_level level = rw (follow_shallow, le-ltb (depth_in word) (length s) level)
 
-  -- the step of a row that may come, stored at its depth, makes the row's place the front
-  pub place_stored : most_steps < length path → may_follow (take len path) word ≡ true →
-      at (take len path) (row_in word) ≡ take (depth_in word + 1) (set path (depth_in word) (step_in word))
-  place_stored room next =
-      let (near, shallow) = follow_depth (take len path) word next in
-      sym (kept_stored path len (row_in word) (step_in word) (rw (length-take-le len path fits) at near) (omega arith))
+-- the step of a row that may come, stored at its depth, makes the row's place the front
+pub place_stored :
+    (path : List ℕ) (len word : ℕ)
+    → len ≤ length path
+    → most_steps < length path
+    → may_follow (take len path) word ≡ true
+    → at (take len path) (row_in word) ≡ take (depth_in word + 1) (set path (depth_in word) (step_in word))
+place_stored path len word fits room next =
+    let (near, shallow) = follow_depth (take len path) word next in
+    sym (kept_stored path len (row_in word) (step_in word) (rw (length-take-le len path fits) at near) (omega arith))
 
 -- ---- a pass over words
 
@@ -82,13 +87,13 @@ passed_none words = record {
 
 module _ {words s : List ℕ} {i entries nodes : ℕ} (passed : RowsPassed words s i entries nodes) where
   -- where no word is left, all is found
-  pub passed_all : length words ≤ i → (good_rows words ≡ true) × ((entries ≡ entries_in (rows_of words)) × (nodes ≡ nodes_in (rows_of words)))
+  pub passed_all : length words ≤ i → Some (record { entries = entries; nodes = nodes }) ≡ counted_rows words
   unfolding all_words
   passed_all h =
-      let none_left : drop i words ≡ [] = drop_of_length-le words h in (
-        rw (passed.whole, none_left, orderly_end s passed.went (rw (length-map words row_in) h)),
-        counted_all (rw none_left at passed.counted),
-      )
+      let none_left : drop i words ≡ [] = drop_of_length-le words h in
+      let good : good_rows words ≡ true = rw (passed.whole, none_left, orderly_end s passed.went (rw (length-map words row_in) h)) in
+      let (all_entries, all_nodes) = counted_all (rw none_left at passed.counted) in
+      rw (good, all_entries, all_nodes)
 
   module _ {word : ℕ} (more : i < length words) (here : get_or words i 0 ≡ word) where
     words_left : drop i words ≡ word ∷ drop (i + 1) words
@@ -100,20 +105,25 @@ module _ {words s : List ℕ} {i entries nodes : ℕ} (passed : RowsPassed words
     counted_left : Counted words (word ∷ drop (i + 1) words) entries nodes
     counted_left = rw words_left at passed.counted
 
-    -- where the next row may not come, the words are no rows in order
-    pub passed_bad : may_follow s word ≡ false → good_rows words ≡ false
+    out_of_order : may_follow s word ≡ false → good_rows words ≡ false
     unfolding may_follow all_words
-    passed_bad bad =
+    out_of_order bad =
         by_test (is_word word)
         (λ good.
         let refused : ordered [] (rows_of words) ≡ false = orderly_refused s passed.went rows_left (rw (rw good at bad, and-false)) in
         rw (refused, and-false))
         (λ no_word. rw (passed.whole, words_left, no_word))
 
+    -- where the next row may not come, the words are no rows in order
+    pub passed_bad : may_follow s word ≡ false → None ≡ counted_rows words
+    passed_bad bad = rw (out_of_order bad)
+
     -- where it may come, it is passed, and counted as what it is
     module _ (next : may_follow s word ≡ true) where
-      passed_row : {entries' nodes' : ℕ} → Counted words (drop (i + 1) words) entries' nodes' → entries' + nodes' ≡ i + 1 →
-          RowsPassed words (at s (row_in word)) (i + 1) entries' nodes'
+      pub passed_row : {entries' nodes' : ℕ} →
+          ((words rest : List ℕ) → Counted words (word ∷ rest) entries nodes → Counted words rest entries' nodes')
+          → entries' + nodes' ≡ i + 1
+          → RowsPassed words (at s (row_in word)) (i + 1) entries' nodes'
       unfolding may_follow is_word all_words
       passed_row counted each =
           let (good, place) = (and-eq-true_iff (is_word word) _).0 next in
@@ -122,15 +132,21 @@ module _ {words s : List ℕ} {i entries nodes : ℕ} (passed : RowsPassed words
             inside = omega arith;
             whole = passed.whole ∙ rw (words_left, good);
             went = orderly_next s passed.went rows_left (rw (row, place));
-            counted = counted;
+            counted = counted words (drop (i + 1) words) counted_left;
             each = each;
           }
 
-      pub passed_entry : depth_in word ≡ 0 → RowsPassed words (at s (row_in word)) (i + 1) (entries + 1) nodes
-      passed_entry e = passed_row (counted_entry counted_left e) (omega arith)
+-- ---- what a pass has found
 
-      pub passed_node : depth_in word ≢ 0 → RowsPassed words (at s (row_in word)) (i + 1) entries (nodes + 1)
-      passed_node e = passed_row (counted_node counted_left e) (omega arith)
+pub counted_none_by : (words : List ℕ) → None ≡ counted_rows words → good_rows words ≡ false
+counted_none_by words none_found = by_test (good_rows words) (λ good. cc) (λ e. e)
+
+pub counted_some_by :
+    (words : List ℕ) {size : Size}
+    → Some size ≡ counted_rows words
+    → (good_rows words ≡ true) × (size.entries ≡ entries_in (rows_of words)) × (size.nodes ≡ nodes_in (rows_of words))
+counted_some_by words found =
+    by_test (good_rows words) (λ good. (good, cc, cc)) (λ bad. cc)
 
 -- ---- a state
 
@@ -144,15 +160,13 @@ abbrev pub limits_met : Form → ℕ → ℕ → Bool
 limits_met form entries nodes = cond form.single (eqb entries 1) (leb entries form.entries) && leb nodes form.nodes
 
 -- a state that has as many as it counts is judged by what a pass over them finds
-pub lawful_found : (form : Form) (state : List ℕ) {words : List ℕ} {good : Bool} {entries nodes : ℕ} →
-    get_or state 0 0 < length state → words ≡ words_in state →
-    good ≡ good_rows words → (good ≡ true → entries ≡ entries_in (rows_of words)) → (good ≡ true → nodes ≡ nodes_in (rows_of words)) →
-    lawful_state form state ≡ good && limits_met form entries nodes
-unfolding lawful_state
-lawful_found form state {words} {good} {entries} {nodes} held same judged entries-found nodes_found =
-    rw (lt-ltb _ _ held, ← same, ← and_assoc (all_words words) _ _, ← judged) (go good entries-found nodes_found)
-  where
-    go : (good : Bool) → (good ≡ true → entries ≡ entries_in (rows_of words)) → (good ≡ true → nodes ≡ nodes_in (rows_of words)) →
-        good && limits_met form (entries_in (rows_of words)) (nodes_in (rows_of words)) ≡ good && limits_met form entries nodes
-    go true e n = rw (e refl, n refl)
-    go false e n = refl
+module _ (form : Form) (state : List ℕ) {words : List ℕ} (held : get_or state 0 0 < length state) (same : words ≡ words_in state) where
+  judged : lawful_state form state ≡ good_rows words && limits_met form (entries_in (rows_of words)) (nodes_in (rows_of words))
+  unfolding lawful_state
+  judged = rw (lt-ltb _ _ held, ← same, ← and_assoc (all_words words) _ _)
+
+  pub lawful_unordered : None ≡ counted_rows words → lawful_state form state ≡ false
+  lawful_unordered none_found = rw (judged, counted_none_by words none_found)
+
+  pub lawful_counted : {size : Size} → Some size ≡ counted_rows words → lawful_state form state ≡ limits_met form size.entries size.nodes
+  lawful_counted found = let (good, all_entries, all_nodes) = counted_some_by words found in rw (judged, good, all_entries, all_nodes)

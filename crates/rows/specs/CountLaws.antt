@@ -4,7 +4,8 @@ use Rattle.std.proofs.Common.{arith}
 use borrow.Author.Tests.{eq-eqb, ne_eqb}
 use Rattle.rules.specs.Tries.{count, entries_in, nodes_in}
 use Rattle.rows.specs.Words.{depth_in}
-use Rattle.rows.specs.States.{rows_of, Counted}
+use Rattle.rows.specs.Sizes.{Counted}
+use Rattle.rows.specs.States.{rows_of}
 
 -- nothing is counted
 pub counted_none : (words : List ℕ) → Counted words words 0 0

@@ -1,5 +1,5 @@
 -- What a lent state holds (docs/FORMS.md, 'Lent buffers'), and what each operation of `rows` answers and leaves.
-use Rattle.std.specs.Prelude.{ℕ, ◌+◌, ◌≤◌, Bool, true, false, cond, ◌&&◌, List, [], ◌∷◌, map, ltb, leb, eqb, length, get_or, ◌≡◌}
+use Rattle.std.specs.Prelude.{ℕ, ◌≤◌, Bool, true, false, cond, ◌&&◌, List, [], ◌∷◌, map, ltb, leb, eqb, length, get_or, ◌≡◌}
 use Rattle.std.proofs.Math.Option.{Option, none, some}
 use Rattle.std.proofs.lemmas.List.Edits.{sets}
 use Rattle.rules.specs.Numbers.{Answer, accepted, refused, most_steps}
@@ -10,6 +10,7 @@ use Rattle.rows.specs.declared.Kind.TheVariants.{Contribution, Manifest}
 use Rattle.words.specs.Replies.{Done, Refused}
 use Rattle.words.specs.declared.Refusal.{Refusal}
 use Rattle.std.specs.Prelude.{Option as Maybe, Some, None, Result, Ok}
+use Rattle.rows.specs.declared.size.Size.{Size}
 use Rattle.words.specs.Runs.{words_in, Outcome, refusing}
 
 -- the limits of each kind of state
@@ -33,6 +34,10 @@ rows_of words = map row_in words
 -- words that pack rows in the listing's order
 abbrev pub good_rows : List ℕ → Bool
 good_rows words = all_words words && ordered [] (rows_of words)
+
+-- how many entries and nodes words are, if they pack rows in the listing's order
+abbrev pub counted_rows : List ℕ → Maybe Size
+counted_rows words = cond (good_rows words) (Some (record { entries = entries_in (rows_of words); nodes = nodes_in (rows_of words) })) None
 
 -- a word that packs a row which may come after the place s
 unfoldable pub may_follow : List ℕ → ℕ → Bool
@@ -74,8 +79,3 @@ has_of kind state place =
     cond (leb (words_of kind) (length state))
     (cond (lawful_state (form_of kind) state) (Ok (held_as (found [] (rows_in state) place))) (Refused 1 0))
     (Refused 31 0)
-
--- of words, all but those that are left are counted: so many entries and so many nodes
-pub record Counted (words rest : List ℕ) (entries nodes : ℕ) : Type 0 where
-  pub all_entries : entries + entries_in (map row_in rest) ≡ entries_in (map row_in words)
-  pub all-nodes : nodes + nodes_in (map row_in rest) ≡ nodes_in (map row_in words)

@@ -1,23 +1,14 @@
 // The check that a lent state is lawful: one pass, no recursion.
-ghost use Rattle.std.specs.Prelude.{◌≡◌, true, ◌≤◌, length, take};
-ghost use Rattle.rules.specs.Tries.{entries_in, nodes_in};
-ghost use Rattle.rows.specs.States.{lawful_state, lawful_entry, form_of, good_rows, may_follow, rows_of};
+ghost use Rattle.std.specs.Prelude.{◌≡◌};
+ghost use Rattle.rows.specs.States.{lawful_state, lawful_entry, form_of, may_follow, counted_rows};
 
 use crate::Kind;
 use crate::row::Row;
+use crate::size::Size;
 
-// What a pass over rows has found: whether they are in order so far, and how many entries and nodes they are.
-#[derive(Drop)]
-struct Counts {
-    ordered: bool,
-    entries: u64,
-    nodes: u64,
-}
-
-// Whether a word packs a row that may come after a place: the first `len` steps of `path`.
-fn may_follow(path: &[u64], len: usize, row: Row) -> bool
-    requires { len ≤ length path.now }
-    ensures { result ≡ may_follow (take len path.now) row.word }
+// Whether a word packs a row that may come after a place, the steps of `path`.
+fn may_follow(path: &[u64], row: Row) -> bool
+    ensures { result ≡ may_follow path.now row.word }
 {
     if !row.is_word() {
         return false;
@@ -27,48 +18,31 @@ fn may_follow(path: &[u64], len: usize, row: Row) -> bool
         return false;
     }
     let at = depth as usize;
-    if at < len {
+    if at < path.len() {
         return path[at] < row.step();
     }
-    at == len
+    at == path.len()
 }
 
-// Whether words are rows in the listing's order, and how many entries and nodes there are.
-fn count_rows(words: &[u64]) -> Counts
-    ensures ordered_value { result.ordered ≡ good_rows words.now }
-    ensures entries_value { result.ordered ≡ true → result.entries ≡ entries_in (rows_of words.now) }
-    ensures nodes_value { result.ordered ≡ true → result.nodes ≡ nodes_in (rows_of words.now) }
+// How many entries and nodes words are, if they are rows in the listing's order.
+fn count_rows(words: &[u64]) -> Option<Size>
+    ensures { result ≡ counted_rows words.now }
 {
     // The place of the last row: the steps down to it.
     let mut path = [0u64; 25];
     let mut len: usize = 0;
-    let mut entries: u64 = 0;
-    let mut nodes: u64 = 0;
-    let mut i = 0;
-    while i < words.len() {
-        let row = Row { word: words[i] };
-        if !may_follow(&path[..], len, row) {
-            return Counts {
-                ordered: false,
-                entries: 0,
-                nodes: 0,
-            };
+    let mut size = Size::NONE;
+    for word in words {
+        let row = Row { word: *word };
+        if !may_follow(&path[..len], row) {
+            return None;
         }
         let at = row.depth() as usize;
         path[at] = row.step();
         len = at + 1;
-        if at == 0 {
-            entries += 1;
-        } else {
-            nodes += 1;
-        }
-        i += 1;
+        size = size.with(row);
     }
-    Counts {
-        ordered: true,
-        entries,
-        nodes,
-    }
+    Some(size)
 }
 
 // Whether a lent state is lawful.
@@ -88,10 +62,9 @@ pub fn is_lawful(kind: Kind, state: &[u64]) -> bool
         return false;
     }
     let end = count as usize + 1;
-    let found = count_rows(&state[1..end]);
-    if !found.ordered {
+    let Some(found) = count_rows(&state[1..end]) else {
         return false;
-    }
+    };
     let limits = kind.limits();
     if limits.nodes < found.nodes {
         return false;
@@ -106,10 +79,9 @@ pub fn is_lawful(kind: Kind, state: &[u64]) -> bool
 pub fn is_lawful_entry(words: &[u64]) -> bool
     ensures { result ≡ lawful_entry words.now }
 {
-    let found = count_rows(words);
-    if !found.ordered {
+    let Some(found) = count_rows(words) else {
         return false;
-    }
+    };
     if Kind::NODES < found.nodes {
         return false;
     }

@@ -5,6 +5,7 @@
 mod lawful;
 mod place;
 mod row;
+mod size;
 
 ghost use Rattle.std.specs.Prelude.{◌≡◌};
 ghost use Rattle.rows.specs.States.{words_of, form_of};
@@ -12,16 +13,17 @@ ghost use Rattle.rows.specs.States.{words_of, form_of};
 pub use lawful::{is_lawful, is_lawful_entry};
 pub use place::has;
 pub use row::{RequestType, Row, StepParts};
+pub use size::Size;
 
 // The kinds of state: rows with their count in front.
-#[derive(Clone, Copy)]
+#[derive(Clone, Copy, PartialEq, Eq, Debug)]
 pub enum Kind {
     Contribution,
     Manifest,
 }
 
 // What a state may hold.
-#[derive(Clone, Copy)]
+#[derive(Clone, Copy, PartialEq, Eq, Debug)]
 pub struct Limits {
     pub single: bool,
     pub entries: u64,

@@ -14,9 +14,8 @@ fn find(words: &[u64], place: &[u64]) -> Option<bool>
     ensures { result ≡ held_as (found [] (rows_of words.now) place.now) }
 {
     let mut matched: usize = 0;
-    let mut i = 0;
-    while i < words.len() {
-        let row = Row { word: words[i] };
+    for word in words {
+        let row = Row { word: *word };
         let depth = row.depth() as usize;
         if depth <= matched {
             matched = depth;
@@ -29,7 +28,6 @@ fn find(words: &[u64], place: &[u64]) -> Option<bool>
                 }
             }
         }
-        i += 1;
     }
     None
 }

@@ -32,7 +32,7 @@ fn is_root(step: u64) -> bool
 }
 
 // The parts of a request type's number.
-#[derive(Drop)]
+#[derive(Clone, Copy, PartialEq, Eq, Debug)]
 pub struct RequestType {
     pub principal: u64,
     pub action: u64,
@@ -52,7 +52,7 @@ impl RequestType {
 }
 
 // The parts of a step's number: its place in f p a r c e, and its id.
-#[derive(Drop)]
+#[derive(Clone, Copy, PartialEq, Eq, Debug)]
 pub struct StepParts {
     pub kind: u64,
     pub id: u64,
@@ -69,7 +69,7 @@ impl StepParts {
     }
 }
 
-#[derive(Clone, Copy)]
+#[derive(Clone, Copy, PartialEq, Eq, Debug)]
 pub struct Row {
     pub word: u64,
 }

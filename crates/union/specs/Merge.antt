@@ -1,5 +1,5 @@
 -- What a step of the union in `trie` keeps: with what is left of the union stored, the output is the same as before.
-use Rattle.std.specs.Prelude.{ℕ, ◌+◌, ◌-◌, ◌^◌, ◌≤◌, ◌<◌, ◌≡◌, Bool, cond, ◌&&◌, List, ◌∷◌, map, ltb, length, take, drop, get_or}
+use Rattle.std.specs.Prelude.{ℕ, ◌+◌, ◌-◌, ◌^◌, ◌≤◌, ◌<◌, ◌≡◌, cond, List, ◌∷◌, map, ltb, length, take, drop, get_or}
 use Rattle.std.proofs.lemmas.List.Edits.{sets}
 use Rattle.rules.specs.Tries.{entries_in, nodes_in}
 use Rattle.rows.specs.Words.{depth_in, row_in, rank_in}
@@ -38,15 +38,15 @@ pub record Merged (a b out : List ℕ) (i j k : ℕ) (out' : List ℕ) (i' j' k'
   pub placed : k' + length (left a b i' j') ≡ k + length (left a b i j)
   pub passed : i + j ≤ i' + j'
 
--- the row at a place is deeper than a depth
-abbrev pub below_at : List ℕ → ℕ → ℕ → Bool
-below_at rows at depth = ltb at (length rows) && ltb depth (depth_in (get_or rows at 0))
-
--- rows from a place on that are deeper than a depth were copied
-pub record CopiedBelow (depth : ℕ) (rows : List ℕ) (from : ℕ) (out : List ℕ) (to : ℕ) (out' : List ℕ) (end : ℕ) : Type 0 where
+-- rows from a place on are deeper than a depth
+pub record BelowTo (depth : ℕ) (rows : List ℕ) (from end : ℕ) : Type 0 where
   pub passed : from ≤ end
   pub inside : end ≤ length rows
   pub deeper : (k : ℕ) → from ≤ k → k < end → depth < depth_in (get_or rows k 0)
+
+-- and were copied
+pub record CopiedBelow (depth : ℕ) (rows : List ℕ) (from : ℕ) (out : List ℕ) (to : ℕ) (out' : List ℕ) (end : ℕ) : Type 0 where
+  pub below : BelowTo depth rows from end
   pub copied : out' ≡ sets out to (take (end - from) (drop from rows))
 
 -- the node at a place and rows below it were copied

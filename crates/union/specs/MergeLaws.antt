@@ -1,8 +1,7 @@
 -- Laws of the union of two runs of words, row by row, and of storing it (Merge). No contract cites this file.
-use Rattle.std.specs.Prelude.{ℕ, zero, suc, ◌+◌, ◌-◌, ◌^◌, ◌≤◌, ◌<◌, true, ◌≡◌, refl, List, [], ◌∷◌, ltb, take, set}
-use Rattle.std.proofs.Math.Bool.{and-eq-true_iff}
+use Rattle.std.specs.Prelude.{ℕ, zero, suc, ◌+◌, ◌-◌, ◌^◌, ◌≤◌, ◌<◌, min, true, ◌≡◌, refl, List, [], ◌∷◌, take, set}
 use Rattle.std.proofs.Math.Path.{sym}
-use Rattle.std.proofs.Common.{ap, ◌∙◌, le_refl, add-zero, add-suc, add_assoc, add-one, lt-ltb, le-ltb, ltb-true, ne_eqb, length-set, drop-cons, get_or-drop}
+use Rattle.std.proofs.Common.{ap, ◌∙◌, le_refl, add-zero, add-suc, add_assoc, add-one, lt-ltb, le-ltb, ne_eqb, length-set, drop-cons, get_or-drop}
 use native.Mathlib.Omega.{arith}
 use Rattle.std.proofs.Math.ListN.{length, drop, get_or, length-drop, drop_of_length-le}
 use Rattle.std.proofs.lemmas.List.Edits.{sets}
@@ -13,9 +12,10 @@ use Rattle.rows.specs.Words.{depth_in, rank_in, joined_word}
 use Rattle.union.specs.Unions.{union_words}
 use Rattle.rows.specs.WordLaws.{key_below, word_at}
 use Rattle.union.specs.UnionLaws.{union_words_nil, union_words_first, union_words_second, union_words_same}
-use Rattle.rows.specs.CountLaws.{counted_none, counted_entry, counted_node}
-use Rattle.rows.specs.States.{all_words, Counted}
-use Rattle.union.specs.Merge.{key_at, next_key, left, UnionTurn, MergeRoom, Merged, below_at, CopiedBelow, Copied}
+use Rattle.rows.specs.CountLaws.{counted_none}
+use Rattle.rows.specs.States.{all_words}
+use Rattle.rows.specs.Sizes.{Counted}
+use Rattle.union.specs.Merge.{key_at, next_key, left, UnionTurn, MergeRoom, Merged, CopiedBelow, Copied}
 
 -- ---- the key at a place of a run
 
@@ -35,6 +35,13 @@ merge_first a b i j x y e f h = rw (← e, ← f, lt-ltb x y h)
 pub merge_second : (a b : List ℕ) (i j x y : ℕ) → x ≡ key_at a i → y ≡ key_at b j → y ≤ x → y ≡ next_key a b i j
 unfolding next_key
 merge_second a b i j x y e f h = rw (← e, ← f, le-ltb x y h)
+
+pub next_key_min : (a b : List ℕ) (i j : ℕ) → next_key a b i j ≡ min (key_at a i) (key_at b j)
+unfolding next_key
+next_key_min a b i j =
+    compared (key_at a i) (key_at b j)
+    (λ h. rw (lt-ltb (key_at a i) (key_at b j) h) (omega arith))
+    (λ h. rw (le-ltb (key_at a i) (key_at b j) h) (omega arith))
 
 -- what is at most the next key is at most both
 next_least : (a b : List ℕ) (i j n : ℕ) → n ≤ next_key a b i j → (n ≤ key_at a i) × (n ≤ key_at b j)
@@ -155,39 +162,6 @@ stored_length {a} {b} {out} {out'} {i} {j} {k} {i'} {j'} {k'} stored =
 deeper_first : (x y : ℕ) → depth_in x < depth_in y → rank_in y < rank_in x
 deeper_first x y h = let node = ne_eqb (depth_in y) 0 (λ e. omega arith) in rw node (omega arith)
 
-pub below-at : (rows : List ℕ) (at depth : ℕ) → below_at rows at depth ≡ true → (at < length rows) × (depth < depth_in (get_or rows at 0))
-below-at rows at depth h =
-    let both = (and-eq-true_iff (ltb at (length rows)) (ltb depth (depth_in (get_or rows at 0)))).0 h in
-    (ltb-true _ _ both.0, ltb-true _ _ both.1)
-
--- nothing below a depth is copied, and then one row more
-pub below_none : (depth : ℕ) (rows out : List ℕ) (from to : ℕ) → from ≤ length rows → CopiedBelow depth rows from out to out (from + 0)
-below_none depth rows out from to h = record {
-  passed = omega arith;
-  inside = omega arith;
-  deeper = λ k least less. absurd (omega arith);
-  copied = let none : from + 0 - from ≡ 0 = omega arith in rw none;
-}
-
-pub below_next :
-    {depth from to : ℕ} {rows out out' : List ℕ} (count : ℕ)
-    → CopiedBelow depth rows from out to out' (from + count)
-    → from + count < length rows
-    → depth < depth_in (get_or rows (from + count) 0)
-    → CopiedBelow depth rows from out to (set out' (to + count) (get_or rows (from + count) 0)) (from + (count + 1))
-below_next {depth} {from} {to} {rows} {out} {out'} count copied inside h = record {
-  passed = omega arith;
-  inside = omega arith;
-  deeper = λ k least less.
-      compared k (from + count) (λ before. copied.deeper k least before)
-      (λ last. let same : k ≡ from + count = omega arith in rw same h);
-  copied =
-      let so_far : out' ≡ sets out to (take count (drop from rows)) = let many : from + count - from ≡ count = omega arith in rw many at copied.copied in
-      let one_more = rw get_or-drop at (copied_next (drop from rows) out to count (omega (arith, length-drop from rows))) in
-      let many : from + (count + 1) - from ≡ count + 1 = omega arith in
-      rw (so_far, many) one_more;
-}
-
 -- a node is copied, and then what is below it
 pub node_copied :
     {at to end : ℕ} {rows out out' : List ℕ}
@@ -195,11 +169,11 @@ pub node_copied :
     → CopiedBelow (depth_in (get_or rows at 0)) rows (at + 1) (set out to (get_or rows at 0)) (to + 1) out' end
     → Copied rows at out to out' end
 node_copied {at} {to} {end} {rows} {out} h below = record {
-  some_row = omega (arith, below.passed);
-  inside = below.inside;
-  deeper = λ k more less. below.deeper k (omega arith) less;
+  some_row = omega (arith, below.below.passed);
+  inside = below.below.inside;
+  deeper = λ k more less. below.below.deeper k (omega arith) less;
   copied =
-      let many : end - at ≡ suc (end - (at + 1)) = omega (arith, below.passed) in
+      let many : end - at ≡ suc (end - (at + 1)) = omega (arith, below.below.passed) in
       rw (many, rest_of rows at h) (rw (add-one to) at below.copied);
 }
 
@@ -291,13 +265,12 @@ pub size_none : (a b : List ℕ) → Counted (union_words a b) (left a b 0 0) 0 
 unfolding left
 size_none a b = counted_none (union_words a b)
 
--- the next row is counted as what it is
+-- the next row is counted with what was counted before
 module _ {words a b : List ℕ} {i j w i' j' entries nodes : ℕ} where
-  pub size_entry : Counted words (left a b i j) entries nodes → UnionTurn a b i j w i' j' → depth_in w ≡ 0 → Counted words (left a b i' j') (entries + 1) nodes
-  size_entry counted turn h = counted_entry (rw turn.taken at counted) h
-
-  pub size_node : Counted words (left a b i j) entries nodes → UnionTurn a b i j w i' j' → (depth_in w ≡ 0 → ⊥) → Counted words (left a b i' j') entries (nodes + 1)
-  size_node counted turn h = counted_node (rw turn.taken at counted) h
+  pub size_next : {entries' nodes' : ℕ} → Counted words (left a b i j) entries nodes → UnionTurn a b i j w i' j' →
+      ((words rest : List ℕ) → Counted words (w ∷ rest) entries nodes → Counted words rest entries' nodes') →
+      Counted words (left a b i' j') entries' nodes'
+  size_next counted turn with_row = with_row words (left a b i' j') (rw turn.taken at counted)
 
 -- ---- the whole union
 

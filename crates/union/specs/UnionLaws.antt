@@ -7,7 +7,8 @@ use Rattle.rules.specs.Tries.{union, entries_in, nodes_in}
 use Rattle.rules.proofs.TrieLaws.{union_nil_left, union_nil_right, union_first, union_second, union_same, union_sum-length, union_sum_entries, union_sum_nodes}
 use Rattle.rows.specs.Words.{row_in, is_word, rank_in, joined_word}
 use Rattle.union.specs.Unions.{union_words_onto, union_words, union_into, Roomy, union_of}
-use Rattle.rows.specs.States.{all_words, form_of, words_of, rows_of, lawful_state, Counted}
+use Rattle.rows.specs.States.{all_words, form_of, words_of, rows_of, lawful_state}
+use Rattle.rows.specs.Sizes.{Counted}
 use Rattle.std.proofs.lemmas.List.{length-map}
 use Rattle.std.proofs.lemmas.List.Edits.{sets}
 use Rattle.rows.specs.WordLaws.{words_rows, all_words_cons, next_first, next_second, next_same, next-word, joined_row, joined-word}

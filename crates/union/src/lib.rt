@@ -4,14 +4,15 @@
 
 ghost use Rattle.std.specs.Prelude.{◌≡◌, ◌≢◌, true, [], ◌+◌, ◌*◌, ◌^◌, ◌<◌, ◌≤◌, length};
 ghost use Rattle.union.specs.Unions.{union_words, union_of, union_into, Roomy};
-ghost use Rattle.rows.specs.States.{all_words, Counted};
-ghost use Rattle.union.specs.Merge.{key_at, next_key, UnionTurn, MergeRoom, Merged, below_at, CopiedBelow, Copied, Decides};
+ghost use Rattle.rows.specs.States.{all_words};
+ghost use Rattle.rows.specs.Sizes.{Counted};
+ghost use Rattle.union.specs.Merge.{key_at, next_key, UnionTurn, MergeRoom, Merged, BelowTo, CopiedBelow, Copied, Decides};
 
-use rows::{Kind, Limits, Row, is_lawful};
-use words::Refusal;
+use rows::{Kind, Limits, Row, Size, is_lawful};
+use words::{Refusal, copy_words};
 
 // How many rows of each run are passed, and the place of the next store.
-#[derive(Drop)]
+#[derive(Clone, Copy, PartialEq, Eq, Debug)]
 struct Cursors {
     a: usize,
     b: usize,
@@ -19,18 +20,11 @@ struct Cursors {
 }
 
 // A row of a union, and how many rows of each run are passed with it.
-#[derive(Drop)]
+#[derive(Clone, Copy, PartialEq, Eq, Debug)]
 struct Taken {
     word: u64,
     a: usize,
     b: usize,
-}
-
-// How many entries and nodes a union has.
-#[derive(Drop)]
-struct Size {
-    entries: u64,
-    nodes: u64,
 }
 
 // The key of the row at a place, or END past the last.
@@ -48,9 +42,7 @@ fn key_at(rows: &[u64], at: usize) -> u64
 fn next_key(a: &[u64], b: &[u64], i: usize, j: usize) -> u64
     ensures { result ≡ next_key a.now b.now i j }
 {
-    let x = key_at(a, i);
-    let y = key_at(b, j);
-    if x < y { x } else { y }
+    key_at(a, i).min(key_at(b, j))
 }
 
 // The next row of either run, or of both where they have the same node, and how many rows of each are passed then.
@@ -88,22 +80,16 @@ fn union_size(a: &[u64], b: &[u64]) -> Size
     requires { (all_words a.now ≡ true) × (all_words b.now ≡ true) }
     ensures { Counted (union_words a.now b.now) [] result.entries result.nodes }
 {
-    let mut entries: u64 = 0;
-    let mut nodes: u64 = 0;
+    let mut size = Size::NONE;
     let mut i = 0;
     let mut j = 0;
     while next_key(a, b, i, j) < Row::END {
         let next = next_row(a, b, i, j);
-        let row = Row { word: next.word };
-        if row.depth() == 0 {
-            entries += 1;
-        } else {
-            nodes += 1;
-        }
+        size = size.with(Row { word: next.word });
         i = next.a;
         j = next.b;
     }
-    Size { entries, nodes }
+    size
 }
 
 // How many entries and nodes rows are.
@@ -111,19 +97,11 @@ fn row_size(rows: &[u64]) -> Size
     ensures counted { Counted rows.now [] result.entries result.nodes }
     ensures nodes_value { result.entries + result.nodes ≡ length rows.now }
 {
-    let mut entries: u64 = 0;
-    let mut nodes: u64 = 0;
-    let mut i = 0;
-    while i < rows.len() {
-        let row = Row { word: rows[i] };
-        i += 1;
-        if row.depth() == 0 {
-            entries += 1;
-        } else {
-            nodes += 1;
-        }
+    let mut size = Size::NONE;
+    for word in rows {
+        size = size.with(Row { word: *word });
     }
-    Size { entries, nodes }
+    size
 }
 
 // The size that decides whether the union of two runs is within limits: the sum of both where that is within, or else its own.
@@ -144,15 +122,18 @@ fn judged_size(limits: Limits, a: &[u64], b: &[u64]) -> Size
     Size { entries, nodes }
 }
 
-// Whether the row at a place is deeper than a depth.
-fn is_below(rows: &[u64], at: usize, depth: u64) -> bool
-    ensures { result ≡ below_at rows.now at depth }
+// The place after the rows from a place on that are deeper than a depth.
+fn below_end(rows: &[u64], from: usize, depth: u64) -> usize
+    requires { from ≤ length rows.now }
+    ensures { BelowTo depth rows.now from result }
 {
-    if rows.len() <= at {
-        return false;
+    for at in from..rows.len() {
+        let row = Row { word: rows[at] };
+        if row.depth() <= depth {
+            return at;
+        }
     }
-    let row = Row { word: rows[at] };
-    depth < row.depth()
+    rows.len()
 }
 
 // Copies rows from a place on while they are deeper than a depth, and answers the place after them.
@@ -160,12 +141,9 @@ fn copy_below(rows: &[u64], from: usize, depth: u64, out: &mut [u64], to: usize)
     requires { (from ≤ length rows.now) × (to + length rows.now ≤ from + length out.old) }
     ensures { CopiedBelow depth rows.now from out.old to out.new result }
 {
-    let mut count = 0;
-    while is_below(rows, from + count, depth) {
-        out[to + count] = rows[from + count];
-        count += 1;
-    }
-    from + count
+    let end = below_end(rows, from, depth);
+    copy_words(&rows[from..end], out, to);
+    end
 }
 
 // Copies the node at a place and all below it, and answers the place after them.

@@ -20,14 +20,12 @@ returns-then-depth-gt-STEPS c = sym (follow_deep _ _ (omega arith))
 whole : (c : Else-not-is_word) → is_word c.args.row.word ≡ true
 whole c = sym c.is_word.ensures ∙ c.if-not-is_word.false
 
-pub returns-then-at-len : goal.returns-then-at-len
-returns-then-at-len c =
-    let a = c.args in
+pub returns-then-at-path : goal.returns-then-at-path
+returns-then-at-path c =
     rw (c.depth-depth.ensures, c.step.ensures)
-    (sym (follow_above a.path.now a.len _ (omega arith) (whole (goal.at.returns-then-at-len c).Else-not-is_word) (omega arith) (omega arith)))
+    (sym (follow_above c.args.path.now _ (whole (goal.at.returns-then-at-path c).Else-not-is_word) (omega arith) (omega arith)))
 
 pub returns : goal.returns
 returns c =
-    let a = c.args in
     rw c.depth-depth.ensures
-    (sym (follow_level a.path.now a.len _ (omega arith) (whole (goal.at.returns c).Else-not-is_word) (omega arith) (omega arith)))
+    (sym (follow_level c.args.path.now _ (whole (goal.at.returns c).Else-not-is_word) (omega arith) (omega arith)))

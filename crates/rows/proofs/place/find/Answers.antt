@@ -14,8 +14,8 @@ use Rattle.rows.specs.Words.{row_in}
 use Rattle.rows.proofs.place.find.Goals as goal
 use Rattle.rows.proofs.place.find.Goals.{After-depth-depth, then-depth-matched+then-depth-place+then-place-depth+else-matched-place, then-depth-matched+then-depth-place+else-place-depth, then-depth-matched+else-depth-place, else-depth-matched}
 
-pub loop-i-init : goal.loop-i-init
-loop-i-init c = (omega arith, sought_first _ _ c.requires)
+pub loop-word-init : goal.loop-word-init
+loop-word-init c = (omega arith, sought_first _ _ c.requires)
 
 -- the row at `i` is the next
 next_row :
@@ -23,21 +23,21 @@ next_row :
     let args = c.args in
     Sought
     (found [] (rows_of args.words.now) args.place.now)
-    (row_in (get_or args.words.now c.loop-i.i 0) ∷ rows_of (drop (c.loop-i.i + 1) args.words.now))
+    (row_in (get_or args.words.now c.loop-word.word-index 0) ∷ rows_of (drop (c.loop-word.word-index + 1) args.words.now))
     args.place.now
-    c.loop-i.matched
+    c.loop-word.matched
 next_row c =
-    let next : drop c.loop-i.i c.args.words.now ≡ get_or c.args.words.now c.loop-i.i 0 ∷ drop (c.loop-i.i + 1) c.args.words.now = rw (add-one, drop-cons c.args.words.now c.loop-i.i 0 c.loop-i-test.true) in
-    rw next at c.loop-i.invariant.1
+    let next : drop c.loop-word.word-index c.args.words.now ≡ get_or c.args.words.now c.loop-word.word-index 0 ∷ drop (c.loop-word.word-index + 1) c.args.words.now = rw (add-one, drop-cons c.args.words.now c.loop-word.word-index 0 c.loop-word-test.true) in
+    rw next at c.loop-word.invariant.1
 
 pub returns-then-matched-place : goal.returns-then-matched-place
 returns-then-matched-place c =
     let same = (rw c.depth-depth.ensures at c.if-place-depth.true) ∙ c.step.ensures in
     rw (sought_here (next_row (goal.at.returns-then-matched-place c).After-depth-depth) (omega arith) (omega arith) same (omega arith), c.is_marked.ensures)
 
-pub loop-i-preserved : goal.loop-i-preserved
-loop-i-preserved c =
-    let q = next_row (goal.at.loop-i-preserved c).After-depth-depth in (
+pub loop-word-preserved : goal.loop-word-preserved
+loop-word-preserved c =
+    let q = next_row (goal.at.loop-word-preserved c).After-depth-depth in (
       omega arith,
       elim c.if-depth-matched.branch [
         | then-depth-matched+then-depth-place+then-place-depth+else-matched-place w ↦ rw (w.matched-is, c.depth-depth.ensures) (sought_step q (omega arith) (omega arith) ((rw c.depth-depth.ensures at w.if-place-depth.true) ∙ w.step.ensures) (omega arith))
@@ -49,4 +49,4 @@ loop-i-preserved c =
 
 pub returns : goal.returns
 returns c =
-    rw (sought_last (rw (drop_of_length-le c.args.words.now c.loop-i-test.false) at c.loop-i.invariant.1))
+    rw (sought_last (rw (drop_of_length-le c.args.words.now c.loop-word-test.false) at c.loop-word.invariant.1))
