@@ -26,8 +26,7 @@ impl Places {
         let mut count = 0;
         let mut literals = 0;
         let mut actions = 0;
-        let mut at = 0;
-        while at < words.len() {
+        for at in 0..words.len() {
             let item = Item::of(words[at]);
             if item.tag == Item::ENTITY_LINE {
                 entities[count] = item.key * 0x100_0000_0000 + at as u64;
@@ -39,7 +38,6 @@ impl Places {
             if item.tag <= Item::LITERAL_LINE {
                 actions = at + 1;
             }
-            at += 1;
         }
         Places {
             entities: count,

@@ -18,9 +18,8 @@ fn are_items(words: &[u64]) -> bool
     ensures { result ≡ good_items words.now }
 {
     let mut known = Known::new();
-    let mut i = 0;
-    while i < words.len() {
-        let item = Item::of(words[i]);
+    for word in words {
+        let item = Item::of(*word);
         if !item.is_item() {
             return false;
         }
@@ -28,7 +27,6 @@ fn are_items(words: &[u64]) -> bool
             return false;
         }
         known = known.beyond(item);
-        i += 1;
     }
     true
 }

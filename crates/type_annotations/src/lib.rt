@@ -44,8 +44,7 @@ fn type_rows(
     let mut request = 0;
     let mut entries = 0;
     let mut count = 0;
-    let mut i = 0;
-    while i < rows.len() {
+    for i in 0..rows.len() {
         let row = Row { word: rows[i] };
         let depth = row.depth() as usize;
         if depth == 0 {
@@ -72,7 +71,6 @@ fn type_rows(
                 }
             }
         }
-        i += 1;
     }
     Typed::Rows(count as u64)
 }

@@ -115,14 +115,12 @@ pub fn fill_table(words: &[u64], table: &mut [u64]) -> u64
     ensures { (result ≡ types_in (items_of words.now)) × Tabled words.now table.new result }
 {
     let mut types: u64 = 0;
-    let mut at = 0;
-    while at < words.len() {
+    for at in 0..words.len() {
         if Item::of(words[at]).tag <= Item::LAST {
             let t = types as usize;
             table[t] = type_size(words, at, table).word();
             types += 1;
         }
-        at += 1;
     }
     types
 }

@@ -8,6 +8,3 @@ use Rattle.type_annotations.proofs.type_rows.Given as goal
 abbrev pub invariant-loop-i : goal.invariant-loop-i
 invariant-loop-i l =
     TypingTo (items_of l.words) l.rows l.i l.above l.request l.entries l.count l.out × (length l.out ≡ length l.initial.out) × (length l.above ≡ 25)
-
-abbrev pub decreases-loop-i : goal.decreases-loop-i
-decreases-loop-i l = length l.rows - l.i
