@@ -1,8 +1,10 @@
 -- Laws of name tables and of their words. No contract cites this file.
-use Rattle.std.specs.Prelude.{ℕ, ◌+◌, ◌*◌, ◌/◌, ◌≤◌, ◌<◌, ◌^◌, Bool, true, false, List, [], ◌∷◌, map, ◌≡◌, refl, length, take, drop, get_or}
-use Rattle.std.proofs.Common.{add-one, arith, sym, ap, ◌∙◌, ltb-true, eq-eqb, ne_eqb, length-drop, take_all}
+use Rattle.std.specs.Prelude.{ℕ, ◌+◌, ◌*◌, ◌/◌, ◌≤◌, ◌<◌, ◌^◌, Bool, false, List, [], ◌∷◌, map, ◌≡◌, refl, length, take, drop}
+use Rattle.std.proofs.Common.{arith, sym, ap, ◌∙◌, ltb-true, eq-eqb, ne_eqb, length-drop, take_all}
+use Rattle.std.specs.Str.{bytes_eq}
+use Rattle.std.proofs.lemmas.Slice.Eq.{bytes_eq-Decides}
+use Rattle.std.specs.List.{list_all, list_any}
 use Rattle.std.proofs.Math.Option.{some, some-injective, none-ne-some}
-use Rattle.std.proofs.Math.Seq.{drop-cons}
 use Rattle.rules.specs.Facts.{by_test, compared, both_true, cond-some, same_test}
 use Rattle.rules.specs.Text.{decimal_of}
 use Rattle.rules.proofs.TextLaws.{decimal_written, decimal_up_to_empty}
@@ -15,14 +17,11 @@ use Rattle.name_table.specs.Words.{name_word, named_in}
 
 -- ---- names
 
-module _ (name : List ℕ) (i : ℕ) (inside : i < length name) where
-  pub name_next : is_name_byte (get_or name i 0) ≡ true → all_name_bytes (drop i name) ≡ all_name_bytes (drop (i + 1) name)
-  unfolding all_name_bytes
-  name_next e = rw (add-one, drop-cons name i 0 inside, e)
-
-  pub name_other : is_name_byte (get_or name i 0) ≡ false → all_name_bytes (drop i name) ≡ false
-  unfolding all_name_bytes
-  name_other e = rw (drop-cons name i 0 inside, e)
+-- each byte of a name may stand in one
+pub all_bytes : (name : List ℕ) → list_all is_name_byte name ≡ all_name_bytes name
+unfolding all_name_bytes
+all_bytes [] = refl
+all_bytes (byte ∷ name) = by_test (is_name_byte byte) (λ e. rw e (all_bytes name)) (λ e. rw e refl)
 
 -- ---- keys
 
@@ -49,15 +48,12 @@ key_parts kind id name {key} e =
 
 -- ---- names that stand among others
 
-module _ (text : List ℕ) (kind : ℕ) (name words : List ℕ) (i : ℕ) (inside : i < length words) where
-  pub taken_found : same_name text kind name (named_in (get_or words i 0)) ≡ true → is_taken text kind name (map named_in (drop i words)) ≡ true
-  unfolding is_taken
-  taken_found e = rw (drop-cons words i 0 inside, e)
-
-  pub taken_next : same_name text kind name (named_in (get_or words i 0)) ≡ false →
-      is_taken text kind name (map named_in (drop i words)) ≡ is_taken text kind name (map named_in (drop (i + 1) words))
-  unfolding is_taken
-  taken_next e = rw (add-one, drop-cons words i 0 inside, e)
+pub any_taken : (text : List ℕ) (kind : ℕ) (name words : List ℕ) →
+    list_any (λ word. same_name text kind name (named_in word)) words ≡ is_taken text kind name (map named_in words)
+unfolding is_taken
+any_taken text kind name [] = refl
+any_taken text kind name (word ∷ words) =
+    by_test (same_name text kind name (named_in word)) (λ e. rw e refl) (λ e. rw e (any_taken text kind name words))
 
 module _ (text : List ℕ) (kind : ℕ) (name : List ℕ) (n : Named) where
   pub other_kind : (n.key / 65536 ≡ kind → ⊥) → same_name text kind name n ≡ false
@@ -82,10 +78,12 @@ module _ (text : List ℕ) (kind : ℕ) (name : List ℕ) (n : Named) where
           (λ e. e)
 
       -- what a comparison says
-      pub same_bytes : (r : Bool) → (r ≡ true → name_in text n ≡ name) × (name_in text n ≡ name → r ≡ true) → r ≡ same_name text kind name n
+      pub same_bytes : (r : Bool) → r ≡ bytes_eq (name_in text n) name → r ≡ same_name text kind name n
       same_bytes r ensured =
-          same_test r (same_list (name_in text n) name)
-          (λ e. (same-list (name_in text n) name).1 (ensured.0 e), λ e. ensured.1 ((same-list (name_in text n) name).0 e))
+          let decides = bytes_eq-Decides (name_in text n) name in
+          let lists = same-list (name_in text n) name in
+          ensured
+          ∙ same_test (bytes_eq (name_in text n) name) (same_list (name_in text n) name) (λ e. lists.1 (decides.0 e), λ e. decides.1 (lists.0 e))
           ∙ sym by_bytes
 
 -- ---- words

@@ -7,7 +7,6 @@ use Rattle.std.proofs.Math.Path.{sym}
 use borrow.Author.Tests.{le-leb, lt-leb, lt-ltb, le-ltb}
 use Rattle.std.proofs.Math.ListN.{get_or, length-map}
 use Rattle.std.proofs.lemmas.List.Edits.{sets}
-use Rattle.std.proofs.Math.Seq.{get_or-take, get_or-drop}
 use Rattle.rules.specs.Facts.{by_test}
 use Rattle.rules.specs.Numbers.{Answer, accepted, refused, and_then}
 use Rattle.rules.specs.Text.{lines_of, fields_of}
@@ -20,16 +19,14 @@ use Rattle.text.proofs.FoldLaws.{CameTo, came_start, came_end, came_cut, came_re
 use Rattle.words.specs.Keys.{key_in, later, searched}
 use Rattle.words.specs.Runs.{refusing, stored, words_in}
 use Rattle.words.specs.RunLaws.{stored_next}
-use Rattle.words.specs.Replies.{Done}
-use Rattle.std.specs.Prelude.{Result, Ok as FoundAt, Err as MissingAt}
+use Rattle.words.specs.Replies.{Done, Refused}
+use Rattle.std.specs.Result.{result_ok}
+use Rattle.std.specs.Prelude.{Result, Ok, Err, Some, None}
 use Rattle.rules.specs.Names.{Named, named, Naming, naming, named_of, is_taken, name_taken, name_line, read_names}
 use Rattle.name_table.specs.Words.{name_word, named_in}
 use Rattle.name_table.specs.Lines.{NameParsed}
-use Rattle.name_table.specs.Outcomes.{took_naming, names_got, read_names_in, place_of, name_found}
+use Rattle.name_table.specs.Outcomes.{took_naming, names_got, read_names_in, place_of, place_at, name_found}
 use Rattle.name_table.specs.NameLaws.{word_packed, words_packed}
-use Rattle.name_table.specs.declared.reading.Took.TheVariants.{Name}
-use Rattle.name_table.specs.declared.reading.GotNames.TheVariants.{Lines, Refused}
-use Rattle.name_table.specs.declared.finding.Found.TheVariants.{At, Err}
 
 -- ---- a line, from a place of the text to its LF
 
@@ -69,7 +66,7 @@ module _ (text : List ℕ) (at end least : ℕ) (names : List Named) (behind : a
 
       -- or it is taken
       pub name_new : length text ≤ 65536 → is_taken text (key / 65536) (take (end - (at + start)) (drop (at + start) text)) names ≡ false →
-          took_naming end names (Name (name_word read)) ≡ name_taken text (naming at least names) line
+          took_naming end names (Some (name_word read)) ≡ name_taken text (naming at least names) line
       name_new short e =
           let packed : named_in (name_word read) ≡ read = word_packed read (omega (arith, starts_inside)) (omega arith) in
           let ends : at + length line ≡ end = omega (arith, line_size) in
@@ -93,11 +90,11 @@ module _ {text words : List ℕ} {least count at : ℕ} (reading : NamesReading 
   given e = rw e
 
   -- no line is left
-  pub reading_all : length text ≤ at → names_got (Lines count) words ≡ read_names text
+  pub reading_all : length text ≤ at → names_got (Ok count) words ≡ read_names text
   reading_all h = sym (given (came_end reading.came h))
 
   -- the next line has no LF
-  pub reading_cut : {r : Line} → r ≡ line_at text at → ((end : ℕ) → r ≡ Whole end → ⊥) → at < length text → names_got (Refused count) words ≡ read_names text
+  pub reading_cut : {r : Line} → r ≡ line_at text at → ((end : ℕ) → r ≡ Whole end → ⊥) → at < length text → names_got (Refused 1 count) words ≡ read_names text
   reading_cut {r} ensured unended more = sym (given (came_cut reading.came more (cut_line text at r ensured unended)))
 
   module _ {end : ℕ} {r : Line} (ensured : r ≡ line_at text at) (e : r ≡ Whole end) where
@@ -105,10 +102,10 @@ module _ {text words : List ℕ} {least count at : ℕ} (reading : NamesReading 
     next = name_taken text (naming at least (map named_in (stored count words))) (take (end - at) (drop at text))
 
     -- the next line is not taken, or it is
-    pub reading_stopped : none ≡ next → names_got (Refused count) words ≡ read_names text
+    pub reading_stopped : none ≡ next → names_got (Refused 1 count) words ≡ read_names text
     reading_stopped not_taken = sym (given (came_refused reading.came (whole_line text at end r ensured e) (rw (sym not_taken))))
 
-    pub reading_next : (word : ℕ) → length text ≤ 65536 → at + 5 ≤ end → took_naming end (map named_in (stored count words)) (Name word) ≡ next →
+    pub reading_next : (word : ℕ) → length text ≤ 65536 → at + 5 ≤ end → took_naming end (map named_in (stored count words)) (Some word) ≡ next →
         NamesReading text (set words (count + 1) word) ((named_in word).key + 1) (count + 1) (end + 1)
     reading_next word short long taken =
         let to = whole_line text at end r ensured e in
@@ -134,7 +131,7 @@ module _ (text out : List ℕ) where
     names_long h = rw (le-leb 10923 (length out) long, lt-leb (length text) 65536 h)
 
     module _ (few : length text ≤ 65536) where
-      pub names_refused : {place : ℕ} → refused 1 place ≡ read_names text → read_names_in text out ≡ refusing 1 place out
+      pub names_refused : {number place : ℕ} → refused number place ≡ read_names text → read_names_in text out ≡ refusing number place out
       unfolding read_names_in
       names_refused e = rw (le-leb 10923 (length out) long, le-leb (length text) 65536 few, sym e)
 
@@ -147,46 +144,56 @@ module _ (text out : List ℕ) where
 -- ---- what finding answers
 
 -- a key that is found stands among the words
-found_inside : (words : List ℕ) (key i : ℕ) → searched words key ≡ FoundAt i → i < length words
+found_inside : (words : List ℕ) (key i : ℕ) → searched words key ≡ Ok i → i < length words
 unfolding searched
 found_inside [] key i e = absurd (let z : ◌≡◌ {A = ℕ} 0 1 = cc in omega arith)
 found_inside (w ∷ words) key i e =
     by_test (eqb (key_in w) key)
-    (λ same. let here : FoundAt 0 ≡ FoundAt i = rw same at e in let first : 0 ≡ i = cc in omega arith)
+    (λ same. let here : Ok 0 ≡ Ok i = rw same at e in let first : 0 ≡ i = cc in omega arith)
     (λ other.
     by_test (ltb key (key_in w))
-    (λ past. absurd (let gone : MissingAt 0 ≡ FoundAt i = rw (other, past) at e in let z : ◌≡◌ {A = ℕ} 0 1 = cc in omega arith))
+    (λ past. absurd (let gone : Err 0 ≡ Ok i = rw (other, past) at e in let z : ◌≡◌ {A = ℕ} 0 1 = cc in omega arith))
     (λ low. go (searched words key) (λ j q. found_inside words key j q) (rw (other, low) at e)))
   where
-    go : (r : Result ℕ ℕ) → ((j : ℕ) → r ≡ FoundAt j → j < length words) → later r ≡ FoundAt i → i < length (w ∷ words)
-    go (FoundAt j) inside e = let next : suc j ≡ i = cc in omega (arith, inside j refl)
-    go (MissingAt j) inside e = absurd (let z : ◌≡◌ {A = ℕ} 0 1 = cc in omega arith)
+    go : (r : Result ℕ ℕ) → ((j : ℕ) → r ≡ Ok j → j < length words) → later r ≡ Ok i → i < length (w ∷ words)
+    go (Ok j) inside e = let next : suc j ≡ i = cc in omega (arith, inside j refl)
+    go (Err j) inside e = absurd (let z : ◌≡◌ {A = ℕ} 0 1 = cc in omega arith)
 
 module _ (text names : List ℕ) (key : ℕ) where
-  pub no_words : length names ≤ get_or names 0 0 → Err ≡ name_found text names key
+  pub no_words : length names ≤ get_or names 0 0 → None ≡ name_found text names key
   unfolding name_found
   no_words h = sym (rw (le-ltb (get_or names 0 0) (length names) h))
 
-  module _ (inside : get_or names 0 0 < length names) where
-    pub no_key : {i : ℕ} → searched (words_in names) key ≡ MissingAt i → Err ≡ name_found text names key
+  -- words that a count in front of them has room for
+  module _ {words : List ℕ} (inside : get_or names 0 0 < length names) (counted : words ≡ words_in names) where
+    pub no_key : result_ok (searched words key) ≡ None → None ≡ name_found text names key
     unfolding name_found
-    no_key e = sym (rw (lt-ltb (get_or names 0 0) (length names) inside, e))
+    no_key e = sym (rw (lt-ltb (get_or names 0 0) (length names) inside) (go (searched (words_in names) key) (rw counted at e)))
+      where
+        go : (r : Result ℕ ℕ) → result_ok r ≡ None → place_at text (words_in names) r ≡ None
+        go (Ok i) e = absurd (let z : ◌≡◌ {A = ℕ} 0 1 = cc in omega arith)
+        go (Err i) e = refl
 
-    module _ (i : ℕ) (e : searched (words_in names) key ≡ FoundAt i) where
-      pub place_inside : i < get_or names 0 0
-      place_inside = omega (arith, found_inside (words_in names) key i e, length-take-le (get_or names 0 0) (drop 1 names) (omega (arith, length-drop 1 names)))
+    module _ (i : ℕ) (was : result_ok (searched words key) ≡ Some i) where
+      at_key : searched words key ≡ Ok i
+      at_key = go (searched words key) was
+        where
+          go : (r : Result ℕ ℕ) → result_ok r ≡ Some i → r ≡ Ok i
+          go (Ok j) same = let here : j ≡ i = cc in ap {B = Result ℕ ℕ} Ok here
+          go (Err j) same = absurd (let z : ◌≡◌ {A = ℕ} 0 1 = cc in omega arith)
+
+      pub place_inside : i < length words
+      place_inside = found_inside words key i at_key
 
       abbrev found : Named
-      found = named_in (get_or names (1 + i) 0)
+      found = named_in (get_or words i 0)
 
       by_place : name_found text names key ≡ place_of text found
       unfolding name_found
-      by_place =
-          let same : get_or (words_in names) i 0 ≡ get_or names (1 + i) 0 = get_or-take (get_or names 0 0) (drop 1 names) i 0 place_inside ∙ get_or-drop 1 names i 0 in
-          rw (lt-ltb (get_or names 0 0) (length names) inside, e, same)
+      by_place = rw (lt-ltb (get_or names 0 0) (length names) inside, ← counted, at_key)
 
-      pub no_place : length text < found.from + found.size → Err ≡ name_found text names key
+      pub no_place : length text < found.from + found.size → None ≡ name_found text names key
       no_place h = sym (by_place ∙ rw (lt-leb (found.from + found.size) (length text) h))
 
-      pub at_place : found.from + found.size ≤ length text → At found.from (found.from + found.size) ≡ name_found text names key
+      pub at_place : found.from + found.size ≤ length text → Some (found.from, found.from + found.size) ≡ name_found text names key
       at_place h = sym (by_place ∙ rw (le-leb (found.from + found.size) (length text) h))

@@ -5,5 +5,5 @@ mod finding;
 mod line;
 mod reading;
 
-pub use finding::{Found, find_name};
+pub use finding::find_name;
 pub use reading::{WORDS, read_names};

@@ -4,7 +4,7 @@ ghost use Rattle.rules.specs.Names.{naming, name_taken, same_name, is_taken, rea
 ghost use Rattle.name_table.specs.Words.{named_in};
 ghost use Rattle.name_table.specs.Outcomes.{took_naming, Long, names_got, line_count, read_names_in};
 
-use crate::line::{ParsedName, parse};
+use crate::line::parse;
 use text::Line;
 use words::{Refusal, key_of};
 
@@ -12,20 +12,6 @@ use words::{Refusal, key_of};
 const BYTES: usize = 65_536;
 
 pub const WORDS: usize = 10_923;
-
-// What a line gives: its word, or that it is not of the stated form or may not come.
-#[derive(Drop)]
-enum Took {
-    Name(u64),
-    Refused,
-}
-
-// What a text gives: how many lines, or the line of the refusal.
-#[derive(Drop)]
-enum GotNames {
-    Lines(usize),
-    Refused(u64),
-}
 
 // Whether the word of a line is of a kind and has a name. Lengths are compared first: most names of one kind differ in them.
 fn is_same(text: &[u8], word: u64, kind: u64, name: &[u8]) -> bool
@@ -41,10 +27,7 @@ fn is_same(text: &[u8], word: u64, kind: u64, name: &[u8]) -> bool
     }
     let from = (word % 0x1_0000) as usize;
     let to = from + size;
-    if text.len() < to {
-        return false;
-    }
-    check::same(&text[from..to], name)
+    to <= text.len() && &text[from..to] == name
 }
 
 // Whether a name of a kind stands among the words of earlier lines.
@@ -52,37 +35,28 @@ fn is_taken(text: &[u8], words: &[u64], kind: u64, name: &[u8]) -> bool
     requires { 0 < length name.now }
     ensures { result ≡ is_taken text.now kind name.now (map named_in words.now) }
 {
-    let mut i = 0;
-    while i < words.len() {
-        if is_same(text, words[i], kind, name) {
-            return true;
-        }
-        i += 1;
-    }
-    false
+    words.iter().any(|word| is_same(text, *word, kind, name))
 }
 
-// Takes the line from a place to its LF behind the words of those before it.
-fn take_line(text: &[u8], at: usize, end: usize, words: &[u64], least: u64) -> Took
+// The word of the line from a place to its LF behind the words of those before it, if it is of the stated form and may come.
+fn take_line(text: &[u8], at: usize, end: usize, words: &[u64], least: u64) -> Option<u64>
     requires { (at ≤ end) × (end ≤ length text.now) × (length text.now ≤ 65536) }
     ensures result_value { took_naming end (map named_in words.now) result ≡ name_taken text.now (naming at least (map named_in words.now)) (take (end - at) (drop at text.now)) }
     ensures long { Long at end result }
 {
-    let ParsedName::Of(key, start) = parse(&text[at..end]) else {
-        return Took::Refused;
-    };
+    let (key, start) = parse(&text[at..end])?;
     if key < least {
-        return Took::Refused;
+        return None;
     }
     let from = at + start;
     if is_taken(text, words, key / 0x1_0000, &text[from..end]) {
-        return Took::Refused;
+        return None;
     }
-    Took::Name(from as u64 + (end - from) as u64 * 0x1_0000 + key * 0x100_0000_0000)
+    Some(from as u64 + (end - from) as u64 * 0x1_0000 + key * 0x100_0000_0000)
 }
 
-// Reads all lines of a text into words, from place 1 on.
-fn read_lines(text: &[u8], words: &mut [u64]) -> GotNames
+// Reads all lines of a text into words, from place 1 on, and answers how many.
+fn read_lines(text: &[u8], words: &mut [u64]) -> Result<usize, Refusal>
     requires { (length text.now ≤ 65536) × (length words.old ≡ 10923) }
     ensures words_after { names_got result words.new ≡ read_names text.now }
     ensures result_bound { line_count result ≤ 10922 }
@@ -92,18 +66,24 @@ fn read_lines(text: &[u8], words: &mut [u64]) -> GotNames
     let mut at = 0;
     while at < text.len() {
         let Line::Whole(end) = Line::at(text, at) else {
-            return GotNames::Refused(count as u64);
+            return Err(Refusal {
+                number: 1,
+                place: count as u64,
+            });
         };
         let next = count + 1;
-        let Took::Name(word) = take_line(text, at, end, &words[1..next], least) else {
-            return GotNames::Refused(count as u64);
+        let Some(word) = take_line(text, at, end, &words[1..next], least) else {
+            return Err(Refusal {
+                number: 1,
+                place: count as u64,
+            });
         };
         words[next] = word;
         least = key_of(word) + 1;
         count = next;
         at = end + 1;
     }
-    GotNames::Lines(count)
+    Ok(count)
 }
 
 // Reads a name table into a state: the count of its lines, and a word a line. A refusal leaves the state as it was.
@@ -114,15 +94,14 @@ pub fn read_names(text: &[u8], out: &mut [u64]) -> Result<(), Refusal>
         return Err(Refusal::SHORT);
     }
     if BYTES < text.len() {
-        return Err(Refusal { number: 15, place: 0 });
+        return Err(Refusal {
+            number: 15,
+            place: 0,
+        });
     }
     let mut words = [0u64; WORDS];
-    match read_lines(text, &mut words) {
-        GotNames::Refused(line) => Err(Refusal { number: 1, place: line }),
-        GotNames::Lines(count) => {
-            words[0] = count as u64;
-            words::copy_rows(&words, out);
-            Ok(())
-        }
-    }
+    let count = read_lines(text, &mut words)?;
+    words[0] = count as u64;
+    words::copy_rows(&words, out);
+    Ok(())
 }

@@ -2,7 +2,7 @@
 ghost use Rattle.std.specs.Prelude.{◌<◌, length};
 
 use crate::sink::{Sink, put, put_text};
-use name_table::{Found, find_name};
+use name_table::find_name;
 use rows::{RequestType, Row, StepParts};
 
 // What is added to an id for its key in a name table: nothing for an entity type.
@@ -32,7 +32,7 @@ fn put_name(sink: Sink, buffer: &mut [u8], text: &[u8], names: &[u64], key: u64)
     requires { sink.waiting < length buffer.old }
     ensures { result.waiting < length buffer.new }
 {
-    let Found::At(from, to) = find_name(text, names, key) else {
+    let Some((from, to)) = find_name(text, names, key) else {
         return put_number(sink, buffer, key % 0x1_0000);
     };
     put_text(sink, buffer, &text[from..to])

@@ -1,75 +1,89 @@
 -- `name_table::line::parse` meets its contract: the parts that are passed on are the fields of the line.
-use Prim.Native.Nat.{◌+◌, ◌-◌}
+use Prim.Native.Nat.{ℕ, ◌+◌, ◌-◌}
 use native.Mathlib.Nat.{sub-zero}
 use native.Mathlib.Omega.{arith}
 use mathlib.Core.List.{[], ◌∷◌}
-use mathlib.Core.Path.{◌≡◌, sym, ap, ◌∙◌}
+use mathlib.Core.Path.{◌≡◌, refl, sym, ap, ◌∙◌}
+use mathlib.Core.Bool.{true, false, true≢false, false≢true}
+use Rattle.std.specs.Option.{is_some}
+use Rattle.std.specs.Prelude.{Option as Maybe, Some, None}
 use lib.ListN.{length, take, drop}
 use lib.Seq.{length-take-le}
 use Rattle.rules.specs.Text.{fields_of, TAB}
 use Rattle.rules.proofs.TextLaws.{parted_some}
 use Rattle.text.proofs.FieldLaws.{Ends, field_ends, fields_last, fields_whole}
 use Rattle.rules.specs.Names.{named_of}
-use Rattle.name_table.specs.Lines.{key_read}
+use Rattle.text.specs.Answers.{number_of}
 use Rattle.name_table.specs.LineLaws.{not_named, name_parsed}
 use Rattle.name_table.proofs.line.parse.Goals as goal
-use Rattle.name_table.proofs.line.parse.Goals.{In-Last, In-More, In-More-at}
+use Rattle.name_table.proofs.line.parse.Goals.{In_ok-kind_end, In_ok-id_end, Else-is_some}
+
+no_field : (r : Maybe ℕ) → is_some r ≡ false → r ≡ None
+no_field None e = refl
+no_field (Some end) e = absurd (true≢false e)
+
+some_field : (r : Maybe ℕ) → is_some r ≡ true → (end : ℕ) × (r ≡ Some end)
+some_field None e = absurd (false≢true e)
+some_field (Some end) e = (end, refl)
 
 -- where the first two fields end, and that the third is the last
-kind-ends : (c : In-More) → Ends c.args.line.now 0 c.in-More.kind_end
-kind-ends c = field_ends c.args.line.now 0 _ _ c.at.ensures c.in-More.is
+kind-ends : (c : In_ok-kind_end) → Ends c.args.line.now 0 c.in_ok-kind_end.kind_end
+kind-ends c = field_ends c.args.line.now 0 _ _ c.field_end.ensures c.in_ok-kind_end.was
 
-id-ends : (c : In-More-at) → Ends c.args.line.now (c.in-More.kind_end + 1) c.in-More-at.id_end
-id-ends c = field_ends c.args.line.now _ _ _ c.at-2.ensures c.in-More-at.is
+id-ends : (c : In_ok-id_end) → Ends c.args.line.now (c.in_ok-kind_end.kind_end + 1) c.in_ok-id_end.id_end
+id-ends c = field_ends c.args.line.now _ _ _ c.field_end-2.ensures c.in_ok-id_end.was
 
-last-field : (c : In-Last) →
-    let third = c.in-More-at.id_end + 1 in
+last-field : (c : Else-is_some) →
+    let third = c.in_ok-id_end.id_end + 1 in
     fields_of (drop third c.args.line.now) ≡ take (length c.args.line.now - third) (drop third c.args.line.now) ∷ []
-last-field c = fields_last c.args.line.now _ _ c.at-3.ensures c.in-Last.is
+last-field c = fields_last c.args.line.now _ _ c.field_end-3.ensures (no_field _ (sym c.is_some.ensures ∙ c.if-is_some.false))
 
-pub returns-in_default : goal.returns-in_default
+pub returns-in_err-kind_end : goal.returns-in_err-kind_end
 unfolding named_of
-returns-in_default c = λ end. rw (fields_whole c.args.line.now _ c.at.ensures c.in_default.is)
+returns-in_err-kind_end c = rw c.from_residual.ensures (λ end. rw (fields_whole c.args.line.now _ c.field_end.ensures c.in_err-kind_end.was))
 
 pub overflow_add-second : goal.overflow_add-second
-overflow_add-second c = omega (arith, kind-ends (goal.at.overflow_add-second c).In-More)
+overflow_add-second c = omega (arith, kind-ends (goal.at.overflow_add-second c).In_ok-kind_end)
 
-pub returns-in_default-at : goal.returns-in_default-at
+pub returns-in_err-id_end : goal.returns-in_err-id_end
 unfolding named_of
-returns-in_default-at c =
-    λ end. rw ((kind-ends (goal.at.returns-in_default-at c).In-More).2, sub-zero, fields_last c.args.line.now (c.in-More.kind_end + 1) _ c.at-2.ensures c.in_default-at.is)
+returns-in_err-id_end c =
+    rw c.from_residual-in_err-id_end.ensures
+    (λ end. rw ((kind-ends (goal.at.returns-in_err-id_end c).In_ok-kind_end).2, sub-zero, fields_last c.args.line.now (c.in_ok-kind_end.kind_end + 1) _ c.field_end-2.ensures c.in_err-id_end.was))
 
 pub overflow_add-third : goal.overflow_add-third
-overflow_add-third c = omega (arith, id-ends (goal.at.overflow_add-third c).In-More-at)
+overflow_add-third c = omega (arith, id-ends (goal.at.overflow_add-third c).In_ok-id_end)
 
-pub returns-in_default-at-2 : goal.returns-in_default-at-2
+pub returns-then-is_some : goal.returns-then-is_some
 unfolding named_of
-returns-in_default-at-2 c =
-    let third = field_ends c.args.line.now (c.in-More-at.id_end + 1) c.in_default-at-2.field-0 _ c.at-3.ensures c.in_default-at-2.is in
-    λ end. rw ((kind-ends (goal.at.returns-in_default-at-2 c).In-More).2, (id-ends (goal.at.returns-in_default-at-2 c).In-More-at).2, third.2, (parted_some TAB (drop (c.in_default-at-2.field-0 + 1) c.args.line.now)).2)
+returns-then-is_some c =
+    let (end, ends) = some_field c.field_end-3.result (sym c.is_some.ensures ∙ c.if-is_some.true) in
+    let third = field_ends c.args.line.now (c.in_ok-id_end.id_end + 1) end _ c.field_end-3.ensures ends in
+    λ at. rw ((kind-ends (goal.at.returns-then-is_some c).In_ok-kind_end).2, (id-ends (goal.at.returns-then-is_some c).In_ok-id_end).2, third.2, (parted_some TAB (drop (end + 1) c.args.line.now)).2)
 
 pub slice_bounds-key_from-end : goal.slice_bounds-key_from-end
-slice_bounds-key_from-end c = sym (length-take-le _ _ (omega (arith, kind-ends (goal.at.slice_bounds-key_from-end c).In-More)))
+slice_bounds-key_from-end c = sym (length-take-le _ _ (omega (arith, kind-ends (goal.at.slice_bounds-key_from-end c).In_ok-kind_end)))
 
 pub slice_bounds-key_from-count : goal.slice_bounds-key_from-count
-slice_bounds-key_from-count c = omega (arith, kind-ends (goal.at.slice_bounds-key_from-count c).In-More, id-ends (goal.at.slice_bounds-key_from-count c).In-More-at)
+slice_bounds-key_from-count c = omega (arith, kind-ends (goal.at.slice_bounds-key_from-count c).In_ok-kind_end, id-ends (goal.at.slice_bounds-key_from-count c).In_ok-id_end)
 
 pub slice_bounds-key_from-start : goal.slice_bounds-key_from-start
-slice_bounds-key_from-start c = omega (arith, kind-ends (goal.at.slice_bounds-key_from-start c).In-More, id-ends (goal.at.slice_bounds-key_from-start c).In-More-at)
+slice_bounds-key_from-start c = omega (arith, kind-ends (goal.at.slice_bounds-key_from-start c).In_ok-kind_end, id-ends (goal.at.slice_bounds-key_from-start c).In_ok-id_end)
 
 pub slice_bounds-key_from-end-2 : goal.slice_bounds-key_from-end-2
-slice_bounds-key_from-end-2 c = omega (arith, kind-ends (goal.at.slice_bounds-key_from-end-2 c).In-More, id-ends (goal.at.slice_bounds-key_from-end-2 c).In-More-at)
+slice_bounds-key_from-end-2 c = omega (arith, kind-ends (goal.at.slice_bounds-key_from-end-2 c).In_ok-kind_end, id-ends (goal.at.slice_bounds-key_from-end-2 c).In_ok-id_end)
 
 pub slice_bounds-key_from-count-2 : goal.slice_bounds-key_from-count-2
-slice_bounds-key_from-count-2 c = omega (arith, id-ends (goal.at.slice_bounds-key_from-count-2 c).In-More-at)
+slice_bounds-key_from-count-2 c = omega (arith, id-ends (goal.at.slice_bounds-key_from-count-2 c).In_ok-id_end)
 
 pub slice_bounds-key_from-start-2 : goal.slice_bounds-key_from-start-2
-slice_bounds-key_from-start-2 c = omega (arith, id-ends (goal.at.slice_bounds-key_from-start-2 c).In-More-at)
+slice_bounds-key_from-start-2 c = omega (arith, id-ends (goal.at.slice_bounds-key_from-start-2 c).In_ok-id_end)
 
-pub returns-in_default-key_from : goal.returns-in_default-key_from
-returns-in_default-key_from c =
-    not_named c.args.line.now _ _ (kind-ends (goal.at.returns-in_default-key_from c).In-More) (id-ends (goal.at.returns-in_default-key_from c).In-More-at) (last-field (goal.at.returns-in_default-key_from c).In-Last) (sym (ap key_read c.in_default-key_from.is) ∙ c.key_from.ensures)
+pub returns-in_err-key : goal.returns-in_err-key
+returns-in_err-key c =
+    rw c.from_residual-in_err-key.ensures
+    (not_named c.args.line.now _ _ (kind-ends (goal.at.returns-in_err-key c).In_ok-kind_end) (id-ends (goal.at.returns-in_err-key c).In_ok-id_end) (last-field (goal.at.returns-in_err-key c).Else-is_some) (sym (ap number_of c.in_err-key.was) ∙ c.key_from.ensures))
 
 pub returns : goal.returns
 returns c =
-    name_parsed c.args.line.now _ _ (kind-ends (goal.at.returns c).In-More) (id-ends (goal.at.returns c).In-More-at) (last-field (goal.at.returns c).In-Last) (sym (ap key_read c.in-Of.is) ∙ c.key_from.ensures)
+    name_parsed c.args.line.now _ _ (kind-ends (goal.at.returns c).In_ok-kind_end) (id-ends (goal.at.returns c).In_ok-id_end) (last-field (goal.at.returns c).Else-is_some) (sym (ap number_of c.in_ok-key.was) ∙ c.key_from.ensures)

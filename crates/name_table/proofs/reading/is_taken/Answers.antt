@@ -1,21 +1,15 @@
--- `name_table::reading::is_taken` meets its contract: the words that are passed are of another kind or have another name, and the others decide.
-use mathlib.Core.Path.{sym, ◌∙◌}
-use lib.ListN.{drop_of_length-le}
-use Rattle.rules.specs.Names.{is_taken}
-use Rattle.name_table.specs.NameLaws.{taken_found, taken_next}
-use borrow.Author.Rules.{rules}
+-- `name_table::reading::is_taken` meets its contract: a word of the same kind and name is among the words.
+use mathlib.Core.Path.{◌∙◌}
+use Rattle.std.proofs.Common.{rules, tests}
+use Rattle.std.proofs.lemmas.Iterator.{YieldsList-from_slice}
+use Rattle.std.proofs.lemmas.Iterator.Search.{any_from_yields_List}
+use Rattle.rules.specs.Names.{same_name}
+use Rattle.name_table.specs.Words.{named_in}
+use Rattle.name_table.specs.NameLaws.{any_taken}
 use Rattle.name_table.proofs.reading.is_taken.Goals as goal
 
-pub returns-then-is_same : goal.returns-then-is_same
-returns-then-is_same c =
-    let a = c.args in
-    sym (c.loop-i.invariant.1 ∙ taken_found a.text.now a.kind a.name.now a.words.now c.loop-i.i c.loop-i-test.true (sym c.is_same.ensures ∙ c.if-is_same.true))
-
-pub loop-i-preserved : goal.loop-i-preserved
-loop-i-preserved c =
-    let a = c.args in
-    (search rules, c.loop-i.invariant.1 ∙ taken_next a.text.now a.kind a.name.now a.words.now c.loop-i.i c.loop-i-test.true (sym c.is_same.ensures ∙ c.if-is_same.false))
-
 pub returns : goal.returns
-unfolding is_taken
-returns c = sym (c.loop-i.invariant.1 ∙ rw (drop_of_length-le c.args.words.now c.loop-i-test.false))
+returns c =
+    let a = c.args in
+    let any = any_from_yields_List (λ word. same_name a.text.now a.kind a.name.now (named_in word)) _ _ _ c.any.ensures.ran (YieldsList-from_slice a.words.now cc) (λ x b q k. search (rules, tests)) in
+    any ∙ any_taken a.text.now a.kind a.name.now a.words.now

@@ -7,7 +7,7 @@ use Rattle.text.specs.declared.Line.TheVariants.{Whole}
 use Rattle.text.proofs.Laws.{whole_within}
 use Rattle.name_table.specs.ReadLaws.{reading_none, reading_all, reading_cut, reading_stopped, reading_next}
 use Rattle.name_table.proofs.reading.read_lines.Goals as goal
-use Rattle.name_table.proofs.reading.read_lines.Goals.{At-loop-at, In-Name, In-Whole}
+use Rattle.name_table.proofs.reading.read_lines.Goals.{At-loop-at, In-Some, In-Whole}
 
 -- the words have the length that they had
 words_kept : (c : At-loop-at) → length c.loop-at.words ≡ length c.args.words.now
@@ -23,9 +23,9 @@ few : (c : In-Whole) → c.loop-at.count ≤ 10922
 few c =
     omega (arith, c.loop-at.invariant.room, within c, c.requires.0)
 
-long : (c : In-Name) →
+long : (c : In-Some) →
     c.loop-at.at + 5 ≤ c.in-Whole.end
-long c = rw c.in-Name.is at c.take_line.ensures.long
+long c = rw c.in-Some.is at c.take_line.ensures.long
 
 pub loop-at-init : goal.loop-at-init
 loop-at-init c = reading_none c.args.text.now c.args.words.now c.requires.1
@@ -66,7 +66,7 @@ offset_bounds-words-next c = omega (arith, few (goal.at.offset_bounds-words-next
 
 pub bounds-words-next : goal.bounds-words-next
 bounds-words-next c =
-    omega (arith, long (goal.at.bounds-words-next c).In-Name, within (goal.at.bounds-words-next c).In-Whole, c.loop-at.invariant.room, c.loop-at.invariant.words_length, c.requires.0)
+    omega (arith, long (goal.at.bounds-words-next c).In-Some, within (goal.at.bounds-words-next c).In-Whole, c.loop-at.invariant.room, c.loop-at.invariant.words_length, c.requires.0)
 
 pub overflow_add-least : goal.overflow_add-least
 overflow_add-least c = omega (arith, c.key_of-least.ensures)
@@ -80,8 +80,8 @@ loop-at-smaller c = omega (arith, within (goal.at.loop-at-smaller c).In-Whole)
 pub loop-at-preserved : goal.loop-at-preserved
 loop-at-preserved c =
     let one : c.loop-at.count + 1 - 1 ≡ c.loop-at.count = omega arith in
-    rw c.key_of-least.ensures (reading_next c.loop-at.invariant c.at.ensures c.in-Whole.is c.in-Name.word c.requires.0 (long (goal.at.loop-at-preserved c).In-Name)
-    (rw (c.in-Name.is, one) at c.take_line.ensures.result_value))
+    rw c.key_of-least.ensures (reading_next c.loop-at.invariant c.at.ensures c.in-Whole.is c.in-Some.word c.requires.0 (long (goal.at.loop-at-preserved c).In-Some)
+    (rw (c.in-Some.is, one) at c.take_line.ensures.result_value))
 
 pub shape_of-words : goal.shape_of-words
 shape_of-words c = words_kept (goal.at.shape_of-words c).At-loop-at
