@@ -28,8 +28,7 @@ use Rattle.rows.specs.States.{lawful_state, rows_in, words_of}
 use Rattle.rows.specs.declared.Kind.TheVariants.{Manifest}
 use Rattle.entries.specs.Bounds.{NodesOf, told, trip_bound_in}
 use Rattle.words.specs.Replies.{Refused}
-use Rattle.std.specs.Prelude.{Result, Ok}
-use Rattle.words.specs.declared.Refusal.{Refusal}
+use Rattle.std.specs.Prelude.{Ok}
 
 -- Whether a place is a primary node's, by each of its steps behind the root.
 

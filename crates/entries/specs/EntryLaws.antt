@@ -10,8 +10,8 @@ use Rattle.rules.specs.LoadCalls.{Entry, nodes_ahead, entry_for}
 use Rattle.rows.specs.Words.{depth_in, step_in, row_in}
 use Rattle.rows.specs.States.{rows_of}
 use Rattle.entries.specs.Entries.{EntryAt, FoundAs}
-use Rattle.entries.specs.declared.entry.FoundEntry.{FoundEntry}
-use Rattle.entries.specs.declared.entry.FoundEntry.TheVariants.{Found, Missing}
+use Rattle.entries.specs.declared.entry.EntryPlace.{EntryPlace}
+use Rattle.std.specs.Prelude.{Option as Maybe, Some, None}
 
 -- the first words are nodes, so many
 abbrev pub EntryAhead : List ℕ → ℕ → Type 0
@@ -80,12 +80,10 @@ pub found_entry :
     → entry_for request 0 (rows_of words) ≡ some (record { first = nodes; nodes = nodes_ahead (rows_of (drop (i + 1) words)) })
     → nodes_ahead (rows_of part) ≡ rows_of (take n part)
     → n ≤ length part
-    → FoundAs words request (entry_for request 0 (rows_of words)) (Found nodes i n)
+    → FoundAs words request (entry_for request 0 (rows_of words)) (Some (record { first = nodes; at = i; nodes = n }))
 found_entry words part request nodes i n same inside depth step e ahead few =
     rw e (
-      nodes,
-      i,
-      n,
+      record { first = nodes; at = i; nodes = n },
       refl,
       record {
         number = refl;
@@ -116,23 +114,22 @@ entry_few request nodes (row ∷ rows) entry e =
     (λ t. rw t (omega (arith, entry_few request (suc nodes) rows entry (rw t at e))))
 
 -- what an answer says of the entry
-pub found_missing : (words : List ℕ) (request : ℕ) (o : Option Entry) (r : FoundEntry) → FoundAs words request o r → r ≡ Missing → o ≡ none
+pub found_missing : (words : List ℕ) (request : ℕ) (o : Option Entry) (r : Maybe EntryPlace) → FoundAs words request o r → r ≡ None → o ≡ none
 found_missing words request none r h e = refl
-found_missing words request (some entry) r (first, at, nodes, is, here) e = let z : ◌≡◌ {A = ℕ} 0 1 = cc in absurd (omega arith)
+found_missing words request (some entry) r (place, is, here) e = cc
 
 pub found_found :
-    (words : List ℕ) (request : ℕ) (o : Option Entry) (r : FoundEntry) {first at nodes : ℕ}
+    (words : List ℕ) (request : ℕ) (o : Option Entry) (r : Maybe EntryPlace) {place : EntryPlace}
     → FoundAs words request o r
-    → r ≡ Found first at nodes
-    → (entry : Entry) × (o ≡ some entry) × EntryAt words request entry first at nodes
-found_found words request none r h e = let z : ◌≡◌ {A = ℕ} 0 1 = cc in absurd (omega arith)
-found_found words request (some entry) r {first} {at} {nodes} (first', at', nodes', is, here) e =
-    let one : first' ≡ first = cc in
-    let two : at' ≡ at = cc in
-    let three : nodes' ≡ nodes = cc in
-    (entry, refl, rw (one, two, three) at here)
+    → r ≡ Some place
+    → (entry : Entry) × (o ≡ some entry) × EntryAt words request entry place
+found_found words request none r h e = absurd (cc)
+found_found words request (some entry) r {place} (place', is, here) e =
+    let same : place' ≡ place = cc in
+    (entry, refl, rw same at here)
 
-pub entry_count : (words : List ℕ) (request : ℕ) (entry : Entry) (first at nodes : ℕ) → EntryAt words request entry first at nodes → length entry.nodes ≡ nodes
-entry_count words request entry first at nodes here =
+pub entry_count : (words : List ℕ) (request : ℕ) (entry : Entry) (place : EntryPlace) → EntryAt words request entry place → length entry.nodes ≡ place.nodes
+entry_count words request entry place here =
     rw here.rows
-    (length-map (take nodes (drop (at + 1) words)) row_in ∙ length-take-le nodes (drop (at + 1) words) (simp length-drop (omega (arith, here.within))))
+    (length-map (take place.nodes (drop (place.at + 1) words)) row_in
+    ∙ length-take-le place.nodes (drop (place.at + 1) words) (simp length-drop (omega (arith, here.within))))

@@ -6,45 +6,45 @@ ghost use Rattle.entries.specs.Entries.{FoundAs};
 
 use rows::Row;
 
-// An entry: its first node's number among all nodes, where its own row stands, and how many nodes stand behind it.
-#[derive(Drop)]
-pub enum FoundEntry {
-    Found(u64, usize, usize),
-    Missing,
+// Where an entry stands: its first node's number among all nodes, the place of its own row, and how many nodes are behind that.
+#[derive(Clone, Copy, PartialEq, Eq, Debug)]
+pub struct EntryPlace {
+    pub first: u64,
+    pub at: usize,
+    pub nodes: usize,
 }
 
 // How many nodes stand in front of the next entry.
 fn nodes_ahead(rows: &[u64]) -> usize
     ensures { (nodes_ahead (rows_of rows.now) ≡ rows_of (take result rows.now)) × (result ≤ length rows.now) }
 {
-    let mut i = 0;
-    while i < rows.len() {
+    for i in 0..rows.len() {
         let row = Row { word: rows[i] };
         if row.depth() == 0 {
             return i;
         }
-        i += 1;
     }
-    i
+    rows.len()
 }
 
 // The entry of a request type, if there is one.
-pub fn find_entry(rows: &[u64], request: u64) -> FoundEntry
+pub fn find_entry(rows: &[u64], request: u64) -> Option<EntryPlace>
     ensures { FoundAs rows.now request (entry_for request 0 (rows_of rows.now)) result }
 {
     let mut nodes: u64 = 0;
-    let mut i = 0;
-    while i < rows.len() {
-        let row = Row { word: rows[i] };
-        let next = i + 1;
+    for at in 0..rows.len() {
+        let row = Row { word: rows[at] };
         if row.depth() == 0 {
             if row.step() == request {
-                return FoundEntry::Found(nodes, i, nodes_ahead(&rows[next..]));
+                return Some(EntryPlace {
+                    first: nodes,
+                    at,
+                    nodes: nodes_ahead(&rows[at + 1..]),
+                });
             }
         } else {
             nodes += 1;
         }
-        i = next;
     }
-    FoundEntry::Missing
+    None
 }

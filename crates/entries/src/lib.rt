@@ -4,5 +4,5 @@
 mod entry;
 mod trips;
 
-pub use entry::{FoundEntry, find_entry};
+pub use entry::{EntryPlace, find_entry};
 pub use trips::{TripBound, trip_bound};

@@ -5,12 +5,12 @@ ghost use Rattle.rules.specs.Trips.{bound_of, trip_bound};
 ghost use Rattle.rows.specs.States.{rows_of};
 ghost use Rattle.entries.specs.Bounds.{NodesOf, told, trip_bound_in};
 
-use crate::entry::{FoundEntry, find_entry};
+use crate::entry::find_entry;
 use rows::{Kind, Row, StepParts};
 use words::Refusal;
 
 // What a load takes at most: rows and batches, and the ancestors calls on top.
-#[derive(Drop)]
+#[derive(Clone, Copy, PartialEq, Eq, Debug)]
 pub struct TripBound {
     pub rows: u64,
     pub batches: u64,
@@ -25,9 +25,8 @@ fn bound_of(nodes: &[u64]) -> TripBound
     let mut rows: u64 = 0;
     let mut batches: u64 = 0;
     let mut primary: u64 = 1;
-    let mut i = 0;
-    while i < nodes.len() {
-        let row = Row { word: nodes[i] };
+    for word in nodes {
+        let row = Row { word: *word };
         let depth = row.depth();
         if depth <= primary {
             let parts = StepParts::of(row.step());
@@ -35,10 +34,9 @@ fn bound_of(nodes: &[u64]) -> TripBound
             if depth == 1 || parts.kind == 0 {
                 primary = depth + 1;
                 rows += 1;
-                batches = words::larger(batches, depth);
+                batches = batches.max(depth);
             }
         }
-        i += 1;
     }
     TripBound {
         rows,
@@ -52,15 +50,15 @@ fn bound_in(rows: &[u64], request: u64) -> TripBound
     requires { ordered [] (rows_of rows.now) ≡ true }
     ensures { result ≡ told (trip_bound (rows_of rows.now) request) }
 {
-    let FoundEntry::Found(_, at, count) = find_entry(rows, request) else {
+    let Some(entry) = find_entry(rows, request) else {
         return TripBound {
             rows: 0,
             batches: 0,
             ancestors: 0,
         };
     };
-    let from = at + 1;
-    let end = from + count;
+    let from = entry.at + 1;
+    let end = from + entry.nodes;
     bound_of(&rows[from..end])
 }
 

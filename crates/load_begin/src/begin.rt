@@ -8,7 +8,7 @@ ghost use Rattle.row_walk.specs.Initial.{request_with};
 ghost use Rattle.load_state.specs.Outcomes.{AnsweredAs};
 ghost use Rattle.load_begin.specs.Begins.{lawful_context, begun_state, entry_words, begun_with, begun_by, begin_in};
 
-use entries::{FoundEntry, find_entry};
+use entries::find_entry;
 use load_state::{LoadReply, LoadState, is_request, turn_for};
 use row_walk::{Batch, Request, initial_entities_to_load};
 use rows::Kind;
@@ -105,7 +105,7 @@ fn begin_load(rows: &[u64], request: Request, context: &[u64], state: &mut [u64]
     ensures { AnsweredAs (begun_by request.triple request.principal request.resource context.now state.old (entry_for request.triple 0 (rows_of rows.now))) result state.new }
 {
     match find_entry(rows, request.triple) {
-        FoundEntry::Missing => {
+        None => {
             store_begun(
                 state,
                 5,
@@ -118,8 +118,14 @@ fn begin_load(rows: &[u64], request: Request, context: &[u64], state: &mut [u64]
             );
             LoadReply::Done(0, 0, 0)
         }
-        FoundEntry::Found(first, at, count) => begin_entry(
-            rows, first, at, count, request, context, state,
+        Some(entry) => begin_entry(
+            rows,
+            entry.first,
+            entry.at,
+            entry.nodes,
+            request,
+            context,
+            state,
         ),
     }
 }

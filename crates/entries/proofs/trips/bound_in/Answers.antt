@@ -10,7 +10,7 @@ use Rattle.entries.specs.Entries.{EntryAt}
 use Rattle.entries.specs.EntryLaws.{found_missing, found_found}
 use Rattle.entries.specs.BoundLaws.{found_nodes, bound_none, bound_some}
 use Rattle.entries.proofs.trips.bound_in.Goals as goal
-use Rattle.entries.proofs.trips.bound_in.Goals.{In-Found}
+use Rattle.entries.proofs.trips.bound_in.Goals.{In-Some}
 
 pub returns-in_default : goal.returns-in_default
 returns-in_default c =
@@ -20,31 +20,31 @@ returns-in_default c =
 
 -- the entry, where it stands
 entry_at :
-    (c : In-Found) →
+    (c : In-Some) →
     let a = c.args in
     (entry : Entry)
     × (entry_for a.request 0 (rows_of a.rows.now) ≡ some entry)
-    × EntryAt a.rows.now a.request entry c.in-Found.field-0 c.in-Found.at c.in-Found.count
+    × EntryAt a.rows.now a.request entry c.in-Some.entry
 entry_at c =
     let a = c.args in
-    found_found a.rows.now a.request (entry_for a.request 0 (rows_of a.rows.now)) c.find_entry.result c.find_entry.ensures c.in-Found.is
+    found_found a.rows.now a.request (entry_for a.request 0 (rows_of a.rows.now)) c.find_entry.result c.find_entry.ensures c.in-Some.is
 
 pub overflow_add-from : goal.overflow_add-from
-overflow_add-from c = omega (arith, (entry_at (goal.at.overflow_add-from c).In-Found).2.within)
+overflow_add-from c = omega (arith, (entry_at (goal.at.overflow_add-from c).In-Some).2.within)
 
 pub overflow_add-end : goal.overflow_add-end
-overflow_add-end c = omega (arith, (entry_at (goal.at.overflow_add-end c).In-Found).2.within)
+overflow_add-end c = omega (arith, (entry_at (goal.at.overflow_add-end c).In-Some).2.within)
 
 pub offset_bounds-rows-from : goal.offset_bounds-rows-from
-offset_bounds-rows-from c = let within = (entry_at (goal.at.offset_bounds-rows-from c).In-Found).2.within in search rules
+offset_bounds-rows-from c = let within = (entry_at (goal.at.offset_bounds-rows-from c).In-Some).2.within in search rules
 
 pub slice_bounds-bound_of-end : goal.slice_bounds-bound_of-end
-slice_bounds-bound_of-end c = omega (arith, (entry_at (goal.at.slice_bounds-bound_of-end c).In-Found).2.within)
+slice_bounds-bound_of-end c = omega (arith, (entry_at (goal.at.slice_bounds-bound_of-end c).In-Some).2.within)
 
 pub returns : goal.returns
 returns c =
     let a = c.args in
-    let (entry, is, here) = entry_at (goal.at.returns c).In-Found in
+    let (entry, is, here) = entry_at (goal.at.returns c).In-Some in
     let nodes = rw here.rows at (found_nodes a.request (rows_of a.rows.now) entry c.requires is) in
     rw (bound_some (rows_of a.rows.now) a.request entry is, here.rows)
     ((rw add-sub_cancel_left at c.bound_of.ensures) a.request nodes)

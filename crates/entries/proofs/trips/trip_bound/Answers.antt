@@ -10,9 +10,7 @@ use Rattle.rules.specs.Tries.{manifest}
 use Rattle.rows.specs.States.{lawful_state}
 use Rattle.rows.specs.StateLaws.{count_within, rows_ordered}
 use Rattle.entries.specs.BoundLaws.{bound_short, bound_unlawful, bound_lawful}
-use Rattle.words.specs.Replies.{Refused}
-use Rattle.std.specs.Prelude.{Result, Ok}
-use Rattle.words.specs.declared.Refusal.{Refusal}
+use Rattle.std.specs.Prelude.{Ok}
 use Rattle.entries.proofs.trips.trip_bound.Goals as goal
 use Rattle.entries.proofs.trips.trip_bound.Goals.{Else-manifest-words, Else-not-is_lawful}
 
