@@ -23,7 +23,7 @@ use Rattle.ancestors.specs.Sets.{IsSet}
 use Rattle.slices.specs.Slices.{rows_asked}
 use Rattle.ancestors.specs.Takings.{wanted_in, Takes}
 use Rattle.ancestors.specs.declared.set.AncestorSet.{AncestorSet}
-use Rattle.ancestors.specs.declared.events.Next.TheVariants.{To, Refused}
+use Rattle.std.specs.Prelude.{Result, Ok, Err}
 use Rattle.ancestors.specs.declared.events.Taken.{Taken}
 use Rattle.ancestors.specs.TakingLaws.{take-append, takes_same, takes_refused, takes_then}
 
@@ -65,7 +65,7 @@ pub roots_takes :
     → IsSet set
     → at + yields (at_roots request depth node rows) ≤ length out
     → BatchWritten out at out' (batch_of (at_roots request depth node rows)) (BatchTo end)
-    → Takes (λ place. take_events place (at_roots request depth node rows) (wanted_in set out at)) out' (record { set = set; next = To end })
+    → Takes (λ place. take_events place (at_roots request depth node rows) (wanted_in set out at)) out' (Ok (record { set = set; end = end }))
 roots_takes request depth node rows set out at out' end h k is room written =
     by_option (batch_of (at_roots request depth node rows))
     (λ e. absurd (rw e at written))
@@ -77,8 +77,7 @@ roots_takes request depth node rows set out at out' end h k is room written =
     (map-append row_asked (take at out) (map request_word found) ∙ rw (rows_again found small)) in
     record {
       answers = λ place. roots_take place request depth node rows found (wanted_in set out at) e ∙ rw waits;
-      is_set = is;
-      within = omega (arith, wrote.after, wrote_length wrote, fits found e);
+      taken = (is, omega (arith, wrote.after, wrote_length wrote, fits found e));
     })
   where
     fits : (found : List EntityRequest) → batch_of (at_roots request depth node rows) ≡ some found → at + length (map request_word found) ≤ length out
@@ -102,13 +101,13 @@ module _ (nodes : List ℕ) (depth from : ℕ) (asked : Asked) (context : List �
   pub initial_room : yields initial ≡ yields inside + yields roots
   initial_room = rw split (yields_append inside roots)
 
-  module _ (wanted : Wanted) {out : List ℕ} {r : Taken} (first : Takes (λ place. take_events place inside wanted) out r) where
+  module _ (wanted : Wanted) {out : List ℕ} {r : Result Taken ℕ} (first : Takes (λ place. take_events place inside wanted) out r) where
     both : (place : ℕ) → take_events place initial wanted ≡ take_events place inside wanted then take_events place roots
     both place = rw split (take-append place inside roots wanted)
 
-    pub initial_refused : {number : ℕ} → r.next ≡ Refused number → Takes (λ place. take_events place initial wanted) out r
+    pub initial_refused : {number : ℕ} → r ≡ Err number → Takes (λ place. take_events place initial wanted) out (Err number)
     initial_refused is = takes_same both (takes_refused first (λ place. take_events place roots) is)
 
-    pub initial_then : {at : ℕ} {out₂ : List ℕ} {r₂ : Taken} → r.next ≡ To at →
-        Takes (λ place. take_events place roots (wanted_in r.set out at)) out₂ r₂ → Takes (λ place. take_events place initial wanted) out₂ r₂
-    initial_then is second = takes_same both (takes_then first (λ place. take_events place roots) is second)
+    pub initial_then : {taken : Taken} {out₂ : List ℕ} {r₂ : Result Taken ℕ} → r ≡ Ok taken →
+        Takes (λ place. take_events place roots (wanted_in taken.set out taken.end)) out₂ r₂ → Takes (λ place. take_events place initial wanted) out₂ r₂
+    initial_then is second = takes_same both (takes_then first is (λ place. take_events place roots) second)

@@ -24,9 +24,8 @@ use Rattle.slices.specs.Slices.{rows_asked}
 use Rattle.ancestors.specs.Takings.{Asks}
 use Rattle.ancestors.specs.Requests.{roots_below, head_of, heads, JudgedAs, MayWrite, WrittenAs, RoomFor, RequestsAnswered}
 use Rattle.ancestors.specs.RoomLaws.{none_asked}
-use Rattle.ancestors.specs.declared.events.Next.{Next}
-use Rattle.ancestors.specs.declared.events.Next.TheVariants.{To, Refused}
-use Rattle.ancestors.specs.declared.events.Taken.{Taken}
+use Rattle.std.specs.Prelude.{Result, Ok, Err}
+use Rattle.ancestors.specs.declared.set.AncestorSet.{AncestorSet}
 
 -- ---- whether a node has an ancestors trie
 
@@ -43,7 +42,7 @@ roots_there nodes n inside = ap roots_below (drop-map row_in n nodes ∙ rows_le
 
 -- the ids that are asked for
 pub asked_done :
-    {answer : ℕ → LoadAnswer (List ℕ)} {r : Taken} {len : ℕ} → Asks answer r → r.next ≡ To len → (place : ℕ) → answer place ≡ done (ids_of r.set)
+    {answer : ℕ → LoadAnswer (List ℕ)} {r : Result AncestorSet ℕ} {set : AncestorSet} → Asks answer r → r ≡ Ok set → (place : ℕ) → answer place ≡ done (ids_of set)
 asked_done asks is place = asks.asks place ∙ rw is
 
 module _ (request : Request) (nodes : List Row) (slice : List Loaded) (asked : List ℕ) where
@@ -88,9 +87,9 @@ module _ (request : Request) (nodes : List Row) (slice : List Loaded) (asked : L
       refused_all e = judging.sofar ∙ rw (next_request, e)
 
       pub judged_refused :
-          {r : Taken} {number : ℕ}
+          {r : Result AncestorSet ℕ} {number : ℕ}
           → Asks (λ place. ancestors_request request nodes slice place (row_asked (get_or asked i 0))) r
-          → r.next ≡ Refused number
+          → r ≡ Err number
           → JudgedAs (requests_from 0) (RefusedReply number i)
       judged_refused {number = number} asks is = rw (refused_all {number = number} (asks.asks i ∙ rw is)) refl
 
@@ -227,20 +226,16 @@ module _ (request : Request) (nodes : List Row) (slice : List Loaded) (asked : L
         ∙ rw place (sets_both (set out₀ 0 (length asked)) hs (flatten front) 1))
 
     module _ (inside : i < length asked) where
-      -- the next is not refused: it asks for the ids of the set
-      pub asked_ids :
-          {r : Taken}
+      -- the next is not refused
+      pub not_refused :
+          {r : Result AncestorSet ℕ} {number : ℕ}
           → Asks (λ place. ancestors_request request nodes slice place (row_asked (get_or asked i 0))) r
-          → ancestors_request request nodes slice i (row_asked (get_or asked i 0)) ≡ done (ids_of r.set)
-      asked_ids {r} asks = go r.next refl
-        where
-          go : (next : Next) → r.next ≡ next → ancestors_request request nodes slice i (row_asked (get_or asked i 0)) ≡ done (ids_of r.set)
-          go (To len) e = asked_done asks e i
-          go (Refused number) e =
-              absurd
-              (let z : ◌≡◌ {A = ℕ} 0 1 =
-              cc (refused_all request nodes slice asked writing.judging inside {number = number} (asks.asks i ∙ rw e), may.is_done) in
-              omega arith)
+          → r ≡ Err number
+          → ⊥
+      not_refused {r} {number} asks e =
+          let z : ◌≡◌ {A = ℕ} 0 1 =
+          cc (refused_all request nodes slice asked writing.judging inside {number = number} (asks.asks i ∙ rw e), may.is_done) in
+          omega arith
 
       module _ {wanted : List ℕ} (is : ancestors_request request nodes slice i (row_asked (get_or asked i 0)) ≡ done wanted) where
         next : RequestsJudged request nodes slice asked (i + 1)

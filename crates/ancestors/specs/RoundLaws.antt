@@ -25,9 +25,9 @@ use Rattle.row_walk.specs.BatchLaws.{drop-map}
 use Rattle.ancestors.specs.Sets.{ids_of, IsSet, Holds}
 use Rattle.slices.specs.Slices.{rows_asked}
 use Rattle.ancestors.specs.Takings.{wanted_in, Takes, Asks}
-use Rattle.ancestors.specs.TakingLaws.{takes_same, takes_refused, takes_done, takes_within, waits_length, found_yields}
+use Rattle.ancestors.specs.TakingLaws.{takes_same, takes_refused, takes_done, takes_set, takes_within, waits_length, found_yields}
 use Rattle.ancestors.specs.declared.set.AncestorSet.{AncestorSet}
-use Rattle.ancestors.specs.declared.events.Next.TheVariants.{To, Refused}
+use Rattle.std.specs.Prelude.{Result, Ok, Err}
 use Rattle.ancestors.specs.declared.events.Taken.{Taken}
 
 -- ---- the rows of a round
@@ -44,20 +44,20 @@ module _ (nodes : List Row) (slice : List Loaded) where
 
   -- rows that are taken leave one more for each that they find
   pub rows_end :
-      (rows : List EntityRequest) (set : AncestorSet) (out : List ℕ) (at : ℕ) {out' : List ℕ} {r : Taken} {end : ℕ}
+      (rows : List EntityRequest) (set : AncestorSet) (out : List ℕ) (at : ℕ) {out' : List ℕ} {r : Result Taken ℕ} {taken : Taken}
       → Takes (λ place. take_rows nodes slice place rows (wanted_in set out at)) out' r
-      → r.next ≡ To end
+      → r ≡ Ok taken
       → at ≤ length out
-      → end ≡ at + length (row_finds nodes slice rows)
-  rows_end rows set out at {out'} {r} {end} taken is room =
+      → taken.end ≡ at + length (row_finds nodes slice rows)
+  rows_end rows set out at {out'} {r} {taken} takes is room =
       omega (
         arith,
-        ap length (take-rows nodes slice 0 rows (wanted_in set out at) (wanted_in r.set out' end) (takes_done taken is 0)),
+        ap length (take-rows nodes slice 0 rows (wanted_in set out at) (wanted_in taken.set out' taken.end) (takes_done takes is 0)),
         length-append (nodes_asked (rows_asked (take at out))) (row_finds nodes slice rows),
         length-map (rows_asked (take at out)) (λ row. row.node),
-        length-map (rows_asked (take end out')) (λ row. row.node),
+        length-map (rows_asked (take taken.end out')) (λ row. row.node),
         waits_length out at room,
-        waits_length out' end (takes_within taken is),
+        waits_length out' taken.end (takes_within takes is),
       )
 
   one_row : (place : ℕ) (row : EntityRequest) (wanted : Wanted) → take_rows nodes slice place (row ∷ []) wanted ≡ take_row nodes slice place row wanted
@@ -85,12 +85,11 @@ module _ (nodes : List Row) (slice : List Loaded) where
     whole place = take_rows nodes slice place (rows_asked rows) (wanted_in set₀ out₀ 0)
 
     -- no row is left
-    pub rows_last : length rows ≤ i → Takes whole out (record { set = more; next = To at })
+    pub rows_last : length rows ≤ i → Takes whole out (Ok (record { set = more; end = at }))
     unfolding take_rows
     rows_last h = record {
       answers = λ place. sofar.sofar place ∙ rw (drop_of_length-le rows h);
-      is_set = sofar.is_set;
-      within = omega (arith, sofar.room);
+      taken = (sofar.is_set, omega (arith, sofar.room));
     }
 
     module _ (inside : i < length rows) where
@@ -109,23 +108,23 @@ module _ (nodes : List Row) (slice : List Loaded) where
       unfolding take_rows
       both place = sofar.sofar place ∙ rw (rows_left row_asked rows i inside)
 
-      module _ {out' : List ℕ} {r : Taken} (taken : Takes (λ place. take_row nodes slice place row (wanted_in more out at)) out' r) where
+      module _ {out' : List ℕ} {r : Result Taken ℕ} (takes : Takes (λ place. take_row nodes slice place row (wanted_in more out at)) out' r) where
         -- it is refused
-        pub rows_refused : {number : ℕ} → r.next ≡ Refused number → Takes whole out' r
-        rows_refused is = takes_same both (takes_refused taken (λ place. take_rows nodes slice place (rows_asked (drop (i + 1) rows))) is)
+        pub rows_refused : {number : ℕ} → r ≡ Err number → Takes whole out' (Err number)
+        rows_refused is = takes_same both (takes_refused takes (λ place. take_rows nodes slice place (rows_asked (drop (i + 1) rows))) is)
 
         -- it is taken
-        pub rows_next : {end : ℕ} → r.next ≡ To end → length out' ≡ length out → TakingRows rows set₀ out₀ r.set out' end (i + 1)
-        rows_next {end} is same =
+        pub rows_next : {taken : Taken} → r ≡ Ok taken → length out' ≡ length out → TakingRows rows set₀ out₀ taken.set out' taken.end (i + 1)
+        rows_next {taken} is same =
             let one : Takes (λ place. take_rows nodes slice place (row ∷ []) (wanted_in more out at)) out' r =
-            takes_same (λ place. one_row place row (wanted_in more out at)) taken in
+            takes_same (λ place. one_row place row (wanted_in more out at)) takes in
             let ends = rows_end (row ∷ []) more out at one is (omega (arith, left_room)) in
             record {
-              is_set = taken.is_set;
+              is_set = takes_set takes is;
               same = same ∙ sofar.same;
               room = omega (arith, left_room, ends, same);
               sofar = λ place.
-                  both place ∙ ap (λ o. o then take_rows nodes slice place (rows_asked (drop (i + 1) rows))) (takes_done taken is place);
+                  both place ∙ ap (λ o. o then take_rows nodes slice place (rows_asked (drop (i + 1) rows))) (takes_done takes is place);
             }
 
 -- ---- round after round
@@ -158,13 +157,13 @@ module _ (nodes : List ℕ) (slice : List Loaded) where
     all_rounds place = take_batches most_steps (rows_of nodes) slice place (wanted_in set₀ rows₀ count)
 
     -- no round is left
-    pub rounds_over : left ≡ 0 → Asks all_rounds (record { set = more; next = To len })
+    pub rounds_over : left ≡ 0 → Asks all_rounds (Ok more)
     unfolding take_batches
-    rounds_over e = record { asks = λ place. rounds.sofar place ∙ rw e; is_set = rounds.is_set }
+    rounds_over e = record { asks = λ place. rounds.sofar place ∙ rw e; asked = rounds.is_set }
 
     -- no row waits
-    pub rounds_ended : len ≡ 0 → Asks all_rounds (record { set = more; next = To 0 })
-    rounds_ended e = record { asks = λ place. rounds.sofar place ∙ rw e (none_wait (rows_of nodes) slice left place (ids_of more)); is_set = rounds.is_set }
+    pub rounds_ended : len ≡ 0 → Asks all_rounds (Ok more)
+    rounds_ended e = record { asks = λ place. rounds.sofar place ∙ rw e (none_wait (rows_of nodes) slice left place (ids_of more)); asked = rounds.is_set }
 
     -- what the rows that wait find
     finds : Waits (rows_of nodes) (row_finds (rows_of nodes) slice (rows_asked (take len rows)))
@@ -173,8 +172,8 @@ module _ (nodes : List ℕ) (slice : List Loaded) where
     pub rounds_few : length (row_finds (rows_of nodes) slice (rows_asked (take len rows))) ≤ length nodes
     rounds_few = omega (arith, waits_few (rows_of nodes) finds, length-map nodes row_in)
 
-    module _ (more_left : 0 < left) {found' : List ℕ} {r : Taken}
-        (taken : Takes (λ place. take_rows (rows_of nodes) slice place (rows_asked (take len rows)) (wanted_in more found 0)) found' r) where
+    module _ (more_left : 0 < left) {found' : List ℕ} {r : Result Taken ℕ}
+        (takes : Takes (λ place. take_rows (rows_of nodes) slice place (rows_asked (take len rows)) (wanted_in more found 0)) found' r) where
       next_round : (place : ℕ) → all_rounds place
           ≡ take_rows (rows_of nodes) slice place (rows_asked (take len rows)) (wanted_in more found 0) then take_batches (left - 1) (rows_of nodes) slice place
       unfolding take_batches
@@ -183,36 +182,36 @@ module _ (nodes : List ℕ) (slice : List Loaded) where
           rounds.sofar place ∙ ap (λ n. take_batches n (rows_of nodes) slice place (wanted_in more rows len)) e
 
       -- a row is refused
-      pub rounds_refused : {number : ℕ} → r.next ≡ Refused number → Asks all_rounds r
+      pub rounds_refused : {number : ℕ} → r ≡ Err number → Asks all_rounds (Err number)
       rounds_refused {number} is = record {
         asks = λ place.
             let e : take_rows (rows_of nodes) slice place (rows_asked (take len rows)) (wanted_in more found 0) ≡ refused_at number place =
-            taken.answers place ∙ rw is in
-            next_round place ∙ rw (e, is);
-        is_set = taken.is_set;
+            takes.answers place ∙ rw is in
+            next_round place ∙ rw e;
+        asked = tt;
       }
 
-      module _ {end : ℕ} (is : r.next ≡ To end) where
+      module _ {taken : Taken} (is : r ≡ Ok taken) where
         -- so many rows wait then
-        pub round_end : (end ≤ length nodes) × (end ≤ length found')
+        pub round_end : (taken.end ≤ length nodes) × (taken.end ≤ length found')
         round_end = (
-          omega (arith, rounds_few, rows_end (rows_of nodes) slice (rows_asked (take len rows)) more found 0 taken is (omega arith)),
-          takes_within taken is,
+          omega (arith, rounds_few, rows_end (rows_of nodes) slice (rows_asked (take len rows)) more found 0 takes is (omega arith)),
+          takes_within takes is,
         )
 
         -- they are those of the next round
-        pub rounds_next : {rows' : List ℕ} → length found' ≡ length found → rows' ≡ sets rows 0 (take end found') →
-            Rounds set₀ rows₀ count found₀ rows' found' r.set end (left - 1)
+        pub rounds_next : {rows' : List ℕ} → length found' ≡ length found → rows' ≡ sets rows 0 (take taken.end found') →
+            Rounds set₀ rows₀ count found₀ rows' found' taken.set taken.end (left - 1)
         rounds_next {rows'} same copied =
             let (few, inside) = round_end in
-            let many : length (take end found') ≡ end = length-take-le end found' inside in
-            let back : take end rows' ≡ take end found' =
-            rw copied (rw many at (taken_back rows (take end found') (omega (arith, many, rounds.rows_room)))) in
-            let long : length rows' ≡ length rows = rw copied (length-sets rows 0 (take end found')) in
-            let nodes_found : nodes_asked (rows_asked (take end found')) ≡ row_finds (rows_of nodes) slice (rows_asked (take len rows)) =
-            take-rows (rows_of nodes) slice 0 (rows_asked (take len rows)) (wanted_in more found 0) (wanted_in r.set found' end) (takes_done taken is 0) in
+            let many : length (take taken.end found') ≡ taken.end = length-take-le taken.end found' inside in
+            let back : take taken.end rows' ≡ take taken.end found' =
+            rw copied (rw many at (taken_back rows (take taken.end found') (omega (arith, many, rounds.rows_room)))) in
+            let long : length rows' ≡ length rows = rw copied (length-sets rows 0 (take taken.end found')) in
+            let nodes_found : nodes_asked (rows_asked (take taken.end found')) ≡ row_finds (rows_of nodes) slice (rows_asked (take len rows)) =
+            take-rows (rows_of nodes) slice 0 (rows_asked (take len rows)) (wanted_in more found 0) (wanted_in taken.set found' taken.end) (takes_done takes is 0) in
             record {
-              is_set = taken.is_set;
+              is_set = takes_set takes is;
               same_rows = long ∙ rounds.same_rows;
               same_found = same ∙ rounds.same_found;
               rows_room = omega (arith, long, rounds.rows_room);
@@ -221,7 +220,7 @@ module _ (nodes : List ℕ) (slice : List Loaded) where
               waits = rw (back, nodes_found) finds;
               sofar = λ place.
                   next_round place
-                  ∙ ap (λ o. o then take_batches (left - 1) (rows_of nodes) slice place) (takes_done taken is place)
+                  ∙ ap (λ o. o then take_batches (left - 1) (rows_of nodes) slice place) (takes_done takes is place)
                   ∙ rw back;
             }
 
@@ -242,12 +241,12 @@ module _ (nodes : List ℕ) (slice : List Loaded) (request : Request) (row : Ent
   asked place = ancestors_request request (rows_of nodes) slice place row
 
   -- past the last node nothing is asked for
-  pub request_past : length nodes ≤ row.node → Asks asked (record { set = set; next = To 0 })
+  pub request_past : length nodes ≤ row.node → Asks asked (Ok set)
   request_past h = record {
     asks = λ place.
         ap (walked request (rows_of nodes) slice place row.node) (drop-map row_in row.node nodes ∙ ap (map row_in) (drop_of_length-le nodes h))
         ∙ rw empty.holds;
-    is_set = empty.is_set;
+    asked = empty.is_set;
   }
 
   module _ (inside : row.node < length nodes) (depth : ℕ) (is-depth : depth ≡ depth_in (get_or nodes row.node 0)) where
@@ -263,30 +262,30 @@ module _ (nodes : List ℕ) (slice : List Loaded) (request : Request) (row : Ent
     pub first_few : yields first ≤ length nodes
     first_few = omega (arith, waits_few (rows_of nodes) first_waits, found_yields first, length-map nodes row_in)
 
-    module _ (out : List ℕ) {out' : List ℕ} {r : Taken} (taken : Takes (λ place. take_events place first (wanted_in set out 0)) out' r) where
+    module _ (out : List ℕ) {out' : List ℕ} {r : Result Taken ℕ} (takes : Takes (λ place. take_events place first (wanted_in set out 0)) out' r) where
       first_then : (place : ℕ) → asked place ≡ take_events place first (wanted_in set out 0) then take_batches most_steps (rows_of nodes) slice place
       first_then place =
           ap (walked request (rows_of nodes) slice place row.node) (drop-map row_in row.node nodes ∙ rows_left row_in nodes row.node inside)
           ∙ rw (is-depth, add-one row.node, empty.holds)
 
-      pub request_refused : {number : ℕ} → r.next ≡ Refused number → Asks asked r
+      pub request_refused : {number : ℕ} → r ≡ Err number → Asks asked (Err number)
       request_refused {number} is = record {
         asks = λ place.
-            let e : take_events place first (wanted_in set out 0) ≡ refused_at number place = taken.answers place ∙ rw is in
-            first_then place ∙ rw (e, is);
-        is_set = taken.is_set;
+            let e : take_events place first (wanted_in set out 0) ≡ refused_at number place = takes.answers place ∙ rw is in
+            first_then place ∙ rw e;
+        asked = tt;
       }
 
-      module _ {len : ℕ} (is : r.next ≡ To len) where
+      module _ {taken : Taken} (is : r ≡ Ok taken) where
         -- the rows that wait then are few
-        pub request_waits : Waits (rows_of nodes) (nodes_asked (rows_asked (take len out')))
-        request_waits = rw (take-events 0 first (wanted_in set out 0) (wanted_in r.set out' len) (takes_done taken is 0)) first_waits
+        pub request_waits : Waits (rows_of nodes) (nodes_asked (rows_asked (take taken.end out')))
+        request_waits = rw (take-events 0 first (wanted_in set out 0) (wanted_in taken.set out' taken.end) (takes_done takes is 0)) first_waits
 
         pub request_then :
-            {r₂ : Taken}
-            → Asks (λ place. take_batches most_steps (rows_of nodes) slice place (wanted_in r.set out' len)) r₂
+            {r₂ : Result AncestorSet ℕ}
+            → Asks (λ place. take_batches most_steps (rows_of nodes) slice place (wanted_in taken.set out' taken.end)) r₂
             → Asks asked r₂
         request_then rounds = record {
-          asks = λ place. first_then place ∙ ap (λ o. o then take_batches most_steps (rows_of nodes) slice place) (takes_done taken is place) ∙ rounds.asks place;
-          is_set = rounds.is_set;
+          asks = λ place. first_then place ∙ ap (λ o. o then take_batches most_steps (rows_of nodes) slice place) (takes_done takes is place) ∙ rounds.asks place;
+          asked = rounds.asked;
         }

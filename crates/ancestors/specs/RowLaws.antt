@@ -1,12 +1,14 @@
 -- Laws of taking a row. No contract cites this file.
-use Rattle.std.specs.Prelude.{ℕ, ◌-◌, ◌≤◌, ◌<◌, ◌≡◌, Bool, true, false, cond, length, take, drop, get_or}
+use Rattle.std.specs.Prelude.{ℕ, ◌≤◌, ◌<◌, ◌≡◌, Bool, true, false, length, take, get_or}
+use Rattle.std.specs.Prelude.{Option as Maybe, Some, None, Result, Ok, Err}
+use denote.Ref.{Bor}
 use Rattle.std.proofs.Common.{ap, ◌∙◌, drop_of_length-le}
 use mathlib.Core.List.{List, [], ◌∷◌, map, append-nil}
 use Rattle.std.proofs.Math.Option.{Option, none, some}
 use Rattle.rules.specs.Facts.{by_option}
 use Rattle.rules.specs.Tries.{Row}
 use Rattle.rules.specs.Values.{Entity}
-use Rattle.rules.specs.Loading.{LoadAnswer, done, refused_at, ◌then◌, EntityRequest, Event, remaining_entities, Loaded, loaded_as, Wanted, is_marked, take_events, take_row}
+use Rattle.rules.specs.Loading.{LoadAnswer, done, ◌then◌, EntityRequest, Event, remaining_entities, Loaded, loaded_as, Wanted, is_marked, take_events, take_row}
 use Rattle.rules.specs.Trips.{found_in, row_finds}
 use Rattle.rules.specs.WalkRows.{remaining_rows}
 use Rattle.rules.proofs.WalkRowLaws.{remaining-rows}
@@ -17,14 +19,11 @@ use Rattle.row_walk.specs.ScanLaws.{rows_left}
 use Rattle.row_walk.specs.Batches.{yields}
 use Rattle.row_walk.specs.BatchLaws.{drop-map}
 use Rattle.ancestors.specs.Sets.{ids_of, IsSet, IsPut}
-use Rattle.ancestors.specs.SliceWords.{RowsAt, FoundIn}
+use Rattle.ancestors.specs.SliceWords.{FoundAs}
 use Rattle.slices.specs.Slices.{rows_asked}
-use Rattle.ancestors.specs.Takings.{wanted_in, take_mark, Puts, Takes}
+use Rattle.ancestors.specs.Takings.{wanted_in, put_at, take_mark, IsSetIn, Puts, Takes}
 use Rattle.ancestors.specs.TakingLaws.{take_put, found_yields}
 use Rattle.ancestors.specs.declared.set.AncestorSet.{AncestorSet}
-use Rattle.ancestors.specs.declared.set.Put.{Put}
-use Rattle.ancestors.specs.declared.slice.Found.TheVariants.{Rows, Nothing}
-use Rattle.ancestors.specs.declared.events.Next.TheVariants.{To, Refused}
 use Rattle.ancestors.specs.declared.events.Taken.{Taken}
 
 -- ---- the mark
@@ -39,11 +38,15 @@ module _ (nodes : List ℕ) (node : ℕ) where
   pub mark_past : length nodes ≤ node → is_marked (rows_of nodes) node ≡ false
   mark_past h = ap mark_of (drop-map row_in node nodes ∙ ap (map row_in) (drop_of_length-le nodes h))
 
-module _ (nodes : List Row) (node : ℕ) (set : AncestorSet) (id : ℕ) where
-  pub puts_mark : {r : Put} → is_marked nodes node ≡ true → IsPut id (ids_of set) r → Puts (λ place. take_mark nodes place node id) set r
-  puts_mark e put = record { is_set = put.is_set; puts = λ place next. rw e (take_put place next put) }
+put_is_set : {id : ℕ} {ids : List ℕ} (r : Maybe AncestorSet) → IsPut id ids r → IsSetIn r
+put_is_set (Some more) put = put.put.is_set
+put_is_set None put = tt
 
-  pub puts_none : is_marked nodes node ≡ false → IsSet set → Puts (λ place. take_mark nodes place node id) set (record { set = set; full = false })
+module _ (nodes : List Row) (node : ℕ) (set : AncestorSet) (id : ℕ) where
+  pub puts_mark : {r : Maybe AncestorSet} → is_marked nodes node ≡ true → IsPut id (ids_of set) r → Puts (λ place. take_mark nodes place node id) set r
+  puts_mark {r} e put = record { is_set = put_is_set r put; puts = λ place next. rw e (take_put place next put) }
+
+  pub puts_none : is_marked nodes node ≡ false → IsSet set → Puts (λ place. take_mark nodes place node id) set (Some set)
   puts_none e is = record { is_set = is; puts = λ place next. rw e }
 
 -- ---- the row
@@ -53,18 +56,15 @@ module _ (nodes : List Row) (slice : List Loaded) (row : EntityRequest) where
   abbrev children : ℕ → Option Entity → Wanted → LoadAnswer Wanted
   children place o more = elim o [ none ↦ done more | some value ↦ take_events place (remaining_entities nodes row.node value.attributes) more ]
 
-  module _ (words : List ℕ) (from to : ℕ) (found : FoundIn words (loaded_as row.id slice) (Rows from to)) where
+  module _ (values : Bor (List ℕ)) (found : FoundAs (loaded_as row.id slice) (Some values)) where
     abbrev events : List Event
-    events = remaining_rows nodes row.node (value_rows_of (take (to - from) (drop from words)))
+    events = remaining_rows nodes row.node (value_rows_of values.now)
 
-    loaded_there : (value : Entity) × (loaded_as row.id slice ≡ some value) × RowsAt words value from to
+    loaded_there : (value : Entity) × (loaded_as row.id slice ≡ some value) × FoundAs (some value) (Some values)
     loaded_there = by_option (loaded_as row.id slice) (λ e. absurd (rw e at found)) (λ value e. (value, e, rw e at found))
 
-    events_there : (value : Entity) → RowsAt words value from to → remaining_entities nodes row.node value.attributes ≡ events
-    events_there value there = rw there.reads (remaining-rows nodes row.node (value_rows_of (take (to - from) (drop from words))))
-
-    pub rows_inside : (from ≤ to) × (to ≤ length words)
-    rows_inside = let (value, _, there) = loaded_there in (there.ordered, there.inside)
+    events_there : (value : Entity) → FoundAs (some value) (Some values) → remaining_entities nodes row.node value.attributes ≡ events
+    events_there value there = rw there (remaining-rows nodes row.node (value_rows_of values.now))
 
     -- its children find as many as they meet
     pub row_room : length (row_finds nodes slice (row ∷ [])) ≡ yields events
@@ -73,34 +73,30 @@ module _ (nodes : List Row) (slice : List Loaded) (row : EntityRequest) where
         let (value, is, there) = loaded_there in
         rw (is, append-nil (found_in (remaining_entities nodes row.node value.attributes)), events_there value there) (found_yields events)
 
-  module _ (set : AncestorSet) (out : List ℕ) (at : ℕ) {put : Put} (mark : Puts (λ place. take_mark nodes place row.node row.id) set put) where
+  module _ (set : AncestorSet) (out : List ℕ) (at : ℕ) {put : Maybe AncestorSet} (mark : Puts (λ place. take_mark nodes place row.node row.id) set put) where
     abbrev whole : ℕ → LoadAnswer Wanted
     whole place = take_row nodes slice place row (wanted_in set out at)
 
-    marked : (place : ℕ) → whole place ≡ cond put.full (refused_at 15 place) (done (wanted_in put.set out at)) then children place (loaded_as row.id slice)
+    marked : (place : ℕ) → whole place ≡ put_at place (rows_asked (take at out)) put then children place (loaded_as row.id slice)
     marked place = ap (λ o. o then children place (loaded_as row.id slice)) (mark.puts place (rows_asked (take at out)))
 
     -- there is no place for its id
-    pub row_full : put.full ≡ true → IsSet set → Takes whole out (record { set = set; next = Refused 15 })
-    row_full e is = record { answers = λ place. marked place ∙ rw e; is_set = is; within = tt }
+    pub row_full : put ≡ None → Takes whole out (Err 15)
+    row_full e = record { answers = λ place. marked place ∙ rw e; taken = tt }
 
-    module _ (fits : put.full ≡ false) (words : List ℕ) where
+    module _ {more : AncestorSet} (fits : put ≡ Some more) where
       -- its entity is not loaded
-      pub row_missing : FoundIn words (loaded_as row.id slice) Nothing → at ≤ length out → Takes whole out (record { set = put.set; next = To at })
-      row_missing found room = record { answers = λ place. marked place ∙ rw fits (go place); is_set = mark.is_set; within = room }
+      pub row_missing : FoundAs (loaded_as row.id slice) None → at ≤ length out → Takes whole out (Ok (record { set = more; end = at }))
+      row_missing found room = record { answers = λ place. marked place ∙ rw fits (go place); taken = (rw fits at mark.is_set, room) }
         where
-          go : (place : ℕ) → children place (loaded_as row.id slice) (wanted_in put.set out at) ≡ done (wanted_in put.set out at)
+          go : (place : ℕ) → children place (loaded_as row.id slice) (wanted_in more out at) ≡ done (wanted_in more out at)
           go place = by_option (loaded_as row.id slice) (λ e. rw e) (λ value e. absurd (rw e at found))
 
       -- it is
       pub row_found :
-          (from to : ℕ) {out' : List ℕ} {r : Taken} (found : FoundIn words (loaded_as row.id slice) (Rows from to))
-          → Takes (λ place. take_events place (events words from to found) (wanted_in put.set out at)) out' r
+          (values : Bor (List ℕ)) {out' : List ℕ} {r : Result Taken ℕ} (found : FoundAs (loaded_as row.id slice) (Some values))
+          → Takes (λ place. take_events place (events values found) (wanted_in more out at)) out' r
           → Takes whole out' r
-      row_found from to found taken =
-          let (value, is, there) = loaded_there words from to found in
-          record {
-            answers = λ place. marked place ∙ rw (fits, is, events_there words from to found value there) (taken.answers place);
-            is_set = taken.is_set;
-            within = taken.within;
-          }
+      row_found values found takes =
+          let (value, is, there) = loaded_there values found in
+          record { answers = λ place. marked place ∙ rw (fits, is, events_there values found value there) (takes.answers place); taken = takes.taken }

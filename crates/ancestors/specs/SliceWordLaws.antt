@@ -8,8 +8,9 @@ use Rattle.rules.specs.Facts.{capped, capped_min, compared}
 use Rattle.rules.specs.Values.{Entity}
 use Rattle.rules.specs.Loading.{loaded_as}
 use Rattle.answers.specs.Answers.{head_in, entity_in}
-use Rattle.ancestors.specs.SliceWords.{slice_of, slice_in, FoundIn}
-use Rattle.ancestors.specs.declared.slice.Found.TheVariants.{Rows, Nothing}
+use Rattle.ancestors.specs.SliceWords.{slice_of, slice_in, FoundAs}
+use Rattle.std.specs.Prelude.{Some, None}
+use denote.Ref.{Bor}
 
 -- what is behind the end is nothing, from wherever it is looked at
 drop_capped : (words : List ℕ) (n : ℕ) → drop n words ≡ drop (capped (length words) n) words
@@ -29,11 +30,11 @@ pub record Passing (words : List ℕ) (id at : ℕ) : Type 0 where
 
 module _ {words : List ℕ} {id at : ℕ} (passing : Passing words id at) where
   -- no word is left
-  pub found_nothing : length words ≤ at → FoundIn words (loaded_as id (slice_in words)) Nothing
+  pub found_nothing : length words ≤ at → FoundAs (loaded_as id (slice_in words)) None
   unfolding slice_of loaded_as
   found_nothing h = rw (passing.sofar, drop_of_length-le words h) (go passing.most)
     where
-      go : (most : ℕ) → FoundIn words (loaded_as id (slice_of most [])) Nothing
+      go : (most : ℕ) → FoundAs (loaded_as id (slice_of most [])) None
       go zero = tt
       go (suc most) = tt
 
@@ -93,12 +94,11 @@ module _ {words : List ℕ} {id at : ℕ} (passing : Passing words id at) where
         go (suc most) enough e = let (after, _, _) = past_entity in (most, omega arith, e ∙ here most)
 
     -- it is the one
-    pub found_here : (head_in (get_or words at 0)).flag ≡ id → FoundIn words (loaded_as id (slice_in words)) (Rows start end)
-    found_here e =
+    pub found_here : (values : Bor (List ℕ)) → values.now ≡ take (end - start) (drop start words) →
+        (head_in (get_or words at 0)).flag ≡ id → FoundAs (loaded_as id (slice_in words)) (Some values)
+    found_here values is e =
         let (most, enough, sofar) = one_more in
-        let (after, inside, ordered) = past_entity in
-        rw (sofar, eq-eqb (head_in (get_or words at 0)).flag id e)
-        (record { ordered = ordered; inside = inside; reads = rw (starts, rows_there) })
+        rw (sofar, eq-eqb (head_in (get_or words at 0)).flag id e) (rw (starts, rows_there, is))
 
     -- it is another
     pub passing_next : ((head_in (get_or words at 0)).flag ≡ id → ⊥) → Passing words id end

@@ -1,5 +1,7 @@
 -- Laws of taking events. No contract cites this file.
-use Rattle.std.specs.Prelude.{ℕ, suc, ◌+◌, ◌*◌, ◌≤◌, ◌<◌, ◌≡◌, refl, Bool, true, false, cond, List, [], ◌∷◌, ◌++◌, ltb, length, take, drop, get_or, set}
+use Rattle.std.specs.Prelude.{ℕ, suc, ◌+◌, ◌*◌, ◌≤◌, ◌<◌, ◌≡◌, refl, List, [], ◌∷◌, ◌++◌, length, take, drop, get_or, set}
+use Rattle.std.specs.Prelude.{Option as Maybe, Some, None, Result, Ok, Err, ok_or}
+use Rattle.std.specs.Result.{result_ok}
 use Rattle.std.proofs.Common.{add-one, arith, ap, ◌∙◌, length-append, drop_of_length-le, take-suc-set, length-take-le}
 use Rattle.std.proofs.lemmas.List.{map-append, length-map}
 use Rattle.std.proofs.Math.Option.{some}
@@ -22,12 +24,10 @@ use Rattle.values.specs.ValueWordLaws.{request_again}
 use Rattle.row_walk.specs.declared.walk.Meeting.{Meeting}
 use Rattle.row_walk.specs.declared.walk.Met.{Met}
 use Rattle.row_walk.specs.declared.walk.Met.TheVariants.{Row as RowMet, Ids, Bad, End}
-use Rattle.ancestors.specs.Sets.{ids_of, IsSet, IsPut}
+use Rattle.ancestors.specs.Sets.{ids_of, IsSet, Holds, PutAs, IsPut}
 use Rattle.slices.specs.Slices.{rows_asked}
-use Rattle.ancestors.specs.Takings.{wanted_in, Puts, Takes}
+use Rattle.ancestors.specs.Takings.{wanted_in, put_at, Puts, Takes}
 use Rattle.ancestors.specs.declared.set.AncestorSet.{AncestorSet}
-use Rattle.ancestors.specs.declared.set.Put.{Put}
-use Rattle.ancestors.specs.declared.events.Next.TheVariants.{To, Refused}
 use Rattle.ancestors.specs.declared.events.Taken.{Taken}
 
 -- events after events
@@ -49,17 +49,28 @@ take-append place (bad ∷ a) b wanted = refl
 -- ---- ids
 
 -- an id is put, or there is no place for it
-pub take_put : (place : ℕ) {id : ℕ} {ids : List ℕ} {r : Put} (next : List EntityRequest) → IsPut id ids r →
-    take_id place id (record { ids = ids; next = next }) ≡ cond r.full (refused_at 15 place) (done (record { ids = ids_of r.set; next = next }))
-take_put place {id} {ids} {r} next put = go r.full put.is_full put.puts
+pub take_put : (place : ℕ) {id : ℕ} {ids : List ℕ} {r : Maybe AncestorSet} (next : List EntityRequest) → IsPut id ids r →
+    take_id place id (record { ids = ids; next = next }) ≡ put_at place next r
+take_put place {id} {ids} {r} next put = go r put.put
   where
-    go :
-        (full : Bool)
-        → full ≡ ltb 256 (length (with_id id ids))
-        → (full ≡ false → ids_of r.set ≡ with_id id ids)
-        → take_id place id (record { ids = ids; next = next }) ≡ cond full (refused_at 15 place) (done (record { ids = ids_of r.set; next = next }))
-    go true e h = rw (← e)
-    go false e h = rw (← e, h refl)
+    go : (r : Maybe AncestorSet) → PutAs id ids r → take_id place id (record { ids = ids; next = next }) ≡ put_at place next r
+    go (Some more) put =
+        let many : length (ids_of more) ≡ more.len = length-take-le more.len more.ids (omega (arith, put.is_set.places, put.is_set.few)) in
+        let few : length (with_id id ids) ≤ 256 = omega (arith, many, ap length put.holds, put.is_set.few) in
+        rw (le-ltb 256 (length (with_id id ids)) few, put.holds)
+    go None put = rw (lt-ltb 256 (length (with_id id ids)) put)
+
+-- the set that `ok_or` hands on
+pub was_put : {r : Maybe AncestorSet} {o : Result AncestorSet ℕ} {set : AncestorSet} → r ≡ result_ok o → o ≡ Ok set → r ≡ Some set
+was_put e is = e ∙ rw is
+
+-- where it refuses there was no place
+pub not_put : {r : Maybe AncestorSet} {o : Result AncestorSet ℕ} {number : ℕ} → o ≡ ok_or r 15 → o ≡ Err number → (r ≡ None) × (number ≡ 15)
+not_put {r} {o} {number} e is = go r e
+  where
+    go : (r : Maybe AncestorSet) → o ≡ ok_or r 15 → (r ≡ None) × (number ≡ 15)
+    go (Some set) e = absurd (let z : ◌≡◌ {A = ℕ} 0 1 = cc in omega arith)
+    go None e = (refl, cc)
 
 -- The ids of the rows that are passed are put.
 pub record Putting (set₀ : AncestorSet) (values : List ℕ) (from depth : ℕ) (set : AncestorSet) (i : ℕ) : Type 0 where
@@ -75,19 +86,19 @@ module _ {set₀ : AncestorSet} {values : List ℕ} {from depth : ℕ} {set : An
 
   puts_none_left :
       ancestors_at depth (value_rows_of (drop i values)) ≡ []
-      → Puts all set₀ (record { set = set; full = false })
+      → Puts all set₀ (Some set)
   unfolding take_events
   puts_none_left e = record { is_set = putting.is_set; puts = λ place next. putting.sofar place next ∙ rw e }
 
   -- no row is left
-  pub puts_last : length values ≤ i → Puts all set₀ (record { set = set; full = false })
+  pub puts_last : length values ≤ i → Puts all set₀ (Some set)
   unfolding ancestors_at
   puts_last h = puts_none_left (rw (drop_of_length-le values h))
 
   module _ (more : i < length values) where
     -- the next row is above the elements
     pub puts_above : depth_from (get_or values i 0) < depth →
-        Puts all set₀ (record { set = set; full = false })
+        Puts all set₀ (Some set)
     unfolding ancestors_at
     puts_above h = puts_none_left (rw (rows_left value_row_in values i more, lt-ltb (depth_from (get_or values i 0)) depth h))
 
@@ -102,12 +113,11 @@ module _ {set₀ : AncestorSet} {values : List ℕ} {from depth : ℕ} {set : An
     }
 
     -- it is one
-    module _ (h : depth_from (get_or values i 0) ≡ depth) {r : Put} (put : IsPut (number_from (get_or values i 0)) (ids_of set) r) where
+    module _ (h : depth_from (get_or values i 0) ≡ depth) {r : Maybe AncestorSet} (put : IsPut (number_from (get_or values i 0)) (ids_of set) r) where
       put_next :
           (place : ℕ) (next : List EntityRequest)
           → take_events place (ancestors_at depth (value_rows_of (drop from values))) (record { ids = ids_of set₀; next = next })
-          ≡ cond r.full (refused_at 15 place) (done (record { ids = ids_of r.set; next = next }))
-          then take_events place (ancestors_at depth (value_rows_of (drop (i + 1) values)))
+          ≡ put_at place next r then take_events place (ancestors_at depth (value_rows_of (drop (i + 1) values)))
       unfolding ancestors_at take_events
       put_next place next =
           putting.sofar place next
@@ -118,11 +128,13 @@ module _ {set₀ : AncestorSet} {values : List ℕ} {from depth : ℕ} {set : An
             take_put place next put,
           )
 
-      pub puts_full : r.full ≡ true → Puts all set₀ (record { set = set; full = true })
-      puts_full e = record { is_set = putting.is_set; puts = λ place next. put_next place next ∙ rw e }
+      pub puts_full : r ≡ None → Puts all set₀ None
+      puts_full e = record { is_set = tt; puts = λ place next. put_next place next ∙ rw e }
 
-      pub putting_more : r.full ≡ false → Putting set₀ values from depth r.set (i + 1)
-      putting_more e = record { is_set = put.is_set; sofar = λ place next. put_next place next ∙ rw e }
+      pub putting_more : {more : AncestorSet} → r ≡ Some more → Putting set₀ values from depth more (i + 1)
+      putting_more {more} e =
+          let held : Holds more (with_id (number_from (get_or values i 0)) (ids_of set)) = rw e at put.put in
+          record { is_set = held.is_set; sofar = λ place next. put_next place next ∙ rw e }
 
 -- ---- what a walk meets
 
@@ -154,17 +166,17 @@ module _ {events : List Event} {set₀ : AncestorSet} {out₀ : List ℕ} {to : 
   -- nothing more is met
   pub taken_all :
       Taking events set₀ out₀ to [] more out at
-      → Takes (λ place. take_events place events (wanted_in set₀ out₀ to)) out (record { set = more; next = To at })
+      → Takes (λ place. take_events place events (wanted_in set₀ out₀ to)) out (Ok (record { set = more; end = at }))
   unfolding take_events yields
-  taken_all sofar = record { answers = sofar.sofar; is_set = sofar.is_set; within = omega (arith, sofar.room) }
+  taken_all sofar = record { answers = sofar.sofar; taken = (sofar.is_set, omega (arith, sofar.room)) }
 
   -- 14 is met
   pub taken_bad :
       (rest : List Event)
       → Taking events set₀ out₀ to (bad ∷ rest) more out at
-      → Takes (λ place. take_events place events (wanted_in set₀ out₀ to)) out (record { set = more; next = Refused 14 })
+      → Takes (λ place. take_events place events (wanted_in set₀ out₀ to)) out (Err 14)
   unfolding take_events
-  taken_bad rest sofar = record { answers = sofar.sofar; is_set = sofar.is_set; within = tt }
+  taken_bad rest sofar = record { answers = sofar.sofar; taken = tt }
 
   -- a row is found
   pub taking_room : (row : EntityRequest) (rest : List Event) → Taking events set₀ out₀ to (yielded row ∷ rest) more out at → at < length out
@@ -188,22 +200,22 @@ module _ {events : List Event} {set₀ : AncestorSet} {out₀ : List ℕ} {to : 
 
   -- ids are met
   module _ (depth : ℕ) (rows : List ValueRow) (rest : List Event) (sofar : Taking events set₀ out₀ to (ancestors_at depth rows ++ rest) more out at)
-      {r : Put} (puts : Puts (λ place. take_events place (ancestors_at depth rows)) more r) where
+      {r : Maybe AncestorSet} (puts : Puts (λ place. take_events place (ancestors_at depth rows)) more r) where
     ids_met :
         (place : ℕ)
         → take_events place events (wanted_in set₀ out₀ to)
-        ≡ cond r.full (refused_at 15 place) (done (wanted_in r.set out at)) then take_events place rest
+        ≡ put_at place (rows_asked (take at out)) r then take_events place rest
     ids_met place =
         sofar.sofar place
         ∙ take-append place (ancestors_at depth rows) rest (wanted_in more out at)
         ∙ ap (λ o. o then take_events place rest) (puts.puts place (rows_asked (take at out)))
 
-    pub taken_full : r.full ≡ true → Takes (λ place. take_events place events (wanted_in set₀ out₀ to)) out (record { set = more; next = Refused 15 })
-    taken_full e = record { answers = λ place. ids_met place ∙ rw e; is_set = sofar.is_set; within = tt }
+    pub taken_full : r ≡ None → Takes (λ place. take_events place events (wanted_in set₀ out₀ to)) out (Err 15)
+    taken_full e = record { answers = λ place. ids_met place ∙ rw e; taken = tt }
 
-    pub taking_ids : r.full ≡ false → Taking events set₀ out₀ to rest r.set out at
+    pub taking_ids : {met : AncestorSet} → r ≡ Some met → Taking events set₀ out₀ to rest met out at
     taking_ids e = record {
-      is_set = puts.is_set;
+      is_set = rw e at puts.is_set;
       same = sofar.same;
       room = rw (yields_ids depth rows rest) at sofar.room;
       sofar = λ place. ids_met place ∙ rw e;
@@ -226,7 +238,7 @@ module _ {nodes values : List ℕ} {depth from : ℕ} {set₀ : AncestorSet} {ou
   whole place = take_events place (walk_rows depth (some (value_rows_of values) ∷ []) from (rows_of (drop from nodes))) (wanted_in set₀ out₀ to)
 
   -- no node is left
-  pub below_last : length nodes ≤ i → Takes whole out (record { set = more; next = To at })
+  pub below_last : length nodes ≤ i → Takes whole out (Ok (record { set = more; end = at }))
   unfolding walk_rows
   below_last h = taken_all (rw (drop_of_length-le nodes h) at sofar.taking)
 
@@ -237,10 +249,10 @@ module _ {nodes values : List ℕ} {depth from : ℕ} {set₀ : AncestorSet} {ou
         (met_then values r.node met (going nodes values depth kept' r.len (r.node + 1))) more out at
     next is = rw is at (rw meets.meets at sofar.taking)
 
-    pub below_bad : r.met ≡ Bad → Takes whole out (record { set = more; next = Refused 14 })
+    pub below_bad : r.met ≡ Bad → Takes whole out (Err 14)
     below_bad is = taken_bad _ (next is)
 
-    pub below_end : r.met ≡ End → Takes whole out (record { set = more; next = To at })
+    pub below_end : r.met ≡ End → Takes whole out (Ok (record { set = more; end = at }))
     below_end is = taken_all (next is)
 
     -- a row is met at a node, its id is small, and there is room for it
@@ -260,11 +272,11 @@ module _ {nodes values : List ℕ} {depth from : ℕ} {set₀ : AncestorSet} {ou
           taking = taking_row e r.node _ small (next is);
         }
 
-    module _ {p d : ℕ} (is : r.met ≡ Ids p d) {put : Put} (puts : Puts (λ place. take_events place (ancestors_at d (value_rows_of (drop p values)))) more put) where
-      pub below_full : put.full ≡ true → Takes whole out (record { set = more; next = Refused 15 })
+    module _ {p d : ℕ} (is : r.met ≡ Ids p d) {put : Maybe AncestorSet} (puts : Puts (λ place. take_events place (ancestors_at d (value_rows_of (drop p values)))) more put) where
+      pub below_full : put ≡ None → Takes whole out (Err 15)
       below_full e = taken_full d (value_rows_of (drop p values)) _ (next is) puts e
 
-      pub below_ids : put.full ≡ false → TakingBelow nodes values depth from set₀ out₀ to out kept' r.len put.set (r.node + 1) at
+      pub below_ids : {met : AncestorSet} → put ≡ Some met → TakingBelow nodes values depth from set₀ out₀ to out kept' r.len met (r.node + 1) at
       below_ids e =
           let inside : r.node < length nodes = rw is at meets.inside in
           record {
@@ -282,39 +294,41 @@ pub remaining_past_takes :
     → length nodes ≤ node
     → IsSet set
     → to ≤ length out
-    → Takes (λ place. take_events place (remaining_rows (rows_of nodes) node run) (wanted_in set out to)) out (record { set = set; next = To to })
+    → Takes (λ place. take_events place (remaining_rows (rows_of nodes) node run) (wanted_in set out to)) out (Ok (record { set = set; end = to }))
 unfolding take_events
-remaining_past_takes nodes node run set out to h is room = record { answers = λ place. rw (remaining_past nodes node run h); is_set = is; within = room }
+remaining_past_takes nodes node run set out to h is room = record { answers = λ place. rw (remaining_past nodes node run h); taken = (is, room) }
 
 -- ---- one after the other
 
 -- an answer that is another way to say it
-pub takes_same : {f g : ℕ → LoadAnswer Wanted} {out : List ℕ} {r : Taken} → ((place : ℕ) → f place ≡ g place) → Takes g out r → Takes f out r
-takes_same e t = record { answers = λ place. e place ∙ t.answers place; is_set = t.is_set; within = t.within }
+pub takes_same : {f g : ℕ → LoadAnswer Wanted} {out : List ℕ} {r : Result Taken ℕ} → ((place : ℕ) → f place ≡ g place) → Takes g out r → Takes f out r
+takes_same e t = record { answers = λ place. e place ∙ t.answers place; taken = t.taken }
 
-module _ {f : ℕ → LoadAnswer Wanted} {out : List ℕ} {r : Taken} (first : Takes f out r) where
+module _ {f : ℕ → LoadAnswer Wanted} {out : List ℕ} {r : Result Taken ℕ} (first : Takes f out r) where
   -- what is refused is not gone on with
-  pub takes_refused : {number : ℕ} (g : ℕ → Wanted → LoadAnswer Wanted) → r.next ≡ Refused number → Takes (λ place. f place then g place) out r
+  pub takes_refused : {number : ℕ} (g : ℕ → Wanted → LoadAnswer Wanted) → r ≡ Err number → Takes (λ place. f place then g place) out (Err number)
   takes_refused {number} g is = record {
-    answers = λ place. let e : f place ≡ refused_at number place = first.answers place ∙ rw is in rw (e, is);
-    is_set = first.is_set;
-    within = first.within;
+    answers = λ place. let e : f place ≡ refused_at number place = first.answers place ∙ rw is in rw e;
+    taken = tt;
   }
 
-  pub takes_within : {at : ℕ} → r.next ≡ To at → at ≤ length out
-  takes_within is = rw is at first.within
+  module _ {taken : Taken} (is : r ≡ Ok taken) where
+    pub takes_set : IsSet taken.set
+    takes_set = let there : IsSet taken.set × (taken.end ≤ length out) = rw is at first.taken in there.0
 
-  pub takes_done : {at : ℕ} → r.next ≡ To at → (place : ℕ) → f place ≡ done (wanted_in r.set out at)
-  takes_done is place = first.answers place ∙ rw is
+    pub takes_within : taken.end ≤ length out
+    takes_within = let there : IsSet taken.set × (taken.end ≤ length out) = rw is at first.taken in there.1
 
-  -- what is done goes on from what is wanted then
-  pub takes_then : {at : ℕ} {out₂ : List ℕ} {r₂ : Taken} (g : ℕ → Wanted → LoadAnswer Wanted) → r.next ≡ To at →
-      Takes (λ place. g place (wanted_in r.set out at)) out₂ r₂ → Takes (λ place. f place then g place) out₂ r₂
-  takes_then g is second = record {
-    answers = λ place. ap (λ o. o then g place) (takes_done is place) ∙ second.answers place;
-    is_set = second.is_set;
-    within = second.within;
-  }
+    pub takes_done : (place : ℕ) → f place ≡ done (wanted_in taken.set out taken.end)
+    takes_done place = first.answers place ∙ rw is
+
+    -- what is done goes on from what is wanted then
+    pub takes_then : {out₂ : List ℕ} {r₂ : Result Taken ℕ} (g : ℕ → Wanted → LoadAnswer Wanted) →
+        Takes (λ place. g place (wanted_in taken.set out taken.end)) out₂ r₂ → Takes (λ place. f place then g place) out₂ r₂
+    takes_then g second = record {
+      answers = λ place. ap (λ o. o then g place) (takes_done place) ∙ second.answers place;
+      taken = second.taken;
+    }
 
 pub found_yields : (events : List Event) → length (found_in events) ≡ yields events
 unfolding found_in yields
@@ -328,17 +342,17 @@ pub waits_length : (out : List ℕ) (len : ℕ) → len ≤ length out → lengt
 waits_length out len h = length-map (take len out) row_asked ∙ length-take-le len out h
 
 -- the place after the rows of events that are taken
-pub takes_end : (events : List Event) (set : AncestorSet) (out : List ℕ) (to : ℕ) {out' : List ℕ} {r : Taken} {at : ℕ} →
-    Takes (λ place. take_events place events (wanted_in set out to)) out' r → r.next ≡ To at → to ≤ length out → at ≡ to + yields events
-takes_end events set out to {out'} {r} {at} taken is room =
-    let nodes = take-events 0 events (wanted_in set out to) (wanted_in r.set out' at) (takes_done taken is 0) in
+pub takes_end : (events : List Event) (set : AncestorSet) (out : List ℕ) (to : ℕ) {out' : List ℕ} {r : Result Taken ℕ} {taken : Taken} →
+    Takes (λ place. take_events place events (wanted_in set out to)) out' r → r ≡ Ok taken → to ≤ length out → taken.end ≡ to + yields events
+takes_end events set out to {out'} {r} {taken} takes is room =
+    let nodes = take-events 0 events (wanted_in set out to) (wanted_in taken.set out' taken.end) (takes_done takes is 0) in
     omega (
       arith,
       ap length nodes,
       length-append (nodes_asked (rows_asked (take to out))) (found_in events),
       length-map (rows_asked (take to out)) (λ row. row.node),
-      length-map (rows_asked (take at out')) (λ row. row.node),
+      length-map (rows_asked (take taken.end out')) (λ row. row.node),
       found_yields events,
       waits_length out to room,
-      waits_length out' at (takes_within taken is),
+      waits_length out' taken.end (takes_within takes is),
     )

@@ -10,57 +10,35 @@ ghost use Rattle.row_walk.specs.Batches.{yields};
 ghost use Rattle.ancestors.specs.Sets.{IsSet};
 ghost use Rattle.ancestors.specs.Takings.{wanted_in, Puts, Takes};
 
-use crate::set::{AncestorSet, Put};
+use crate::set::AncestorSet;
 use row_walk::{Met, next_event};
 use rows::Row;
 use values::{EntityRequest, ValueRow};
 
-// How many rows wait, or the number of a refusal: 14 or 15.
-#[derive(Clone, Copy)]
-pub enum Next {
-    To(usize),
-    Refused(u64),
-}
-
-// The set, and the rows that wait, after something is taken.
+// The set, and where the rows that wait end, after something is taken. What is refused has the number 14 or 15.
 #[derive(Drop)]
 pub struct Taken {
     pub set: AncestorSet,
-    pub next: Next,
+    pub end: usize,
 }
 
-// Puts the ids of the elements of a set, behind its row.
-fn put_all(set: AncestorSet, values: &[u64], from: usize, depth: u64) -> Put
+// Puts the ids of the elements of a set, behind its row, unless there is no place for one.
+fn put_all(set: AncestorSet, values: &[u64], from: usize, depth: u64) -> Option<AncestorSet>
     requires { IsSet set }
     ensures { Puts (λ place. take_events place (ancestors_at depth (value_rows_of (drop from values.now)))) set result }
 {
     let mut more = set;
-    let mut i = from;
-    while i < values.len() {
+    for i in from..values.len() {
         let row = ValueRow { word: values[i] };
         let there = row.depth();
         if there < depth {
-            return Put {
-                set: more,
-                full: false,
-            };
+            return Some(more);
         }
         if there == depth {
-            let put = more.put(row.number());
-            if put.full {
-                return Put {
-                    set: more,
-                    full: true,
-                };
-            }
-            more = put.set;
+            more = more.put(row.number())?;
         }
-        i += 1;
     }
-    Put {
-        set: more,
-        full: false,
-    }
+    Some(more)
 }
 
 // Takes what is met below a depth, from a row on, by looking it up among values. Each row that is found is one word.
@@ -72,7 +50,7 @@ fn take_below(
     set: AncestorSet,
     out: &mut [u64],
     to: usize,
-) -> Taken
+) -> Result<Taken, u64>
     requires { IsSet set × (from ≤ length nodes.now) × (length nodes.now ≤ 65536)
         × (to + yields (walk_rows depth (some (value_rows_of values.now) ∷ []) from (rows_of (drop from nodes.now))) ≤ length out.old) }
     ensures { Takes (λ place. take_events place (walk_rows depth (some (value_rows_of values.now) ∷ [])
@@ -98,35 +76,15 @@ fn take_below(
                 at += 1;
             }
             Met::Ids(place, below) => {
-                let put = put_all(more, values, place, below);
-                if put.full {
-                    return Taken {
-                        set: more,
-                        next: Next::Refused(15),
-                    };
-                }
-                more = put.set;
+                more = put_all(more, values, place, below).ok_or(15u64)?;
             }
-            Met::Bad => {
-                return Taken {
-                    set: more,
-                    next: Next::Refused(14),
-                };
-            }
-            Met::End => {
-                return Taken {
-                    set: more,
-                    next: Next::To(at),
-                };
-            }
+            Met::Bad => return Err(14),
+            Met::End => return Ok(Taken { set: more, end: at }),
         }
         len = meeting.len;
         i = node + 1;
     }
-    Taken {
-        set: more,
-        next: Next::To(at),
-    }
+    Ok(Taken { set: more, end: at })
 }
 
 // Takes what the children of a node meet among attributes (`find_remaining_entities`).
@@ -137,17 +95,14 @@ pub fn take_remaining(
     set: AncestorSet,
     out: &mut [u64],
     to: usize,
-) -> Taken
+) -> Result<Taken, u64>
     requires { IsSet set × (length nodes.now ≤ 65536)
         × (to + yields (remaining_rows (rows_of nodes.now) node (value_rows_of values.now)) ≤ length out.old) }
     ensures { Takes (λ place. take_events place (remaining_rows (rows_of nodes.now) node (value_rows_of values.now))
         (wanted_in set out.old to)) out.new result }
 {
     if nodes.len() <= node {
-        return Taken {
-            set,
-            next: Next::To(to),
-        };
+        return Ok(Taken { set, end: to });
     }
     let row = Row { word: nodes[node] };
     take_below(nodes, row.depth(), node + 1, values, set, out, to)

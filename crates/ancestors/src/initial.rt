@@ -7,7 +7,7 @@ ghost use Rattle.row_walk.specs.Initial.{request_with};
 ghost use Rattle.ancestors.specs.Sets.{IsSet};
 ghost use Rattle.ancestors.specs.Takings.{wanted_in, Takes};
 
-use crate::events::{Next, Taken, take_remaining};
+use crate::events::{Taken, take_remaining};
 use crate::set::AncestorSet;
 use row_walk::{Request, ask_roots, context_root};
 
@@ -21,7 +21,7 @@ pub fn take_initial(
     set: AncestorSet,
     out: &mut [u64],
     to: usize,
-) -> Taken
+) -> Result<Taken, u64>
     requires set { IsSet set }
     requires nodes_len_bound { (length nodes.now ≤ 65536) × (request.principal < 65536) × (request.resource < 65536) }
     requires nodes_in_bounds { to + yields (initial_entities (request_with request context.now) depth from (rows_of (drop from nodes.now)))
@@ -30,15 +30,10 @@ pub fn take_initial(
         (rows_of (drop from nodes.now))) (wanted_in set out.old to)) out.new result }
 {
     let root = context_root(nodes, from, depth);
-    let taken = take_remaining(nodes, root, context, set, out, to);
-    let next = taken.next;
-    let Next::To(at) = next else {
-        return taken;
-    };
-    let more = taken.set;
-    let end = ask_roots(nodes, depth, from, request, out, at);
-    Taken {
-        set: more,
-        next: Next::To(end),
-    }
+    let taken = take_remaining(nodes, root, context, set, out, to)?;
+    let end = ask_roots(nodes, depth, from, request, out, taken.end);
+    Ok(Taken {
+        set: taken.set,
+        end,
+    })
 }

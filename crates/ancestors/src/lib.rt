@@ -9,7 +9,6 @@ mod row;
 mod set;
 mod slice;
 
-pub use events::{Next, Taken};
 pub use requests::{AncestorsRequest, compute_ancestors_requests};
 pub use rounds::compute_ancestors_request;
-pub use set::{AncestorSet, Put};
+pub use set::AncestorSet;

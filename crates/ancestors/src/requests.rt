@@ -6,13 +6,12 @@ ghost use Rattle.values.specs.ValueWords.{row_asked};
 ghost use Rattle.ancestors.specs.Sets.{ids_of, IsSet};
 ghost use Rattle.ancestors.specs.Requests.{roots_below, request_in, head_of, all_requests, JudgedAs, MayWrite, WrittenAs, RoomFor, RequestsAnswered};
 
-use crate::events::Next;
 use crate::rounds::compute_ancestors_request;
 use crate::set::AncestorSet;
 use row_walk::{Request, has_child};
 use rows::Row;
 use values::EntityRequest;
-use words::Refusal;
+use words::{Refusal, copy_words};
 
 // A request's head is one word: the entity whose ancestors are asked for, and how many ids are wanted.
 #[derive(Drop)]
@@ -56,12 +55,7 @@ fn write_ids(set: AncestorSet, out: &mut [u64], to: usize) -> usize
     requires { IsSet set × (to + length (ids_of set) ≤ length out.old) }
     ensures { Wrote out.old to (ids_of set) out.new result }
 {
-    let mut i = 0;
-    while i < set.len {
-        out[to + i] = set.ids[i];
-        i += 1;
-    }
-    to + i
+    copy_words(&set.ids[..set.len], out, to)
 }
 
 // Judges all requests: the first that is refused, by its number and place.
@@ -78,20 +72,18 @@ fn judge_requests(
     requires nodes_in_bounds { (length nodes.now ≤ length rows.old) × (length nodes.now ≤ length found.old) }
     ensures { JudgedAs (all_requests request context.now nodes.now slice.now asked.now) result }
 {
-    let mut i = 0;
-    while i < asked.len() {
+    for i in 0..asked.len() {
         let row = asked[i];
         if has_ancestors_trie(nodes, row) {
-            let taken = compute_ancestors_request(nodes, slice, request, context, row, rows, found);
-            let next = taken.next;
-            match next {
-                Next::To(_) => {}
-                Next::Refused(number) => {
-                    return Err(Refusal { number, place: i as u64 });
-                }
+            if let Err(number) = compute_ancestors_request(
+                nodes, slice, request, context, row, rows, found,
+            ) {
+                return Err(Refusal {
+                    number,
+                    place: i as u64,
+                });
             }
         }
-        i += 1;
     }
     Ok(())
 }
@@ -114,21 +106,22 @@ fn write_requests(
         asked.now out.old out.new }
 {
     let mut at = asked.len() + 1;
-    let mut i = 0;
-    while i < asked.len() {
+    for i in 0..asked.len() {
         let row = asked[i];
         let start = at;
         if has_ancestors_trie(nodes, row) {
-            let taken = compute_ancestors_request(nodes, slice, request, context, row, rows, found);
-            let set = taken.set;
-            at = write_ids(set, out, start);
+            // none is refused, so this never fails
+            if let Ok(set) = compute_ancestors_request(
+                nodes, slice, request, context, row, rows, found,
+            ) {
+                at = write_ids(set, out, start);
+            }
         }
         let head = AncestorsRequest {
             id: EntityRequest::of(row).id,
             count: at - start,
         };
         out[i + 1] = head.word();
-        i += 1;
     }
     out[0] = asked.len() as u64;
 }

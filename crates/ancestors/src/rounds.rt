@@ -12,7 +12,7 @@ ghost use Rattle.ancestors.specs.SliceWords.{slice_in};
 ghost use Rattle.slices.specs.Slices.{rows_asked};
 ghost use Rattle.ancestors.specs.Takings.{wanted_in, Takes, Asks};
 
-use crate::events::{Next, Taken};
+use crate::events::Taken;
 use crate::initial::take_initial;
 use crate::row::take_row;
 use crate::set::AncestorSet;
@@ -22,7 +22,13 @@ use values::EntityRequest;
 use words::copy_words;
 
 // Takes the rows of a round, one after the other. The rows that they find are written from the start on.
-fn take_rows(nodes: &[u64], slice: &[u64], rows: &[u64], set: AncestorSet, out: &mut [u64]) -> Taken
+fn take_rows(
+    nodes: &[u64],
+    slice: &[u64],
+    rows: &[u64],
+    set: AncestorSet,
+    out: &mut [u64],
+) -> Result<Taken, u64>
     requires set { IsSet set × (length nodes.now ≤ 65536) }
     requires rows_in_bounds { length (row_finds (rows_of nodes.now) (slice_in slice.now) (rows_asked rows.now)) ≤ length out.old }
     ensures { Takes (λ place. take_rows (rows_of nodes.now) (slice_in slice.now) place (rows_asked rows.now)
@@ -30,21 +36,12 @@ fn take_rows(nodes: &[u64], slice: &[u64], rows: &[u64], set: AncestorSet, out: 
 {
     let mut more = set;
     let mut at = 0;
-    let mut i = 0;
-    while i < rows.len() {
-        let taken = take_row(nodes, slice, rows[i], more, out, at);
-        let next = taken.next;
-        let Next::To(end) = next else {
-            return taken;
-        };
+    for word in rows {
+        let taken = take_row(nodes, slice, *word, more, out, at)?;
         more = taken.set;
-        at = end;
-        i += 1;
+        at = taken.end;
     }
-    Taken {
-        set: more,
-        next: Next::To(at),
-    }
+    Ok(Taken { set: more, end: at })
 }
 
 // Takes round after round: the rows that one finds are those of the next. There are at most as many rounds as a position has steps.
@@ -55,7 +52,7 @@ fn take_batches(
     rows: &mut [u64],
     count: usize,
     found: &mut [u64],
-) -> Taken
+) -> Result<AncestorSet, u64>
     requires set { IsSet set × (count ≤ length rows.old) × (length nodes.now ≤ 65536) }
     requires nodes_in_bounds { (length nodes.now ≤ length rows.old) × (length nodes.now ≤ length found.old) }
     requires waits { Waits (rows_of nodes.now) (nodes_asked (rows_asked (take count rows.old))) }
@@ -64,28 +61,16 @@ fn take_batches(
 {
     let mut more = set;
     let mut len = count;
-    let mut left = Kind::STEPS;
-    while 0 < left {
+    for _ in 0..Kind::STEPS {
         if len == 0 {
-            return Taken {
-                set: more,
-                next: Next::To(0),
-            };
+            break;
         }
-        let taken = take_rows(nodes, slice, &rows[..len], more, found);
-        let next = taken.next;
-        let Next::To(end) = next else {
-            return taken;
-        };
-        copy_words(&found[..end], rows, 0);
+        let taken = take_rows(nodes, slice, &rows[..len], more, found)?;
+        copy_words(&found[..taken.end], rows, 0);
         more = taken.set;
-        len = end;
-        left -= 1;
+        len = taken.end;
     }
-    Taken {
-        set: more,
-        next: Next::To(len),
-    }
+    Ok(more)
 }
 
 // The ids that are wanted for one row: a walk over the ancestors trie of its node. `rows` and `found` are scratch, one word a node.
@@ -97,7 +82,7 @@ pub fn compute_ancestors_request(
     row: u64,
     rows: &mut [u64],
     found: &mut [u64],
-) -> Taken
+) -> Result<AncestorSet, u64>
     requires nodes_len_bound { (length nodes.now ≤ 65536) × (request.principal < 65536) × (request.resource < 65536) }
     requires nodes_in_bounds { (length nodes.now ≤ length rows.old) × (length nodes.now ≤ length found.old) }
     ensures { Asks (λ place. ancestors_request (request_of request context.now) (rows_of nodes.now)
@@ -106,17 +91,9 @@ pub fn compute_ancestors_request(
     let set = AncestorSet::new();
     let node = EntityRequest::of(row).node as usize;
     if nodes.len() <= node {
-        return Taken {
-            set,
-            next: Next::To(0),
-        };
+        return Ok(set);
     }
     let own = Row { word: nodes[node] };
-    let taken = take_initial(nodes, own.depth(), node + 1, request, context, set, rows, 0);
-    let next = taken.next;
-    let Next::To(len) = next else {
-        return taken;
-    };
-    let more = taken.set;
-    take_batches(nodes, slice, more, rows, len, found)
+    let taken = take_initial(nodes, own.depth(), node + 1, request, context, set, rows, 0)?;
+    take_batches(nodes, slice, taken.set, rows, taken.end, found)
 }

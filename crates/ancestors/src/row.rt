@@ -8,14 +8,14 @@ ghost use Rattle.ancestors.specs.Sets.{IsSet};
 ghost use Rattle.ancestors.specs.SliceWords.{slice_in};
 ghost use Rattle.ancestors.specs.Takings.{wanted_in, take_mark, Puts, Takes};
 
-use crate::events::{Next, Taken, take_remaining};
-use crate::set::{AncestorSet, Put};
-use crate::slice::{Found, find_loaded};
+use crate::events::{Taken, take_remaining};
+use crate::set::AncestorSet;
+use crate::slice::find_loaded;
 use rows::Row;
 use values::EntityRequest;
 
-// Puts an entity's id where its node is marked.
-fn put_marked(nodes: &[u64], node: usize, set: AncestorSet, id: u64) -> Put
+// Puts an entity's id where its node is marked, unless there is no place for it.
+fn put_marked(nodes: &[u64], node: usize, set: AncestorSet, id: u64) -> Option<AncestorSet>
     requires { IsSet set }
     ensures { Puts (λ place. take_mark (rows_of nodes.now) place node id) set result }
 {
@@ -25,7 +25,7 @@ fn put_marked(nodes: &[u64], node: usize, set: AncestorSet, id: u64) -> Put
             return set.put(id);
         }
     }
-    Put { set, full: false }
+    Some(set)
 }
 
 // Takes a row: its mark, and then what its children meet among the attributes of its entity, if that is loaded.
@@ -36,7 +36,7 @@ pub fn take_row(
     set: AncestorSet,
     out: &mut [u64],
     to: usize,
-) -> Taken
+) -> Result<Taken, u64>
     requires set { IsSet set × (length nodes.now ≤ 65536) }
     requires row_in_bounds { to + length (row_finds (rows_of nodes.now) (slice_in slice.now) (row_asked row ∷ [])) ≤ length out.old }
     ensures { Takes (λ place. take_row (rows_of nodes.now) (slice_in slice.now) place (row_asked row)
@@ -44,20 +44,9 @@ pub fn take_row(
 {
     let asked = EntityRequest::of(row);
     let node = asked.node as usize;
-    let put = put_marked(nodes, node, set, asked.id);
-    if put.full {
-        return Taken {
-            set,
-            next: Next::Refused(15),
-        };
+    let more = put_marked(nodes, node, set, asked.id).ok_or(15u64)?;
+    match find_loaded(slice, asked.id) {
+        Some(values) => take_remaining(nodes, node, values, more, out, to),
+        None => Ok(Taken { set: more, end: to }),
     }
-    let more = put.set;
-    let found = find_loaded(slice, asked.id);
-    let Found::Rows(from, end) = found else {
-        return Taken {
-            set: more,
-            next: Next::To(to),
-        };
-    };
-    take_remaining(nodes, node, &slice[from..end], more, out, to)
 }

@@ -1,20 +1,13 @@
 // An entity looked up in a slice that stands in words: heads, each with parents and rows behind it.
 ghost use Rattle.rules.specs.Loading.{loaded_as};
-ghost use Rattle.ancestors.specs.SliceWords.{slice_in, FoundIn};
+ghost use Rattle.ancestors.specs.SliceWords.{slice_in, FoundAs};
 
 use answers::Head;
 use words::at_most;
 
-// Where the rows of an entity's attributes stand: from a place to another, if it is loaded.
-#[derive(Drop)]
-pub enum Found {
-    Rows(usize, usize),
-    Nothing,
-}
-
-// Looks an entity up.
-pub fn find_loaded(slice: &[u64], id: u64) -> Found
-    ensures { FoundIn slice.now (loaded_as id (slice_in slice.now)) result }
+// The rows of an entity's attributes, if it is loaded.
+pub fn find_loaded(slice: &[u64], id: u64) -> Option<&[u64]>
+    ensures { FoundAs (loaded_as id (slice_in slice.now)) result }
 {
     let room = slice.len() as u64;
     let mut at = 0;
@@ -23,9 +16,9 @@ pub fn find_loaded(slice: &[u64], id: u64) -> Found
         let start = at_most(at as u64 + 1 + head.parents as u64, room);
         let end = at_most(start + head.rows as u64, room);
         if head.flag == id {
-            return Found::Rows(start as usize, end as usize);
+            return Some(&slice[start as usize..end as usize]);
         }
         at = end as usize;
     }
-    Found::Nothing
+    None
 }

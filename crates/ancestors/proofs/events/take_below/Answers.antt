@@ -3,9 +3,10 @@ use native.Mathlib.Omega.{arith}
 use Prim.Native.Nat.{◌+◌, ◌<◌}
 use mathlib.Core.Path.{refl, sym}
 use lib.ListN.{length}
-use Rattle.ancestors.specs.TakingLaws.{TakingBelow, taking_none, below_last, below_bad, below_end, below_room, below_row, below_full, below_ids}
+use Rattle.std.proofs.lemmas.Result.{err_from_is_err_and}
+use Rattle.ancestors.specs.TakingLaws.{was_put, not_put, TakingBelow, taking_none, below_last, below_bad, below_end, below_room, below_row, below_full, below_ids}
 use Rattle.ancestors.proofs.events.take_below.Goals as goal
-use Rattle.ancestors.proofs.events.take_below.Goals.{In-Row, Joined-met, in-Ids+else-put, in-Row}
+use Rattle.ancestors.proofs.events.take_below.Goals.{In-Row, Joined-met, in-Ids+in_ok-more-in-Ids, in-Row}
 
 pub loop-i-init : goal.loop-i-init
 loop-i-init c =
@@ -36,16 +37,19 @@ bounds-out-at c = omega (arith, inside (goal.at.bounds-out-at c).In-Row)
 pub overflow_add-at : goal.overflow_add-at
 overflow_add-at c = omega (arith, inside (goal.at.overflow_add-at c).In-Row, c.loop-i.invariant.taking.same)
 
-pub put_all-put-requires : goal.put_all-put-requires
-put_all-put-requires c = c.loop-i.invariant.taking.is_set
+pub put_all-requires : goal.put_all-requires
+put_all-requires c = c.loop-i.invariant.taking.is_set
 
-pub shape_of-out-then-put : goal.shape_of-out-then-put
-shape_of-out-then-put c = c.loop-i.invariant.taking.same
+pub shape_of-out-in_err-more-in-Ids : goal.shape_of-out-in_err-more-in-Ids
+shape_of-out-in_err-more-in-Ids c = c.loop-i.invariant.taking.same
 
-pub returns-then-put : goal.returns-then-put
-returns-then-put c =
-    below_full c.loop-i.invariant c.next_event-meeting.ensures c.next_event-meeting.auto.kept c.in-Ids.is
-    c.put_all-put.ensures c.if-put.true
+pub returns-in_err-more-in-Ids : goal.returns-in_err-more-in-Ids
+returns-in_err-more-in-Ids c =
+    let (none, number) = not_put c.ok_or.ensures.value c.in_err-more-in-Ids.was in
+    let (_, is, same) = err_from_is_err_and c.from_residual.result c.from_residual.ensures.1 in
+    rw (is, same, number)
+    (below_full c.loop-i.invariant c.next_event-meeting.ensures c.next_event-meeting.auto.kept c.in-Ids.is
+    c.put_all.ensures none)
 
 pub shape_of-out-in-Bad : goal.shape_of-out-in-Bad
 shape_of-out-in-Bad c = c.loop-i.invariant.taking.same
@@ -64,7 +68,7 @@ again : (c : Joined-met) →
     TakingBelow c.args.nodes.now c.args.values.now c.args.depth c.args.from c.args.set c.args.out.now c.args.to
     c.match-met.out c.next_event-meeting.new.kept c.next_event-meeting.result.len c.match-met.more (c.next_event-meeting.result.node + 1) c.match-met.at
 again c =
-    elim c.match-met.branch [ in-Row w ↦ rw (w.out-is, w.more-is, w.at-is, w.word.ensures) (below_row c.loop-i.invariant c.next_event-meeting.ensures c.next_event-meeting.auto.kept w.in-Row.is) | in-Ids+else-put w ↦ rw (w.out-is, w.more-is, w.at-is) (below_ids c.loop-i.invariant c.next_event-meeting.ensures c.next_event-meeting.auto.kept w.in-Ids.is w.put_all-put.ensures w.if-put.false) ]
+    elim c.match-met.branch [ in-Row w ↦ rw (w.out-is, w.more-is, w.at-is, w.word.ensures) (below_row c.loop-i.invariant c.next_event-meeting.ensures c.next_event-meeting.auto.kept w.in-Row.is) | in-Ids+in_ok-more-in-Ids w ↦ rw (w.out-is, w.more-is, w.at-is) (below_ids c.loop-i.invariant c.next_event-meeting.ensures c.next_event-meeting.auto.kept w.in-Ids.is w.put_all.ensures (was_put w.ok_or.ensures.ok_part w.in_ok-more-in-Ids.was)) ]
 
 pub overflow_add-i : goal.overflow_add-i
 overflow_add-i c = omega (arith, (again (goal.at.overflow_add-i c).Joined-met).within)

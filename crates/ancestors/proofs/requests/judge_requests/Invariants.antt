@@ -1,4 +1,3 @@
-use Prim.Native.Nat.{◌-◌}
 use mathlib.Core.Path.{◌≡◌}
 use lib.ListN.{length}
 use Rattle.rows.specs.States.{rows_of}
@@ -11,6 +10,3 @@ abbrev pub invariant-loop-i : goal.invariant-loop-i
 invariant-loop-i l =
     (length l.rows ≡ length l.initial.rows) × (length l.found ≡ length l.initial.found)
     × RequestsJudged (request_of l.request l.context) (rows_of l.nodes) (slice_in l.slice) l.asked l.i
-
-abbrev pub decreases-loop-i : goal.decreases-loop-i
-decreases-loop-i l = length l.asked - l.i

@@ -7,7 +7,7 @@ use Rattle.rules.specs.Facts.{capped_min}
 use Rattle.answers.specs.declared.Head.{Head}
 use Rattle.ancestors.specs.SliceWordLaws.{found_nothing, past_entity, found_here, passing_next}
 use Rattle.ancestors.proofs.slice.find_loaded.Goals as goal
-use Rattle.ancestors.proofs.slice.find_loaded.Goals.{Else-head-id}
+use Rattle.ancestors.proofs.slice.find_loaded.Goals.{After-at_most-end}
 
 pub loop-at-init : goal.loop-at-init
 loop-at-init c = (omega arith, record { most = length c.args.slice.now; enough = omega arith; sofar = refl })
@@ -28,24 +28,34 @@ overflow_add-start c =
 pub returns-then-head-id : goal.returns-then-head-id
 returns-then-head-id c =
     found_here c.loop-at.invariant.1 c.loop-at-test.true _ _ (rw c.of-head.ensures at c.at_most-start.ensures)
-    (rw c.of-head.ensures at c.at_most-end.ensures) (rw c.of-head.ensures at c.if-head-id.true)
+    (rw c.of-head.ensures at c.at_most-end.ensures) _ refl (rw c.of-head.ensures at c.if-head-id.true)
 
 -- the place after the entity
 past :
-    (c : Else-head-id) →
-    (c.loop-at.at < c.at_most-end.result) × (c.at_most-end.result ≤ length c.args.slice.now)
+    (c : After-at_most-end) →
+    (c.loop-at.at < c.at_most-end.result) × (c.at_most-end.result ≤ length c.args.slice.now) × (c.at_most-start.result ≤ c.at_most-end.result)
 past c =
-    let (after, inside, _) =
     past_entity c.loop-at.invariant.1 c.loop-at-test.true _ _ (rw c.of-head.ensures at c.at_most-start.ensures)
-    (rw c.of-head.ensures at c.at_most-end.ensures) in
-    (after, inside)
+    (rw c.of-head.ensures at c.at_most-end.ensures)
+
+pub offset_bounds-slice-start : goal.offset_bounds-slice-start
+offset_bounds-slice-start c = omega (arith, past (goal.at.offset_bounds-slice-start c).After-at_most-end, c.well_formed.0.1)
+
+pub slice_bounds-result-count : goal.slice_bounds-result-count
+slice_bounds-result-count c = omega (arith, past (goal.at.slice_bounds-result-count c).After-at_most-end)
+
+pub slice_bounds-result-start : goal.slice_bounds-result-start
+slice_bounds-result-start c = omega (arith, past (goal.at.slice_bounds-result-start c).After-at_most-end)
+
+pub slice_bounds-result-end : goal.slice_bounds-result-end
+slice_bounds-result-end c = omega (arith, past (goal.at.slice_bounds-result-end c).After-at_most-end)
 
 pub loop-at-smaller : goal.loop-at-smaller
-loop-at-smaller c = omega (arith, past (goal.at.loop-at-smaller c).Else-head-id)
+loop-at-smaller c = omega (arith, past (goal.at.loop-at-smaller c).After-at_most-end)
 
 pub loop-at-preserved : goal.loop-at-preserved
 loop-at-preserved c = (
-  (past (goal.at.loop-at-preserved c).Else-head-id).1,
+  (past (goal.at.loop-at-preserved c).After-at_most-end).1,
   passing_next c.loop-at.invariant.1 c.loop-at-test.true _ _ (rw c.of-head.ensures at c.at_most-start.ensures)
       (rw c.of-head.ensures at c.at_most-end.ensures) (rw c.of-head.ensures at c.if-head-id.false),
 )
