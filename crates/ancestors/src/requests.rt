@@ -142,27 +142,9 @@ pub fn compute_ancestors_requests(
 {
     let mut rows = [0u64; 4096];
     let mut found = [0u64; 4096];
-    let judged = judge_requests(
-        nodes,
-        slice,
-        request,
-        context,
-        asked,
-        &mut rows[..],
-        &mut found[..],
-    );
-    let Ok(()) = judged else {
-        return judged;
-    };
+    judge_requests(nodes, slice, request, context, asked, &mut rows, &mut found)?;
     write_requests(
-        nodes,
-        slice,
-        request,
-        context,
-        asked,
-        &mut rows[..],
-        &mut found[..],
-        out,
+        nodes, slice, request, context, asked, &mut rows, &mut found, out,
     );
     Ok(())
 }
