@@ -1,6 +1,6 @@
 -- Laws of the rows that a listing is read as, and of what reading answers. No contract cites this file.
-use Rattle.std.specs.Prelude.{ℕ, ◌+◌, ◌≤◌, ◌<◌, Bool, true, false, cond, not, ◌&&◌, ◌≢◌, ◌≡◌, refl, ltb, leb, length, get_or, take, set}
-use Rattle.std.proofs.Common.{arith, sym, ◌∙◌, eqb-true, eq-eqb, ne_eqb, le-leb, lt-ltb, le-ltb, ltb-false, leb-false, length-set, length-take-le, get_or-take}
+use Rattle.std.specs.Prelude.{ℕ, ◌+◌, ◌≤◌, ◌<◌, Bool, true, false, cond, not, ◌&&◌, ◌≢◌, ◌≡◌, refl, ltb, leb, length, take, set}
+use Rattle.std.proofs.Common.{arith, sym, ◌∙◌, eqb-true, eq-eqb, ne_eqb, le-leb, ltb-false, leb-false, length-set, length-take-le}
 use mathlib.Core.List.{List, [], ◌∷◌, ◌++◌, map, map-append, nil≢cons}
 use Rattle.std.proofs.Math.Option.{Option, none, some, some-ne-none}
 use Rattle.std.proofs.lemmas.Bool.{eqb-false, lt-leb, not-false}
@@ -11,9 +11,9 @@ use Rattle.rules.specs.Numbers.{Answer, accepted, refused, most_steps}
 use Rattle.rules.specs.Lines.{Folded, fold_text}
 use Rattle.rules.proofs.LineLaws.{gathering, gathered, row_line, rows_folded}
 use Rattle.rules.proofs.WalkLaws.{kept_stored}
-use Rattle.rules.specs.Facts.{by_test, cond-none}
+use Rattle.rules.specs.Facts.{cond-none}
 use Rattle.rules.specs.Tries.{Row, Form, is_entry, at, follows}
-use Rattle.rules.proofs.TrieLaws.{Follows, follows_true, true_follows}
+use Rattle.rules.proofs.TrieLaws.{follows_true}
 use Rattle.rules.specs.Listing.{Sofar, row_of, start, refusal, entered_by}
 use Rattle.text.proofs.Laws.{by_line}
 use Rattle.rows.specs.Words.{word_of}
@@ -29,63 +29,6 @@ use Rattle.listing_lines.specs.LineLaws.{row_fits, line_read, row-line}
 use Rattle.listing.specs.Reads.{form_for, sofar_in, RowRoom, RowPassed, rows_by, row_words}
 use Rattle.listing.specs.Outcomes.{read_listing_in}
 use Rattle.words.specs.RunLaws.{stored_next}
-
--- ---- a row after others, by what was tested
-
--- a row that may not come after a place
-no_follows : (s : List ℕ) (row : Row) → (Follows s row → ⊥) → follows s row ≡ false
-no_follows s row h = by_test (follows s row) (λ e. absurd (h (follows_true s row e))) (λ e. e)
-
-module _ (path : List ℕ) (len : ℕ) (row : Row) (fits : len ≤ length path) where
-  -- a row more than one deeper than the front of a path
-  pub follows_deeper : len < row.depth → follows (take len path) row ≡ false
-  follows_deeper deeper = no_follows (take len path) row (λ f. omega (arith, f.near, length-take-le len path fits))
-
-  -- a row that is not past its last earlier sibling
-  pub follows_earlier : row.depth < len → row.step ≤ get_or path row.depth 0 → follows (take len path) row ≡ false
-  follows_earlier above early =
-      no_follows (take len path) row
-      (λ f. omega (arith, f.past (omega (arith, length-take-le len path fits)), get_or-take len path row.depth 0 above))
-
-  -- any other row may come
-  pub follows_later : row.depth ≤ len → (row.depth < len → get_or path row.depth 0 < row.step) → follows (take len path) row ≡ true
-  follows_later near later =
-      true_follows (take len path) row
-      (record {
-        near = omega (arith, length-take-le len path fits);
-        past = λ h. let above : row.depth < len = omega (arith, length-take-le len path fits) in rw (get_or-take len path row.depth 0 above) (later above);
-      })
-
--- the tests that a row passes one after the other
-pub second_none : (single entry : Bool) (entries : ℕ) → (entry ≡ true → single ≡ true → entries ≤ 0) → (single && entry) && ltb 0 entries ≡ false
-second_none true true entries h = le-ltb 0 entries (h refl refl)
-second_none true false entries h = refl
-second_none false entry entries h = refl
-
-module _ (form : Form) (sofar : Sofar) (row : Row) where
-  pub refusal_second : row.depth ≡ 0 → form.single ≡ true → 0 < sofar.entries → refusal form sofar row ≡ some 1
-  refusal_second e single some-entry = rw (eq-eqb row.depth 0 e, single, lt-ltb 0 sofar.entries some-entry)
-
-  module _ (first : (form.single && is_entry row) && ltb 0 sofar.entries ≡ false) where
-    pub refusal_order : follows sofar.place row ≡ false → refusal form sofar row ≡ some 2
-    refusal_order after = rw (first, after)
-
-    module _ (after : follows sofar.place row ≡ true) where
-      pub refusal_deep : most_steps < row.depth → refusal form sofar row ≡ some 3
-      refusal_deep deep = rw (first, after, lt-ltb most_steps row.depth deep)
-
-      module _ (near : row.depth ≤ most_steps) where
-        pub refusal_entries : row.depth ≡ 0 → form.entries ≤ sofar.entries → refusal form sofar row ≡ some 5
-        refusal_entries e many = rw (first, after, le-ltb most_steps row.depth near, eq-eqb row.depth 0 e, le-leb form.entries sofar.entries many)
-
-        pub refusal_entry : row.depth ≡ 0 → sofar.entries < form.entries → refusal form sofar row ≡ none
-        refusal_entry e few = rw (first, after, le-ltb most_steps row.depth near, eq-eqb row.depth 0 e, lt-leb form.entries sofar.entries few)
-
-        pub refusal_nodes : row.depth ≢ 0 → form.nodes ≤ sofar.nodes → refusal form sofar row ≡ some 4
-        refusal_nodes e many = rw (first, after, le-ltb most_steps row.depth near, ne_eqb row.depth 0 e, le-leb form.nodes sofar.nodes many)
-
-        pub refusal_node : row.depth ≢ 0 → sofar.nodes < form.nodes → refusal form sofar row ≡ none
-        refusal_node e few = rw (first, after, le-ltb most_steps row.depth near, ne_eqb row.depth 0 e, lt-leb form.nodes sofar.nodes few)
 
 -- ---- a row that is taken
 

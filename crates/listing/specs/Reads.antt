@@ -1,5 +1,5 @@
 -- What reading a listing keeps from line to line, for the contracts of `reading`.
-use Rattle.std.specs.Prelude.{ℕ, ◌+◌, ◌≤◌, ◌<◌, cond, List, [], ◌∷◌, ◌++◌, map, ◌≡◌, eqb, length, take}
+use Rattle.std.specs.Prelude.{ℕ, ◌+◌, ◌≤◌, ◌<◌, List, [], ◌∷◌, ◌++◌, map, ◌≡◌, length, take, Result, Ok, Err}
 use Rattle.std.proofs.Math.Option.{Option, none, some}
 use Rattle.rules.specs.Numbers.{Answer, accepted, refused}
 use Rattle.rules.specs.Text.{lines_of}
@@ -8,10 +8,7 @@ use Rattle.rules.specs.Listing.{Sofar, refusal, start, past, rows_from}
 use Rattle.rows.specs.Words.{word_of}
 use Rattle.rows.specs.declared.Limits.{Limits}
 use Rattle.listing.specs.declared.reading.Sofar.{Sofar as Kept}
-use Rattle.listing.specs.declared.reading.TookRow.{TookRow}
-use Rattle.listing.specs.declared.reading.TookRow.TheVariants.{Next, Refused as Stopped}
-use Rattle.listing.specs.declared.reading.GotRows.{GotRows}
-use Rattle.listing.specs.declared.reading.GotRows.TheVariants.{Rows, Refused}
+use Rattle.words.specs.declared.Refusal.{Refusal}
 use Rattle.words.specs.Runs.{stored}
 
 -- the form of a state with these limits
@@ -22,9 +19,10 @@ form_for limits = record { single = limits.single; entries = limits.entries; nod
 abbrev pub sofar_in : Kept → List ℕ → Sofar
 sofar_in kept path = record { place = take kept.len path; entries = kept.entries; nodes = kept.nodes }
 
--- a refusal's number, if it is not 0
-abbrev pub numbered : ℕ → Option ℕ
-numbered number = cond (eqb number 0) none (some number)
+-- the number that refuses a row that was judged, if it is refused
+abbrev pub refused_by : Result Unit ℕ → Option ℕ
+refused_by (Ok judged) = none
+refused_by (Err number) = some number
 
 -- what is kept has room in the path and among the rows
 pub record RowRoom (limits : Limits) (kept : Kept) (path rows : List ℕ) : Type 0 where
@@ -42,9 +40,9 @@ pub record RowPassed (limits : Limits) (kept : Kept) (row : Row) (path rows path
   pub room : RowRoom limits next path' rows'
 
 -- what taking a row answers
-abbrev pub RowTaken : Limits → Kept → Row → List ℕ → List ℕ → List ℕ → List ℕ → TookRow → Type 0
-RowTaken limits kept row path rows path' rows' (Next next) = RowPassed limits kept row path rows path' rows' next
-RowTaken limits kept row path rows path' rows' (Stopped number) = refusal (form_for limits) (sofar_in kept path) row ≡ some number
+abbrev pub RowTaken : Limits → Kept → Row → List ℕ → List ℕ → List ℕ → List ℕ → Result Kept ℕ → Type 0
+RowTaken limits kept row path rows path' rows' (Ok next) = RowPassed limits kept row path rows path' rows' next
+RowTaken limits kept row path rows path' rows' (Err number) = refusal (form_for limits) (sofar_in kept path) row ≡ some number
 
 -- what a text gives, line after line
 abbrev pub rows_by : Limits → List ℕ → Answer (List Row)
@@ -56,10 +54,10 @@ row_words (accepted rows) = accepted (map word_of rows)
 row_words (refused number place) = refused number place
 
 -- what was read into rows: the words that are stored, or a refusal
-abbrev pub rows_got : GotRows → List ℕ → Answer (List ℕ)
-rows_got (Rows count) rows = accepted (stored count rows)
-rows_got (Refused number place) rows = refused number place
+abbrev pub rows_got : Result ℕ Refusal → List ℕ → Answer (List ℕ)
+rows_got (Ok count) rows = accepted (stored count rows)
+rows_got (Err why) rows = refused why.number why.place
 
-abbrev pub row_count : GotRows → ℕ
-row_count (Rows count) = count
-row_count (Refused number place) = 0
+abbrev pub row_count : Result ℕ Refusal → ℕ
+row_count (Ok count) = count
+row_count (Err why) = 0

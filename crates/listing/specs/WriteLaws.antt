@@ -14,8 +14,7 @@ use Rattle.listing.specs.Outcomes.{TextOutcome, bytes_of, write_in}
 use Rattle.listing_lines.specs.WriteLaws.{listing_short}
 use Rattle.words.specs.Runs.{Wrote}
 use Rattle.words.specs.Replies.{Refused}
-use Rattle.std.specs.Prelude.{Result, Ok}
-use Rattle.words.specs.declared.Refusal.{Refusal}
+use Rattle.std.specs.Prelude.{Ok}
 
 -- the listing of a lawful state fits the text of its kind
 pub listing_fits : (kind : Kind) (state : List ℕ) → lawful_state (form_of kind) state ≡ true → length (listing (rows_in state)) ≤ bytes_of kind

@@ -2,7 +2,7 @@
 ghost use Rattle.std.specs.Prelude.{◌≡◌};
 ghost use Rattle.listing.specs.Outcomes.{bytes_of, read_listing_in, write_in};
 
-use crate::reading::{GotRows, read_rows};
+use crate::reading::read_rows;
 use listing_lines::write_rows;
 use rows::Kind;
 use words::Refusal;
@@ -43,17 +43,11 @@ pub fn read_listing(kind: Kind, text: &[u8], out: &mut [u64]) -> Result<(), Refu
         return Err(Refusal::SHORT);
     }
     let mut rows = [0u64; 4_161];
-    match read_rows(kind.limits(), text, &mut rows) {
-        GotRows::Refused(number, line) => Err(Refusal { number, place: line }),
-        GotRows::Rows(count) => {
-            if count == 0 {
-                if let Kind::Contribution = kind {
-                    return Err(Refusal::UNLAWFUL);
-                }
-            }
-            rows[0] = count;
-            words::copy_rows(&rows, out);
-            Ok(())
-        }
+    let count = read_rows(kind.limits(), text, &mut rows)?;
+    if count == 0 && kind == Kind::Contribution {
+        return Err(Refusal::UNLAWFUL);
     }
+    rows[0] = count;
+    words::copy_rows(&rows, out);
+    Ok(())
 }

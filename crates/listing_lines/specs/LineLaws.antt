@@ -1,7 +1,7 @@
 -- Laws of the fields of a line and of the row that it is read as. No contract cites this file.
-use Rattle.std.specs.Prelude.{ℕ, suc, ◌+◌, ◌*◌, ◌/◌, ◌%◌, ◌^◌, ◌≤◌, ◌<◌, Bool, true, false, cond, not, ◌&&◌, ◌||◌, ◌≢◌, ◌⊎◌, ◌≡◌, eqb, length, get_or, drop}
-use Rattle.std.proofs.Common.{add-zero, arith, inl, inr, ap, ◌∙◌, eqb-true, eq-eqb, ne_eqb, le-leb, length-drop, length-append, drop-cons, get_or-drop}
-use Rattle.std.proofs.Math.Bool.{and-false, or-true}
+use Rattle.std.specs.Prelude.{ℕ, suc, ◌+◌, ◌-◌, ◌*◌, ◌/◌, ◌%◌, ◌^◌, ◌≤◌, ◌<◌, Bool, true, false, cond, not, ◌&&◌, ◌||◌, ◌≢◌, ◌⊎◌, ◌≡◌, eqb, length, get_or, take, drop}
+use Rattle.std.proofs.Common.{add-zero, arith, inl, inr, ap, ◌∙◌, eqb-true, ne_eqb, le-leb, length-drop, length-append, drop-cons, get_or-drop, take_all}
+use Rattle.std.proofs.Math.Bool.{or-true}
 use Rattle.std.proofs.lemmas.Bool.{false≢true, eqb-false}
 use mathlib.Core.List.{List, [], ◌∷◌, ◌++◌, append_assoc, head-eq_of_cons-eq, tail-eq_of_cons-eq}
 use Rattle.std.proofs.Math.Option.{Option, none, some, none-ne-some, some-injective}
@@ -9,13 +9,32 @@ use Rattle.std.proofs.Math.Path.{refl, sym}
 use Rattle.std.proofs.Math.Seq.{append_snoc}
 use Rattle.rules.specs.Text.{bytes, parted, lines_of, fields_of, decimal_of, decimal, LF, TAB}
 use Rattle.rules.proofs.TextLaws.{Free, free_empty, free_more, free_append, free_decimal, parted_free, parted_first, parted_split, parted_some, joined_by, joined_parted, decimal_read, decimal_written}
-use Rattle.rules.specs.Facts.{by_test, by_option, compared, cond-some, cond_other}
+use Rattle.rules.specs.Facts.{by_test, by_option, cond-some, cond_other}
 use Rattle.rules.specs.Tries.{Row, step_of, request_of, is_row, at}
 use Rattle.rules.specs.Listing.{is_letter, place_in, letters, mark_of, read, of_form, entry_of, node_of, row_of}
 use Rattle.rules.proofs.ListingLaws.{bind_some, place_read}
 use Rattle.text.proofs.FieldLaws.{place_within}
 use Rattle.text.proofs.Laws.{NumberEnds, LineTo, by_line}
 use Rattle.listing_lines.specs.Lines.{ended_at, row_from, row_at, kind_in, node_row, RowFits}
+
+-- ---- what is left of a text from a place on, as the code slices it
+
+abbrev pub left_from : List ℕ → ℕ → List ℕ
+left_from text at = take (length text - at) (drop at text)
+
+left_whole : (text : List ℕ) (at : ℕ) → left_from text at ≡ drop at text
+left_whole text at = take_all (length text - at) (drop at text) (omega (arith, length-drop at text))
+
+module _ (text : List ℕ) (at : ℕ) {left : List ℕ} (is : left ≡ left_from text at) where
+  pub left_length : length left ≡ length text - at
+  left_length = ap length (is ∙ left_whole text at) ∙ length-drop at text
+
+  -- its first two bytes are those at the place
+  pub left_first : get_or left 0 0 ≡ get_or text at 0
+  left_first = rw (is ∙ left_whole text at) (get_or-drop at text 0 0 ∙ rw add-zero)
+
+  pub left_second : get_or left 1 0 ≡ get_or text (at + 1) 0
+  left_second = rw (is ∙ left_whole text at) (get_or-drop at text 1 0)
 
 -- ---- the fields of a line, one after the other
 
@@ -319,25 +338,18 @@ module _ (fields : List (List ℕ)) where
 abbrev stepped : ℕ → ℕ → Bool
 stepped kind id = eqb id 0 || (eqb kind 0 || eqb kind 5)
 
-stepped_true : (kind id : ℕ) → (id ≡ 0) ⊎ ((kind ≡ 0) ⊎ (kind ≡ 5)) → stepped kind id ≡ true
-stepped_true kind id (inl e) = rw (eq-eqb id 0 e)
-stepped_true kind id (inr (inl e)) = rw (eq-eqb kind 0 e, or-true)
-stepped_true kind id (inr (inr e)) = rw (eq-eqb kind 5 e, or-true, or-true)
+stepped_true : (kind id : ℕ) → (id ≢ 0 → kind ≢ 0 → kind ≢ 5 → ⊥) → stepped kind id ≡ true
+stepped_true kind id formed =
+    by_test (eqb id 0) (λ e. rw e)
+    (λ e. by_test (eqb kind 0) (λ f. rw (f, or-true))
+    (λ f. by_test (eqb kind 5) (λ g. rw (g, or-true, or-true)) (λ g. absurd (formed (eqb-false id 0 e) (eqb-false kind 0 f) (eqb-false kind 5 g)))))
 
 module _ (depth kind id mark : ℕ) where
-  -- a mark over 1 is none
-  pub node_overmarked : 1 < mark → node_row depth kind id mark ≡ none
-  node_overmarked h = rw (ne_eqb mark 0 (omega arith), ne_eqb mark 1 (omega arith))
-
   node_marked : mark ≤ 1 → node_row depth kind id mark ≡ cond (eqb depth 0) none (of_form (read depth (step_of kind id) (eqb mark 1)))
   node_marked h =
       by_test (eqb mark 0)
       (λ e. rw (eqb-true mark 0 e))
       (λ e. let one : mark ≡ 1 = omega (arith, eqb-false mark 0 e) in rw one)
-
-  -- depth 0 is no node's
-  pub node_flat : depth ≡ 0 → node_row depth kind id mark ≡ none
-  node_flat e = compared 1 mark node_overmarked (λ h. node_marked h ∙ rw e)
 
   module _ (few : kind ≤ 5) (small : id ≤ 65535) (deep : depth ≢ 0) (marked : mark ≤ 1) where
     node_formed : node_row depth kind id mark ≡ cond (cond (eqb depth 1) (stepped kind id && not (eqb kind 0)) (stepped kind id) && true) (some (read depth (step_of kind id) (eqb mark 1))) none
@@ -346,18 +358,8 @@ module _ (depth kind id mark : ℕ) where
         let i : (kind * 65536 + id) % 65536 ≡ id = omega arith in
         node_marked marked ∙ rw (ne_eqb depth 0 deep, k, i, le-leb kind 5 few)
 
-    -- a field is no root
-    pub node_rootless : depth ≡ 1 → kind ≡ 0 → node_row depth kind id mark ≡ none
-    node_rootless one field = node_formed ∙ rw (eq-eqb depth 1 one, eq-eqb kind 0 field, and-false)
-
-    -- p, a, r and c have id 0
-    pub node_id : id ≢ 0 → kind ≢ 0 → kind ≢ 5 → node_row depth kind id mark ≡ none
-    node_id i k l =
-        node_formed
-        ∙ rw (ne_eqb id 0 i, ne_eqb kind 0 k, ne_eqb kind 5 l) (by_test (eqb depth 1) (λ e. rw e) (λ e. rw e))
-
-    -- all else is of its form
-    pub node_good : (depth ≡ 1 → kind ≢ 0) → (id ≡ 0) ⊎ ((kind ≡ 0) ⊎ (kind ≡ 5)) →
+    -- what passes the tests is of its form
+    pub node_good : (depth ≡ 1 → kind ≢ 0) → (id ≢ 0 → kind ≢ 0 → kind ≢ 5 → ⊥) →
         node_row depth kind id mark ≡ some (read depth (step_of kind id) (eqb mark 1))
     node_good rooted formed =
         node_formed

@@ -1,22 +1,15 @@
 -- What a line that was read means (document 01, 'Listing').
-use Rattle.std.specs.Prelude.{ℕ, ◌+◌, ◌^◌, ◌<◌, true, false, cond, List, [], ◌∷◌, ◌++◌, ◌≡◌, eqb, length, drop}
+use Rattle.std.specs.Prelude.{ℕ, ◌+◌, ◌^◌, ◌<◌, true, false, cond, List, [], ◌∷◌, ◌++◌, ◌≡◌, eqb, length, drop, Option as Maybe, Some, None}
 use Rattle.std.proofs.Math.Option.{Option, none, some}
-use Rattle.rules.specs.Text.{lines_of}
-use Rattle.rules.specs.Tries.{Row, step_of, is_entry}
-use Rattle.rules.specs.Listing.{read, of_form, ◌>>=◌}
--- the row of a node's four numbers, if it is of its form
 use Rattle.rules.specs.Text.{lines_of, fields_of}
-use Rattle.rules.specs.Tries.{Row}
-use Rattle.rules.specs.Listing.{read, row_of, letters, place_in, line_of, fields_for}
+use Rattle.rules.specs.Tries.{Row, step_of, is_entry}
+use Rattle.rules.specs.Listing.{read, of_form, row_of, letters, place_in, line_of, fields_for, ◌>>=◌}
 use Rattle.listing_lines.specs.declared.line.ParsedRow.{ParsedRow}
-use Rattle.listing_lines.specs.declared.line.ParsedRow.TheVariants.{Of, Bad}
-use Rattle.listing_lines.specs.declared.line.StepKind.{StepKind}
-use Rattle.listing_lines.specs.declared.line.StepKind.TheVariants.{Of as OfKind, Other}
 
 -- the row that a line is read as, if any, and the place of the line's LF
-abbrev pub row_read : ParsedRow → Option (Row × ℕ)
-row_read (Of depth step marked end) = some (read depth step marked, end)
-row_read Bad = none
+abbrev pub row_read : Maybe ParsedRow → Option (Row × ℕ)
+row_read (Some row) = some (read row.depth row.step row.marked, row.end)
+row_read None = none
 
 -- a row that was read, if any, with the place of its line's LF
 abbrev pub ended_at : ℕ → Option Row → Option (Row × ℕ)
@@ -42,11 +35,6 @@ node_row depth kind id mark =
 -- a row fits its word: an entry's request type has 48 bits and no mark, a node's step 19
 abbrev pub RowFits : Row → Type 0
 RowFits row = (row.step < cond (is_entry row) (2 ^ 48) (2 ^ 19)) × (row.depth ≡ 0 → row.mark ≡ false)
-
--- the kind of a step's letter, if any
-abbrev pub kind_read : StepKind → Option ℕ
-kind_read (OfKind kind) = some kind
-kind_read Other = none
 
 -- of the fields of what is left from a place on, the kind of the first, where another follows
 abbrev pub kind_in : List (List ℕ) → Option ℕ

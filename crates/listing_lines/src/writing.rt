@@ -9,21 +9,14 @@ ghost use Rattle.listing_lines.specs.Lines.{line_for};
 ghost use Rattle.words.specs.Runs.{Wrote};
 
 use rows::{RequestType, Row, StepParts};
-use text::Decimal;
+use text::write_decimal;
 
-// The letters of the steps, by kind.
+// The letter of a step, by its kind.
 fn letter(kind: u64) -> u8
     requires { kind ≤ 5 }
     ensures { result ≡ get_or letters kind 0 }
 {
-    match kind {
-        0 => b'f',
-        1 => b'p',
-        2 => b'a',
-        3 => b'r',
-        4 => b'c',
-        _ => b'e',
-    }
+    b"fparce"[kind as usize]
 }
 
 // The digit of a mark.
@@ -48,7 +41,7 @@ fn put_number(out: &mut [u8], at: usize, number: u64, end: u8) -> usize
     requires { at + length (decimal number) < length out.old }
     ensures { Wrote out.old at (decimal number ++ (end ∷ [])) out.new result }
 {
-    let next = Decimal::write(out, at, number);
+    let next = write_decimal(out, at, number);
     out[next] = end;
     next + 1
 }
@@ -97,10 +90,8 @@ pub fn write_rows(out: &mut [u8], words: &[u64]) -> usize
     ensures { Wrote out.old 0 (listing (rows_of words.now)) out.new result }
 {
     let mut at = 0;
-    let mut i = 0;
-    while i < words.len() {
-        at = write_row(out, at, Row { word: words[i] });
-        i += 1;
+    for word in words {
+        at = write_row(out, at, Row { word: *word });
     }
     at
 }

@@ -7,7 +7,7 @@ ghost use Rattle.listing_lines.specs.Lines.{row_read, row_at};
 use listing_lines::ParsedRow;
 
 // The text, and the place in it that the line to read begins at.
-#[derive(Drop)]
+#[derive(Clone, Copy, Debug)]
 pub struct Reader<'a> {
     pub text: &'a [u8],
     pub at: usize,
@@ -22,7 +22,7 @@ impl<'a> Reader<'a> {
     }
 
     // The row of the line that begins where the reader stands.
-    pub fn row(self) -> ParsedRow
+    pub fn row(self) -> Option<ParsedRow>
         requires { self.at < length self.text.now }
         ensures { row_read result ≡ row_at self.entry.text.now self.entry.at }
     {
@@ -31,7 +31,7 @@ impl<'a> Reader<'a> {
 }
 
 // The row of the line that begins at a place of a text.
-pub fn read_row(text: &[u8], at: usize) -> ParsedRow
+pub fn read_row(text: &[u8], at: usize) -> Option<ParsedRow>
     requires { at < length text.now }
     ensures { row_read result ≡ row_at text.now at }
 {

@@ -10,7 +10,6 @@ ghost use Rattle.result_stack.specs.Stacks.{Scratch};
 ghost use Rattle.step_runs.specs.StepRuns.{Ready};
 ghost use Rattle.policy_runs.specs.PolicyRuns.{request_read, request_of_row, LentManifest, Open, ClosedBy, RoomToAdd, PolicyTakenBy, PolicyRanBy};
 
-use listing_lines::ParsedRow;
 use manifest::{EntityManifest, unite_lawful};
 use path_tries::TRIE;
 use result_stack::Stack;
@@ -63,13 +62,13 @@ fn request_at(text: &[u8], at: usize) -> Opened
     requires { at < length text.now }
     ensures { request_read result ≡ request_of_row (row_at text.now at) }
 {
-    let ParsedRow::Of(depth, step, _, _) = listing_reader::read_row(text, at) else {
+    let Some(row) = listing_reader::read_row(text, at) else {
         return Opened::Other;
     };
-    if depth != 0 {
+    if row.depth != 0 {
         return Opened::Other;
     }
-    Opened::Request(step)
+    Opened::Request(row.step)
 }
 
 // Ends the contribution that has begun: the one result that is left is added. `contribution` and `united` are scratch.

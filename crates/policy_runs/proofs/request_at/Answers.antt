@@ -8,10 +8,10 @@ use Rattle.policy_runs.proofs.request_at.Goals as goal
 pub returns-in_default : goal.returns-in_default
 returns-in_default c = ap request_of_row (sym (ap row_read c.in_default.is) ∙ c.read_row.ensures)
 
-pub returns-then-depth-ne0 : goal.returns-then-depth-ne0
-returns-then-depth-ne0 c =
-    rw (ne_eqb c.in-Of.depth 0 c.if-depth-ne0.true) at (ap request_of_row (sym (ap row_read c.in-Of.is) ∙ c.read_row.ensures))
+pub returns-then-row-ne0 : goal.returns-then-row-ne0
+returns-then-row-ne0 c =
+    rw (ne_eqb c.in-Some.row.depth 0 c.if-row-ne0.true) at (ap request_of_row (sym (ap row_read c.in-Some.is) ∙ c.read_row.ensures))
 
 pub returns : goal.returns
 returns c =
-    rw (eq-eqb c.in-Of.depth 0 c.if-depth-ne0.false) at (ap request_of_row (sym (ap row_read c.in-Of.is) ∙ c.read_row.ensures))
+    rw (eq-eqb c.in-Some.row.depth 0 c.if-row-ne0.false) at (ap request_of_row (sym (ap row_read c.in-Some.is) ∙ c.read_row.ensures))

@@ -39,9 +39,6 @@ returns-then-not-is_lawful c =
     let s = c.args in
     text_parts (write_unlawful s.kind s.state.now s.out.now (long-state (goal.at.returns-then-not-is_lawful c).Else-state-words) (long-out (goal.at.returns-then-not-is_lawful c).Else-out-text_len) (sym c.is_lawful.ensures ∙ c.if-not-is_lawful.true))
 
-pub bounds-state-0 : goal.bounds-state-0
-bounds-state-0 c = omega (arith, count (goal.at.bounds-state-0 c).Else-not-is_lawful)
-
 pub overflow_add-end : goal.overflow_add-end
 overflow_add-end c = omega (arith, count (goal.at.overflow_add-end c).Else-not-is_lawful)
 

@@ -4,4 +4,4 @@ use Rattle.words.specs.RunLaws.{wrote_ended}
 use Rattle.listing_lines.proofs.writing.put_number.Goals as goal
 
 pub returns : goal.returns
-returns c = let s = c.args in wrote_ended s.out.now (decimal s.number) s.at s.end c.write-next.ensures
+returns c = let s = c.args in wrote_ended s.out.now (decimal s.number) s.at s.end c.write_decimal-next.ensures

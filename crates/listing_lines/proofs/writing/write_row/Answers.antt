@@ -1,28 +1,17 @@
 -- `listing_lines::writing::write_row` meets its contract: the line of an entry at depth 0, otherwise that of a node.
 use native.Mathlib.Omega.{arith}
-use mathlib.Core.Bool.{false}
 use mathlib.Core.Path.{◌≡◌}
 use Rattle.rules.specs.Listing.{read}
 use Rattle.rows.specs.Words.{row_in}
 use Rattle.listing_lines.specs.Lines.{line_for}
-use Rattle.listing_lines.specs.WriteLaws.{entry_line, node_line, node_word_kind}
+use Rattle.listing_lines.specs.WriteLaws.{node_line, node_word_kind}
 use Rattle.listing_lines.proofs.writing.write_row.Goals as goal
 use Rattle.listing_lines.proofs.writing.write_row.Goals.{After-is_marked, Then-depth-eq0}
-
--- the row's line is the one that is written
-entry_row : (c : Then-depth-eq0) → line_for (row_in c.args.row.word) ≡ line_for (read 0 c.step-step.result false)
-entry_row c = entry_line _ c.depth-depth.ensures c.step-step.ensures c.if-depth-eq0.true
 
 node_row :
     (c : After-is_marked) →
     line_for (row_in c.args.row.word) ≡ line_for (read c.depth-depth.result c.step-step.result c.is_marked.result)
 node_row c = node_line _ c.depth-depth.ensures c.step-step.ensures c.is_marked.ensures
-
-pub write_entry-requires : goal.write_entry-requires
-write_entry-requires c = rw (entry_row (goal.at.write_entry-requires c).Then-depth-eq0) at c.requires.1
-
-pub returns-then-depth-eq0 : goal.returns-then-depth-eq0
-returns-then-depth-eq0 c = rw (entry_row (goal.at.returns-then-depth-eq0 c).Then-depth-eq0) c.write_entry.ensures
 
 pub write_node-requires : goal.write_node-requires
 write_node-requires c = (
