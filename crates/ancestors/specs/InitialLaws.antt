@@ -18,12 +18,11 @@ use Rattle.row_walk.specs.InitialLaws.{initial_rows}
 use Rattle.row_walk.specs.declared.initial.Request.{Request as Asked}
 use Rattle.row_walk.specs.YieldLaws.{yields_append, batch_length}
 use Rattle.row_walk.specs.SmallLaws.{SmallRows, small_roots, batch_small, rows_again}
-use Rattle.row_walk.specs.declared.batch.Batch.TheVariants.{To as BatchTo}
 use Rattle.ancestors.specs.Sets.{IsSet}
 use Rattle.slices.specs.Slices.{rows_asked}
 use Rattle.ancestors.specs.Takings.{wanted_in, Takes}
 use Rattle.ancestors.specs.declared.set.AncestorSet.{AncestorSet}
-use Rattle.std.specs.Prelude.{Result, Ok, Err}
+use Rattle.std.specs.Prelude.{Some, Result, Ok, Err}
 use Rattle.ancestors.specs.declared.events.Taken.{Taken}
 use Rattle.ancestors.specs.TakingLaws.{take-append, takes_same, takes_refused, takes_then}
 
@@ -64,7 +63,7 @@ pub roots_takes :
     → request.resource < ids
     → IsSet set
     → at + yields (at_roots request depth node rows) ≤ length out
-    → BatchWritten out at out' (batch_of (at_roots request depth node rows)) (BatchTo end)
+    → BatchWritten out at out' (batch_of (at_roots request depth node rows)) (Some end)
     → Takes (λ place. take_events place (at_roots request depth node rows) (wanted_in set out at)) out' (Ok (record { set = set; end = end }))
 roots_takes request depth node rows set out at out' end h k is room written =
     by_option (batch_of (at_roots request depth node rows))

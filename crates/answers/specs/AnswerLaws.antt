@@ -4,6 +4,7 @@ use Rattle.std.proofs.Common.{add-zero, sym, ap, ◌∙◌, drop_of_length-le, l
 use Rattle.std.proofs.Math.Nat.{sub-zero}
 use Rattle.std.proofs.Math.Numerals.{add-one}
 use native.Mathlib.Omega.{arith}
+use Rattle.std.specs.Prelude.{Some, None, Result, Ok, Err}
 use Rattle.std.proofs.Math.Option.{Option, none, some, none-ne-some}
 use Rattle.std.proofs.lemmas.List.{length-map, take-set-le}
 use borrow.Author.Tests.{lt-ltb, le-ltb, le-leb, lt-leb, eq-eqb, ne_eqb, eqb-true, leb-true}
@@ -19,9 +20,6 @@ use Rattle.answers.specs.Answers.{id_set, ReadItem, read_item, head_in, parent_w
 use Rattle.answers.specs.declared.Head.{Head}
 use Rattle.answers.specs.declared.Lending.{Lending}
 use Rattle.answers.specs.declared.Lending.TheVariants.{Answers, Sets}
-use Rattle.answers.specs.declared.Front.TheVariants.{Takes, Wrong}
-use Rattle.answers.specs.declared.Checked.{Checked}
-use Rattle.answers.specs.declared.Checked.TheVariants.{AllFine, WrongAt}
 
 -- ---- ids
 
@@ -165,7 +163,7 @@ module _ (head : Head) (words : List ℕ) where
       by_rows good = rw (eq-eqb head.flag 1 flag, le-leb (head.parents + head.rows) (length words) fits, good)
 
 -- an absent entity, and one by its test
-pub front_absent : (words : List ℕ) → 0 < length words → get_or words 0 0 ≡ 0 → front_of (answer_at words) ≡ Takes 1
+pub front_absent : (words : List ℕ) → 0 < length words → get_or words 0 0 ≡ 0 → front_of (answer_at words) ≡ Some 1
 front_absent [] h e = absurd (omega arith)
 front_absent (word ∷ words) h e = rw e
 
@@ -174,18 +172,18 @@ pub front_entity :
     → 0 < length words
     → get_or words 0 0 ≢ 0
     → is_entity (head_in (get_or words 0 0)) (take (length words - 1) (drop 1 words)) ≡ t
-    → front_of (answer_at words) ≡ cond t (Takes (1 + words_behind Answers (get_or words 0 0))) Wrong
+    → front_of (answer_at words) ≡ cond t (Some (1 + words_behind Answers (get_or words 0 0))) None
 front_entity [] t h present e = absurd (omega arith)
 front_entity (word ∷ words) t h present e = tested t (rw (take_all (suc (length words) - 1) words (omega arith)) at e)
   where
     tested :
         (t : Bool) → is_entity (head_in word) words ≡ t
-        → front_of (answer_with word words) ≡ cond t (Takes (1 + words_behind Answers word)) Wrong
+        → front_of (answer_with word words) ≡ cond t (Some (1 + words_behind Answers word)) None
     tested true e = rw (ne_eqb word 0 present, e)
     tested false e = rw (ne_eqb word 0 present, e)
 
 -- a set by the tests of its parts
-pub front_set_long : (words : List ℕ) → 0 < length words → length words ≤ get_or words 0 0 → front_of (set_at words) ≡ Wrong
+pub front_set_long : (words : List ℕ) → 0 < length words → length words ≤ get_or words 0 0 → front_of (set_at words) ≡ None
 front_set_long [] h k = absurd (omega arith)
 front_set_long (count ∷ words) h k = rw (lt-leb count (length words) (omega arith))
 
@@ -193,11 +191,11 @@ pub front_set_ids :
     (words : List ℕ) (t : Bool)
     → get_or words 0 0 < length words
     → id_set 0 (take (1 + get_or words 0 0 - 1) (drop 1 words)) ≡ t
-    → front_of (set_at words) ≡ cond t (Takes (1 + get_or words 0 0)) Wrong
+    → front_of (set_at words) ≡ cond t (Some (1 + get_or words 0 0)) None
 front_set_ids [] t h e = absurd (omega arith)
 front_set_ids (count ∷ words) t h e = let all : 1 + count - 1 ≡ count = omega arith in tested t (rw all at e)
   where
-    tested : (t : Bool) → id_set 0 (take count words) ≡ t → front_of (set_with count words) ≡ cond t (Takes (1 + count)) Wrong
+    tested : (t : Bool) → id_set 0 (take count words) ≡ t → front_of (set_with count words) ≡ cond t (Some (1 + count)) None
     tested true e = rw (le-leb count (length words) (omega arith), e)
     tested false e = rw (le-leb count (length words) (omega arith), e)
 
@@ -299,18 +297,18 @@ module _ (lent : Lending) (words : List ℕ) (count k at : ℕ) (passed : Passed
 
 -- ---- the look at all
 
-abbrev checked_from : {A : Type 0} → ℕ → Answer (ReadItem (List A)) → Checked
-checked_from at (accepted all) = AllFine (at + all.size)
-checked_from at (refused number place) = WrongAt place
+abbrev checked_from : {A : Type 0} → ℕ → Answer (ReadItem (List A)) → Result ℕ ℕ
+checked_from at (accepted all) = Ok (at + all.size)
+checked_from at (refused number place) = Err place
 
 checked_from_none : {A : Type 0} (answer : Answer (ReadItem (List A))) → checked_as answer ≡ checked_from 0 answer
-checked_from_none (accepted all) = ap {B = Checked} AllFine (omega arith)
+checked_from_none (accepted all) = ap {B = Result ℕ ℕ} Ok (omega arith)
 checked_from_none (refused number place) = refl
 
 checked_in_front :
     {A : Type 0} (at : ℕ) (next : ReadItem A) (rest : Answer (ReadItem (List A)))
     → checked_from at (and_then rest (λ more. accepted (with_first next more))) ≡ checked_from (at + next.size) rest
-checked_in_front at next (accepted all) = ap {B = Checked} AllFine (omega arith)
+checked_in_front at next (accepted all) = ap {B = Result ℕ ℕ} Ok (omega arith)
 checked_in_front at next (refused number place) = refl
 
 -- k of them are of their form, and the others decide
@@ -333,16 +331,16 @@ scratch_part Answers words levels scratch at h e = simp (length-take, length-dro
 scratch_part Sets words levels scratch at h e = tt
 
 -- what a look at the front says of what stands there
-front_wrong : {A : Type 0} (o : Option (ReadItem A)) → front_of o ≡ Wrong → o ≡ none
+front_wrong : {A : Type 0} (o : Option (ReadItem A)) → front_of o ≡ None → o ≡ none
 front_wrong none e = refl
 front_wrong (some next) e = absurd (let z : ◌≡◌ {A = ℕ} 0 1 = cc in omega arith)
 
-front_takes : {A : Type 0} (o : Option (ReadItem A)) {size : ℕ} → front_of o ≡ Takes size → (next : ReadItem A) × (o ≡ some next) × (next.size ≡ size)
+front_takes : {A : Type 0} (o : Option (ReadItem A)) {size : ℕ} → front_of o ≡ Some size → (next : ReadItem A) × (o ≡ some next) × (next.size ≡ size)
 front_takes none e = absurd (let z : ◌≡◌ {A = ℕ} 0 1 = cc in omega arith)
 front_takes (some next) e = (next, refl, cc)
 
 module _ {lent : Lending} {words : List ℕ} {count k at : ℕ} (sofar : CheckedTo lent words count k at) where
-  pub checked_all : count ≤ k → checked_as (lent_from lent 0 count words) ≡ AllFine at
+  pub checked_all : count ≤ k → checked_as (lent_from lent 0 count words) ≡ Ok at
   unfolding read_from
   checked_all h = let none_left : count - k ≡ 0 = omega arith in sofar.left ∙ rw (none_left, add-zero)
 
@@ -355,14 +353,14 @@ module _ {lent : Lending} {words : List ℕ} {count k at : ℕ} (sofar : Checked
 
     -- the next is not of its form, or it takes so many words
     pub checked_wrong :
-        front_of (item_at lent (take (length words - at) (drop at words))) ≡ Wrong
-        → checked_as (lent_from lent 0 count words) ≡ WrongAt k
+        front_of (item_at lent (take (length words - at) (drop at words))) ≡ None
+        → checked_as (lent_from lent 0 count words) ≡ Err k
     checked_wrong e =
         let wrong = front_wrong (item_at lent (drop at words)) (rw lent_behind at e) in
         sofar.left ∙ rw (left_behind, reads_wrong (item_at lent) k (count - (k + 1)) (drop at words) wrong)
 
     pub checked_next :
-        {size : ℕ} → front_of (item_at lent (take (length words - at) (drop at words))) ≡ Takes size
+        {size : ℕ} → front_of (item_at lent (take (length words - at) (drop at words))) ≡ Some size
         → CheckedTo lent words count (k + 1) (at + size)
     checked_next e =
         let (next, stands, size) = front_takes (item_at lent (drop at words)) (rw lent_behind at e) in

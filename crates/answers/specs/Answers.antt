@@ -1,5 +1,6 @@
 -- Answers and sets of ancestor ids as words (docs/FORMS.md, 'Answers in' and 'Ancestors answers in'): a head, and words behind it.
 use Rattle.std.specs.Prelude.{ℕ, zero, suc, ◌+◌, ◌*◌, ◌/◌, ◌%◌, ◌^◌, ◌≤◌, ◌<◌, ◌≡◌, Bool, true, false, cond, ◌&&◌, List, [], ◌∷◌, leb, ltb, eqb, length, take, drop, get_or}
+use Rattle.std.specs.Prelude.{Option as Maybe, Some, None, Result, Ok, Err}
 use Rattle.std.proofs.Math.Option.{Option, none, some}
 use Rattle.rules.specs.Numbers.{Answer, accepted, refused, and_then}
 use Rattle.rules.specs.Tries.{ids}
@@ -10,12 +11,6 @@ use Rattle.values.specs.ValueWords.{value_rows_of}
 use Rattle.answers.specs.declared.Head.{Head}
 use Rattle.answers.specs.declared.Lending.{Lending}
 use Rattle.answers.specs.declared.Lending.TheVariants.{Answers, Sets}
-use Rattle.answers.specs.declared.Front.{Front}
-use Rattle.answers.specs.declared.Front.TheVariants.{Takes, Wrong}
-use Rattle.answers.specs.declared.Checked.{Checked}
-use Rattle.answers.specs.declared.Checked.TheVariants.{AllFine, WrongAt}
-use Rattle.answers.specs.declared.Summed.{Summed}
-use Rattle.answers.specs.declared.Summed.TheVariants.{To, Over}
 
 -- ids that ascend strictly, the first at least `least`
 unfoldable pub id_set : ℕ → List ℕ → Bool
@@ -128,13 +123,13 @@ abbrev pub lent_items : (lent : Lending) → ℕ → List ℕ → List (ItemOf l
 lent_items lent count words = read_items (lent_from lent 0 count words)
 
 -- what a look at the front of words answers, and a look at so many
-abbrev pub front_of : {A : Type 0} → Option (ReadItem A) → Front
-front_of none = Wrong
-front_of (some next) = Takes next.size
+abbrev pub front_of : {A : Type 0} → Option (ReadItem A) → Maybe ℕ
+front_of none = None
+front_of (some next) = Some next.size
 
-abbrev pub checked_as : {A : Type 0} → Answer (ReadItem (List A)) → Checked
-checked_as (accepted all) = AllFine all.size
-checked_as (refused number place) = WrongAt place
+abbrev pub checked_as : {A : Type 0} → Answer (ReadItem (List A)) → Result ℕ ℕ
+checked_as (accepted all) = Ok all.size
+checked_as (refused number place) = Err place
 
 -- answers are looked at with scratch as long as the words
 abbrev pub HasScratch : Lending → List ℕ → List ℕ → Type 0
@@ -142,9 +137,9 @@ HasScratch Answers words levels = length words ≤ length levels
 HasScratch Sets words levels = Unit
 
 -- what a sum answers, as `summed` says it
-abbrev pub sum_in : Summed → LoadAnswer ℕ
-sum_in (To sum) = done sum
-sum_in (Over place) = refused_at 15 place
+abbrev pub sum_in : Result ℕ ℕ → LoadAnswer ℕ
+sum_in (Ok sum) = done sum
+sum_in (Err place) = refused_at 15 place
 
 -- an answer, or a set, stands at a place of words
 abbrev pub StandsAt : (lent : Lending) → List ℕ → ℕ → ItemOf lent → Type 0

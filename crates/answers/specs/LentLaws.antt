@@ -5,7 +5,7 @@ use Rattle.std.proofs.Common.{add-zero, add_assoc, add-one, one-add, sym, ◌∙
 use Rattle.std.proofs.Math.Nat.{zero-add, suc-add}
 use native.Mathlib.Omega.{arith}
 use Rattle.std.proofs.Math.Path.{◌≡◌, ap}
-use Rattle.std.specs.Prelude.{refl, ◌≢◌, true, cond, leb, ltb, eqb, List, [], ◌∷◌, ◌++◌, get_or}
+use Rattle.std.specs.Prelude.{Result, Ok, Err, refl, ◌≢◌, true, cond, leb, ltb, eqb, List, [], ◌∷◌, ◌++◌, get_or}
 use Rattle.std.proofs.Math.Option.{Option, none, some, none-ne-some}
 use Rattle.std.proofs.Math.ListN.{length, take, drop, length-drop}
 use Rattle.std.proofs.lemmas.List.{take-append-le, drop-append-le}
@@ -20,15 +20,14 @@ use Rattle.answers.specs.AnswerLaws.{EntityParts, reads_wrong, reads_next, entit
 use Rattle.answers.specs.declared.Head.{Head}
 use Rattle.answers.specs.declared.Lending.{Lending}
 use Rattle.answers.specs.declared.Lending.TheVariants.{Answers, Sets}
-use Rattle.answers.specs.declared.Checked.TheVariants.{AllFine, WrongAt}
 
 -- ---- what a look at all says
 
-pub fine_read : {A : Type 0} (answer : Answer (ReadItem (List A))) {size : ℕ} → checked_as answer ≡ AllFine size → (all : ReadItem (List A)) × (answer ≡ accepted all) × (all.size ≡ size)
+pub fine_read : {A : Type 0} (answer : Answer (ReadItem (List A))) {size : ℕ} → checked_as answer ≡ Ok size → (all : ReadItem (List A)) × (answer ≡ accepted all) × (all.size ≡ size)
 fine_read (accepted all) e = (all, refl, cc)
 fine_read (refused number place) e = absurd (let z : ◌≡◌ {A = ℕ} 0 1 = cc in omega arith)
 
-pub fine_all : {A : Type 0} (answer : Answer (ReadItem (List A))) {size : ℕ} → checked_as answer ≡ AllFine size → AllRead answer
+pub fine_all : {A : Type 0} (answer : Answer (ReadItem (List A))) {size : ℕ} → checked_as answer ≡ Ok size → AllRead answer
 fine_all (accepted all) e = tt
 fine_all (refused number place) e = absurd (let z : ◌≡◌ {A = ℕ} 0 1 = cc in omega arith)
 
@@ -70,7 +69,7 @@ module _ {A : Type 0} (one : List ℕ → Option (ReadItem A)) where
       ∙ rw (any_place (place + 1) (other + 1) count (drop parts.next.size words) parts.fine, parts.whole)
 
   -- one that is not of its form is refused with 1
-  pub wrong_read : (place count : ℕ) (words : List ℕ) {at : ℕ} → checked_as (read_from one place count words) ≡ WrongAt at → read_from one place count words ≡ refused 1 at
+  pub wrong_read : (place count : ℕ) (words : List ℕ) {at : ℕ} → checked_as (read_from one place count words) ≡ Err at → read_from one place count words ≡ refused 1 at
   unfolding read_from
   wrong_read place zero words e = absurd (let z : ◌≡◌ {A = ℕ} 0 1 = cc in omega arith)
   wrong_read place (suc count) words e =
@@ -80,13 +79,13 @@ module _ {A : Type 0} (one : List ℕ → Option (ReadItem A)) where
       let known = reads_next one place count words stands in
       known ∙ onward next (read_from one (place + 1) count (drop next.size words)) (rw known at e) (λ h. wrong_read (place + 1) count (drop next.size words) h))
     where
-      at_place : {m n : ℕ} → WrongAt m ≡ WrongAt n → m ≡ n
+      at_place : {m n : ℕ} → ◌≡◌ {A = Result ℕ ℕ} (Err m) (Err n) → m ≡ n
       at_place e = cc
 
       onward :
           (next : ReadItem A) (answer : Answer (ReadItem (List A))) {at : ℕ}
-          → checked_as (and_then answer (λ more. accepted (with_first next more))) ≡ WrongAt at
-          → (checked_as answer ≡ WrongAt at → answer ≡ refused 1 at)
+          → checked_as (and_then answer (λ more. accepted (with_first next more))) ≡ Err at
+          → (checked_as answer ≡ Err at → answer ≡ refused 1 at)
           → and_then answer (λ more. accepted (with_first next more)) ≡ refused 1 at
       onward next (accepted all) e h = absurd (let z : ◌≡◌ {A = ℕ} 0 1 = cc in omega arith)
       onward next (refused number place) e h = let known = h e in cc

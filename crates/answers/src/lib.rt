@@ -10,7 +10,7 @@ use values::{ValueRow, is_lawful};
 
 // A head: a flag, and how many parents and rows stand behind it. An answer's flag is 1, and the word 0 is an absent entity; in a slice the
 // flag is the entity's id.
-#[derive(Drop)]
+#[derive(Clone, Copy, PartialEq, Eq, Debug)]
 pub struct Head {
     pub flag: u64,
     pub parents: usize,
@@ -18,31 +18,10 @@ pub struct Head {
 }
 
 // What lent words hold: answers, or sets of ancestor ids.
-#[derive(Clone, Copy)]
+#[derive(Clone, Copy, PartialEq, Eq, Debug)]
 pub enum Lending {
     Answers,
     Sets,
-}
-
-// What stands at the front of words: it takes so many of them, or is not of its form.
-#[derive(Drop)]
-enum Front {
-    Takes(usize),
-    Wrong,
-}
-
-// All are of their form and take so many words, or the one at a place is not.
-#[derive(Drop)]
-pub enum Checked {
-    AllFine(usize),
-    WrongAt(u64),
-}
-
-// The sum after all, or the place of the first that passes the limit.
-#[derive(Drop)]
-pub enum Summed {
-    To(u64),
-    Over(u64),
 }
 
 impl Head {
@@ -78,8 +57,8 @@ impl Lending {
         }
     }
 
-    // What stands at the front of words. `levels` is scratch.
-    fn front(self, words: &[u64], levels: &mut [u64]) -> Front
+    // How many words the answer or set at the front of words takes, if it is of its form. `levels` is scratch.
+    fn front(self, words: &[u64], levels: &mut [u64]) -> Option<usize>
         requires { HasScratch self words.now levels.old }
         ensures { result ≡ front_of (item_at self words.now) }
     {
@@ -98,9 +77,7 @@ pub fn is_id_set(words: &[u64]) -> bool
     ensures { result ≡ id_set 0 words.now }
 {
     let mut least: u64 = 0;
-    let mut i = 0;
-    while i < words.len() {
-        let id = words[i];
+    for &id in words {
         if id < least {
             return false;
         }
@@ -108,7 +85,6 @@ pub fn is_id_set(words: &[u64]) -> bool
             return false;
         }
         least = id + 1;
-        i += 1;
     }
     true
 }
@@ -132,79 +108,75 @@ fn is_entity(head: Head, words: &[u64], levels: &mut [u64]) -> bool
     is_lawful(&words[middle..end], levels)
 }
 
-// An answer at the front of words. `levels` is scratch.
-fn front_answer(words: &[u64], levels: &mut [u64]) -> Front
+// How many words the answer at the front of words takes, if it is of its form. `levels` is scratch.
+fn front_answer(words: &[u64], levels: &mut [u64]) -> Option<usize>
     requires { length words.now ≤ length levels.old }
     ensures { result ≡ front_of (answer_at words.now) }
 {
     if words.len() == 0 {
-        return Front::Wrong;
+        return None;
     }
     let word = words[0];
     if word == 0 {
-        return Front::Takes(1);
+        return Some(1);
     }
     let head = Head::of(word);
     if !is_entity(head, &words[1..], levels) {
-        return Front::Wrong;
+        return None;
     }
-    Front::Takes(1 + Lending::Answers.behind(word))
+    Some(1 + Lending::Answers.behind(word))
 }
 
-// A set of ids at the front of words.
-fn front_set(words: &[u64]) -> Front
+// How many words the set of ids at the front of words takes, if it is of its form.
+fn front_set(words: &[u64]) -> Option<usize>
     ensures { result ≡ front_of (set_at words.now) }
 {
     if words.len() == 0 {
-        return Front::Wrong;
+        return None;
     }
     let count = words[0] as usize;
     if words.len() <= count {
-        return Front::Wrong;
+        return None;
     }
     let end = 1 + count;
     if !is_id_set(&words[1..end]) {
-        return Front::Wrong;
+        return None;
     }
-    Front::Takes(end)
+    Some(end)
 }
 
-// Judges so many answers or sets, one after the other, up to the first that is not of its form. `levels` is scratch: for answers it is as
-// long as the words, for sets nothing is asked of it.
-pub fn check(lent: Lending, words: &[u64], count: u64, levels: &mut [u64]) -> Checked
+// How many words so many answers or sets take, one after the other, or the place of the first that is not of its form. `levels` is scratch:
+// for answers it is as long as the words, for sets nothing is asked of it.
+pub fn check(lent: Lending, words: &[u64], count: u64, levels: &mut [u64]) -> Result<usize, u64>
     requires { HasScratch lent words.now levels.old }
     ensures { result ≡ checked_as (lent_from lent 0 count words.now) }
 {
     let mut at: usize = 0;
-    let mut k: u64 = 0;
-    while k < count {
-        let Front::Takes(size) = lent.front(&words[at..], levels) else {
-            return Checked::WrongAt(k);
+    for k in 0..count {
+        let Some(size) = lent.front(&words[at..], levels) else {
+            return Err(k);
         };
         at += size;
-        k += 1;
     }
-    Checked::AllFine(at)
+    Ok(at)
 }
 
-// Sums the sizes of answers or sets that are of their form, onto a sum so far.
-pub fn sum(lent: Lending, words: &[u64], count: u64, sum: u64) -> Summed
+// Sums the sizes of answers or sets that are of their form, onto a sum so far: the sum, or the place of the first that passes the limit.
+pub fn sum(lent: Lending, words: &[u64], count: u64, sum: u64) -> Result<u64, u64>
     requires { AllRead (lent_from lent 0 count words.now) × (sum ≤ 8192) }
     ensures { summed (size_of_item lent) 0 sum (lent_items lent count words.now) ≡ sum_in result }
 {
     let mut total = sum;
     let mut at: usize = 0;
-    let mut k: u64 = 0;
-    while k < count {
+    for k in 0..count {
         let behind = lent.behind(words[at]);
         total += behind as u64;
         if ValueRow::VALUES < total {
-            return Summed::Over(k);
+            return Err(k);
         }
         at += 1 + behind;
-        k += 1;
     }
-    Summed::To(total)
+    Ok(total)
 }
 
 // Stores, from `to` on, the places at which answers or sets stand that are of their form.
@@ -214,10 +186,8 @@ pub fn place(lent: Lending, words: &[u64], count: u64, places: &mut [u64], to: u
 {
     let end = count as usize;
     let mut at: usize = 0;
-    let mut k: usize = 0;
-    while k < end {
+    for k in 0..end {
         places[to + k] = at as u64;
         at += 1 + lent.behind(words[at]);
-        k += 1;
     }
 }

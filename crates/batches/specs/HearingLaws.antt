@@ -16,7 +16,8 @@ use Rattle.answers.specs.declared.Head.{Head}
 use Rattle.answers.specs.declared.Lending.TheVariants.{Answers}
 use Rattle.merging.specs.Merges.{MergedInto, merged_entity_rows}
 use Rattle.merging.specs.MergeEntityLaws.{entity_of, merged_written, merged_apart}
-use Rattle.merging.specs.declared.Merged.TheVariants.{To, Different}
+use Rattle.std.specs.Prelude.{Option as Maybe, Some, None}
+use Rattle.std.specs.Option.{is_some}
 use Rattle.batches.specs.Hearings.{heard_at, AnswerStands, AllStand, agree, agrees_if_asked, merges_with}
 
 -- an answer begins with a head
@@ -88,18 +89,15 @@ module _
         ≡ some (entity_of (take right-parents (drop (right + 1) words)) (take right-rows (drop (right + 1 + b.parents) words)))
     is_right = rw (sizes.2, sizes.3) other.is
 
-    pub agree_merged :
-        (out out' : List ℕ) (end : ℕ) → MergedInto merging out 0 out' (To end) → true ≡ agree (heard_at words left) (heard_at words right)
-    agree_merged out out' end h =
+    -- what the merge of their words answers says whether they merge
+    pub agree_tested : (out out' : List ℕ) (r : Maybe ℕ) → MergedInto merging out 0 out' r → is_some r ≡ agree (heard_at words left) (heard_at words right)
+    agree_tested out out' (Some end) h =
         let written =
         merged_written (take left-parents (drop (left + 1) words)) (take left_rows (drop (left + 1 + a.parents) words))
         (take right-parents (drop (right + 1) words)) (take right-rows (drop (right + 1 + b.parents) words))
         good_left good_right out out' 0 end h in
         rw (is_left, is_right, written.merged)
-
-    pub agree_apart :
-        (out out' : List ℕ) → MergedInto merging out 0 out' Different → false ≡ agree (heard_at words left) (heard_at words right)
-    agree_apart out out' h =
+    agree_tested out out' None h =
         let apart =
         merged_apart (take left-parents (drop (left + 1) words)) (take left_rows (drop (left + 1 + a.parents) words))
         (take right-parents (drop (right + 1) words)) (take right-rows (drop (right + 1 + b.parents) words))

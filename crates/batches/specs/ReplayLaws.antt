@@ -55,8 +55,7 @@ use Rattle.batches.specs.Takes.{TakenInto, LoadAt}
 use Rattle.batches.specs.TakeWordLaws.{taken_present}
 use Rattle.batches.specs.TakingLaws.{stand_split, front_split, part_split, part_length, load_lengths, taken_up_to, load_takes}
 use Rattle.batches.specs.Replays.{first_load, NoLoad, ReplayedTo}
-use Rattle.batches.specs.declared.taking.Taken.TheVariants.{To, Refused}
-use Rattle.batches.specs.declared.replaying.Replayed.TheVariants.{Come}
+use Rattle.std.specs.Prelude.{Some, Ok, Err}
 
 -- Sums: where all answers are summed, those of each batch are.
 module _ {A : Type 0} (size : A → ℕ) where
@@ -466,7 +465,7 @@ module _ (nodes : List Row) (words places : List ℕ) (count : ℕ) (whole : Loa
         (after_short nodes h.left h.load (heard_in words places asked count) (omega (arith, left_count))
         (omega (arith, left_count, waits)))
 
-    pub replaying_all : count ≤ asked → ReplayedTo whole words rows places count nodes (Come end batches)
+    pub replaying_all : count ≤ asked → ReplayedTo whole words rows places count nodes (Some (end, batches))
     replaying_all last =
         let same : asked ≡ count = omega (arith, h.within) in
         let none_left : heard_in words places asked count ≡ [] = no_answer (heard_in words places asked count) (omega (arith, left_count)) in
@@ -527,7 +526,7 @@ module _ (nodes : List Row) (words places : List ℕ) (count : ℕ) (whole : Loa
 
         pub replaying_refused :
             (rows' : List ℕ) (number place : ℕ)
-            → TakenInto (taken_up_to nodes words rows places asked end end) rows end rows' (Refused number place)
+            → TakenInto (taken_up_to nodes words rows places asked end end) rows end rows' (Err (number, place))
             → NoLoad whole
         replaying_refused rows' number place = go (taken_up_to nodes words rows places asked end end) leads_on
           where
@@ -536,7 +535,7 @@ module _ (nodes : List Row) (words places : List ℕ) (count : ℕ) (whole : Loa
                 → whole
                 ≡ ((o then (λ found. done (next found))) then
                 (λ load. after_answers (h.left - 1) nodes load (heard_in words places end count)))
-                → TakenInto o rows end rows' (Refused number place)
+                → TakenInto o rows end rows' (Err (number, place))
                 → NoLoad whole
             go (done found) e k = absurd k
             go (refused_at n p) e k = rw e tt
@@ -545,7 +544,7 @@ module _ (nodes : List Row) (words places : List ℕ) (count : ℕ) (whole : Loa
         pub replaying_next :
             length nodes ≤ length rows
             → (rows' : List ℕ) (end' : ℕ)
-            → TakenInto (taken_up_to nodes words rows places asked end end) rows end rows' (To end')
+            → TakenInto (taken_up_to nodes words rows places asked end end) rows end rows' (Ok end')
             → Replaying rows' end end' (batches + 1)
         replaying_next few rows' end' = go (taken_up_to nodes words rows places asked end end) refl leads_on
           where
@@ -555,7 +554,7 @@ module _ (nodes : List Row) (words places : List ℕ) (count : ℕ) (whole : Loa
                 → whole
                 ≡ ((o then (λ found. done (next found))) then
                 (λ load. after_answers (h.left - 1) nodes load (heard_in words places end count)))
-                → TakenInto o rows end rows' (To end')
+                → TakenInto o rows end rows' (Ok end')
                 → Replaying rows' end end' (batches + 1)
             go (done found) taken e k =
                 record {

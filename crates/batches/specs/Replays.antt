@@ -1,10 +1,8 @@
 -- What the replay of a load comes to: the batches' answers are taken again, from the first batch on.
-use Rattle.std.specs.Prelude.{ℕ, ◌≡◌, List, []}
+use Rattle.std.specs.Prelude.{ℕ, ◌≡◌, List, [], Option, Some, None}
 use Rattle.rules.specs.Tries.{Row}
 use Rattle.rules.specs.Loading.{LoadAnswer, done, refused_at, counted, EntityRequest, Load}
 use Rattle.batches.specs.Takes.{LoadAt}
-use Rattle.batches.specs.declared.replaying.Replayed.{Replayed}
-use Rattle.batches.specs.declared.replaying.Replayed.TheVariants.{Come, Unlawful}
 
 -- the load whose first batch waits
 abbrev pub first_load : List EntityRequest → Load
@@ -17,9 +15,9 @@ NoLoad (refused_at number place) = Unit
 NoLoad (counted expected got) = Unit
 
 -- so many answers were taken: the load stands in the rows, with its count of batches, or there is none
-abbrev pub ReplayedTo : LoadAnswer Load → List ℕ → List ℕ → List ℕ → ℕ → List Row → Replayed → Type 0
-ReplayedTo answer words rows places count nodes Unlawful = NoLoad answer
-ReplayedTo (done load) words rows places count nodes (Come end batches) =
+abbrev pub ReplayedTo : LoadAnswer Load → List ℕ → List ℕ → List ℕ → ℕ → List Row → Option (ℕ × ℕ) → Type 0
+ReplayedTo answer words rows places count nodes None = NoLoad answer
+ReplayedTo (done load) words rows places count nodes (Some (end, batches)) =
     (batches ≡ load.batches) × ((s : List ℕ) × LoadAt words rows places count end s nodes load)
-ReplayedTo (refused_at number place) words rows places count nodes (Come end batches) = ⊥
-ReplayedTo (counted expected got) words rows places count nodes (Come end batches) = ⊥
+ReplayedTo (refused_at number place) words rows places count nodes (Some (end, batches)) = ⊥
+ReplayedTo (counted expected got) words rows places count nodes (Some (end, batches)) = ⊥

@@ -1,5 +1,5 @@
 -- What taking an answer, and the answers of a batch, answers and writes, and the loads that rows and answers can be of.
-use Rattle.std.specs.Prelude.{ℕ, ◌≤◌, ◌≡◌, true, List, map, length, take}
+use Rattle.std.specs.Prelude.{ℕ, ◌≤◌, ◌≡◌, true, List, map, length, take, Result, Ok, Err}
 use Rattle.rules.specs.Tries.{Row, ordered}
 use Rattle.rules.specs.Loading.{LoadAnswer, done, refused_at, counted, EntityRequest, Load}
 use Rattle.rules.proofs.SliceLaws.{LoadOf}
@@ -7,8 +7,6 @@ use Rattle.rules.proofs.TripLaws.{GoingLoad}
 use Rattle.words.specs.Runs.{Wrote}
 use Rattle.values.specs.ValueWords.{request_word}
 use Rattle.batches.specs.Hearings.{asked_before, asked_in, heard_before}
-use Rattle.batches.specs.declared.taking.Taken.{Taken}
-use Rattle.batches.specs.declared.taking.Taken.TheVariants.{To, Refused}
 
 -- nothing in front of a place is changed
 pub record StaysBefore (out : List ℕ) (to : ℕ) (out' : List ℕ) : Type 0 where
@@ -16,11 +14,11 @@ pub record StaysBefore (out : List ℕ) (to : ℕ) (out' : List ℕ) : Type 0 wh
   pub size : length out' ≡ length out
 
 -- The rows that an answer gives are written from a place on, or it is refused.
-abbrev pub TakenInto : LoadAnswer (List EntityRequest) → List ℕ → ℕ → List ℕ → Taken → Type 0
-TakenInto (done rows) out to out' (To end) = Wrote out to (map request_word rows) out' end
-TakenInto (done rows) out to out' (Refused n p) = ⊥
-TakenInto (refused_at number place) out to out' (To end) = ⊥
-TakenInto (refused_at number place) out to out' (Refused n p) = (n ≡ number) × (p ≡ place) × StaysBefore out to out'
+abbrev pub TakenInto : LoadAnswer (List EntityRequest) → List ℕ → ℕ → List ℕ → Result ℕ (ℕ × ℕ) → Type 0
+TakenInto (done rows) out to out' (Ok end) = Wrote out to (map request_word rows) out' end
+TakenInto (done rows) out to out' (Err (n, p)) = ⊥
+TakenInto (refused_at number place) out to out' (Ok end) = ⊥
+TakenInto (refused_at number place) out to out' (Err (n, p)) = (n ≡ number) × (p ≡ place) × StaysBefore out to out'
 TakenInto (counted expected got) out to out' r = ⊥
 
 -- A load of an entry at the place s: the rows before `from` were asked and answered, and those up to `to` wait.

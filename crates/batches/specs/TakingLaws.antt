@@ -26,7 +26,7 @@ use Rattle.words.specs.SeqLaws.{take-sets}
 use Rattle.batches.specs.Hearings.{heard_at, asked_before, heard_before, asked_in, heard_in, AnswerStands, AllStand}
 use Rattle.batches.specs.HearingLaws.{standing_absent, standing_present, all_stand}
 use Rattle.batches.specs.Takes.{StaysBefore, TakenInto, LoadAt}
-use Rattle.batches.specs.declared.taking.Taken.TheVariants.{To, Refused}
+use Rattle.std.specs.Prelude.{Ok, Err}
 
 -- Answers that stand are good.
 
@@ -225,13 +225,13 @@ module _ (nodes : List Row) (words rows places : List ℕ) (from to : ℕ) where
           let (before, row) = waits_on inside fits i sofar.from_on less out end (map request_word sofar.found) sofar.wrote in
           rw (before, row) (rw sofar.taken at (taken_next inside fits i sofar.from_on less))
 
-      pub taking_more : (out' : List ℕ) (end' : ℕ) → TakenInto taken_here out end out' (To end') → TakenSoFar (i + 1) out' end'
+      pub taking_more : (out' : List ℕ) (end' : ℕ) → TakenInto taken_here out end out' (Ok end') → TakenSoFar (i + 1) out' end'
       taking_more out' end' = go taken_here here_next
         where
           go :
               (o : LoadAnswer (List EntityRequest))
               → taken_up_to (i + 1) ≡ (o then (λ more. done (sofar.found ++ more)))
-              → TakenInto o out end out' (To end')
+              → TakenInto o out end out' (Ok end')
               → TakenSoFar (i + 1) out' end'
           go (done more) e h =
               record {
@@ -245,8 +245,8 @@ module _ (nodes : List Row) (words rows places : List ℕ) (from to : ℕ) where
           go (counted expected got) e h = absurd h
 
       pub taking_refused :
-          (out' : List ℕ) (number place : ℕ) → TakenInto taken_here out end out' (Refused number place)
-          → TakenInto (taken_up_to to) rows to out' (Refused number place)
+          (out' : List ℕ) (number place : ℕ) → TakenInto taken_here out end out' (Err (number, place))
+          → TakenInto (taken_up_to to) rows to out' (Err (number, place))
       taking_refused out' number place = go taken_here here_next
         where
           stays : StaysBefore out end out' → StaysBefore rows to out'
@@ -262,8 +262,8 @@ module _ (nodes : List Row) (words rows places : List ℕ) (from to : ℕ) where
           go :
               (o : LoadAnswer (List EntityRequest))
               → taken_up_to (i + 1) ≡ (o then (λ more. done (sofar.found ++ more)))
-              → TakenInto o out end out' (Refused number place)
-              → TakenInto (taken_up_to to) rows to out' (Refused number place)
+              → TakenInto o out end out' (Err (number, place))
+              → TakenInto (taken_up_to to) rows to out' (Err (number, place))
           go (done more) e h = absurd h
           go (refused_at n p) e h =
               let heard : heard_in words places from to ≡ heard_in words places from (i + 1) ++ heard_in words places (i + 1) to =
@@ -277,7 +277,7 @@ module _ (nodes : List Row) (words rows places : List ℕ) (from to : ℕ) where
               rw whole (h.0, h.1, stays h.2)
           go (counted expected got) e h = absurd h
 
-  pub taking_all : (i : ℕ) (out : List ℕ) (end : ℕ) → to ≤ i → TakenSoFar i out end → TakenInto (taken_up_to to) rows to out (To end)
+  pub taking_all : (i : ℕ) (out : List ℕ) (end : ℕ) → to ≤ i → TakenSoFar i out end → TakenInto (taken_up_to to) rows to out (Ok end)
   taking_all i out end last sofar =
       let same : i ≡ to = omega (arith, sofar.up-to) in
       let whole : taken_up_to to ≡ done sofar.found = rw same at sofar.taken in

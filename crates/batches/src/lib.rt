@@ -5,5 +5,5 @@ mod merges;
 mod replaying;
 mod taking;
 
-pub use replaying::{Replayed, replay};
-pub use taking::{Taken, take_answers};
+pub use replaying::replay;
+pub use taking::take_answers;

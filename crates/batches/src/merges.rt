@@ -5,7 +5,7 @@ ghost use Rattle.values.specs.ValueWords.{row_asked};
 ghost use Rattle.batches.specs.Hearings.{heard_at, AnswerStands, AllStand, agree as agree_of, agrees_if_asked, merges_with};
 
 use answers::Head;
-use merging::{Merged, merge_entities};
+use merging::merge_entities;
 use values::EntityRequest;
 
 // Whether the answers at two places merge; an absent one does with any. What is merged goes into scratch.
@@ -30,17 +30,15 @@ fn agree(words: &[u64], left: usize, right: usize, scratch: &mut [u64]) -> bool
     let b_parents = right + 1;
     let b_rows = b_parents + b.parents;
     let b_end = b_rows + b.rows;
-    if let Merged::To(_) = merge_entities(
+    merge_entities(
         &words[a_parents..a_rows],
         &words[a_rows..a_end],
         &words[b_parents..b_rows],
         &words[b_rows..b_end],
         scratch,
         0,
-    ) {
-        return true;
-    }
-    false
+    )
+    .is_some()
 }
 
 // The same for the answer to a row, where the row asks for the entity.

@@ -7,16 +7,10 @@ ghost use Rattle.batches.specs.Hearings.{asked_before, heard_before, AllStand};
 ghost use Rattle.batches.specs.Takes.{LoadAt};
 ghost use Rattle.batches.specs.Replays.{first_load, ReplayedTo};
 
-use crate::taking::{Taken, take_answers};
+use crate::taking::take_answers;
 
-// Where the answers lead: the place after the rows that wait and the batches answered, or no load has such answers.
-#[derive(Drop)]
-pub enum Replayed {
-    Come(usize, u64),
-    Unlawful,
-}
-
-// Takes the answers at the first `count` places, batch by batch; the first batch's rows stand before `first`.
+// Takes the answers at the first `count` places, batch by batch; the first batch's rows stand before `first`. Answers the place after the
+// rows that wait and how many batches were answered, or none where no load has such answers.
 pub fn replay(
     nodes: &[u64],
     words: &[u64],
@@ -25,7 +19,7 @@ pub fn replay(
     first: usize,
     count: usize,
     scratch: &mut [u64],
-) -> Replayed
+) -> Option<(usize, u64)>
     requires count_in_bounds { (count ≤ length places.now) × (8192 ≤ length rows.old) }
     requires nodes_len_bound { (length nodes.now ≤ 4096) × (length words.now + length words.now ≤ length scratch.old) }
     requires all_stand { AllStand words.now (take count places.now) }
@@ -42,17 +36,17 @@ pub fn replay(
     let mut batches: u64 = 0;
     while asked < count {
         if end == asked {
-            return Replayed::Unlawful;
+            return None;
         }
         if count < end {
-            return Replayed::Unlawful;
+            return None;
         }
-        let Taken::To(next) = take_answers(nodes, words, rows, places, asked, end, scratch) else {
-            return Replayed::Unlawful;
+        let Ok(next) = take_answers(nodes, words, rows, places, asked, end, scratch) else {
+            return None;
         };
         asked = end;
         end = next;
         batches += 1;
     }
-    Replayed::Come(end, batches)
+    Some((end, batches))
 }

@@ -9,18 +9,11 @@ ghost use Rattle.batches.specs.Takes.{TakenInto, LoadAt};
 
 use crate::merges::merges_with_earlier;
 use answers::Head;
-use row_walk::{Batch, find_remaining_entities};
+use row_walk::find_remaining_entities;
 use values::EntityRequest;
 
-// What is taken: the place after the rows that come of it, or a refusal with its place.
-#[derive(Drop)]
-pub enum Taken {
-    To(usize),
-    Refused(u64, u64),
-}
-
 // Takes the answer to row i: what its node's children find in it is written behind the rows so far (14), and it must merge with the earlier
-// answers to its entity (13). The refusal's place is `place`.
+// answers to its entity (13). Answers the place after the rows that come of it, or the refusal's number and its place, which is `place`.
 fn take_answer(
     nodes: &[u64],
     words: &[u64],
@@ -30,7 +23,7 @@ fn take_answer(
     end: usize,
     place: u64,
     scratch: &mut [u64],
-) -> Taken
+) -> Result<usize, (u64, u64)>
     requires i_lt_end { (i < end) × ((i < length places.now) × (end + length nodes.now ≤ length rows.old)) }
     requires nodes_len_bound { (length nodes.now ≤ 4096) × (length words.now + length words.now ≤ length scratch.old) }
     requires all_stand { AllStand words.now (take i places.now) × AnswerStands words.now (get_or places.now i 0) }
@@ -44,23 +37,24 @@ fn take_answer(
     let at = places[i] as usize;
     let word = words[at];
     if word == 0 {
-        return Taken::To(end);
+        return Ok(end);
     }
     let head = Head::of(word);
     let from = at + 1 + head.parents;
     let to = from + head.rows;
     let asked = EntityRequest::of(row);
     let node = asked.node as usize;
-    let Batch::To(next) = find_remaining_entities(nodes, node, &words[from..to], rows, end) else {
-        return Taken::Refused(14, place);
+    let Some(next) = find_remaining_entities(nodes, node, &words[from..to], rows, end) else {
+        return Err((14, place));
     };
     if merges_with_earlier(words, &rows[..i], &places[..i], asked.id, at, scratch) {
-        return Taken::To(next);
+        return Ok(next);
     }
-    Taken::Refused(13, place)
+    Err((13, place))
 }
 
-// Takes the answers to the rows that wait, from `from` up to `to`: the rows that they give are written behind these.
+// Takes the answers to the rows that wait, from `from` up to `to`: the rows that they give are written behind these. Answers the place after
+// all rows, or a refusal's number and its place in the batch.
 pub fn take_answers(
     nodes: &[u64],
     words: &[u64],
@@ -69,7 +63,7 @@ pub fn take_answers(
     from: usize,
     to: usize,
     scratch: &mut [u64],
-) -> Taken
+) -> Result<usize, (u64, u64)>
     requires to_in_bounds { (to ≤ length places.now) × (8192 ≤ length rows.old) }
     requires nodes_len_bound { (length nodes.now ≤ 4096) × (length words.now + length words.now ≤ length scratch.old) }
     requires all_stand { AllStand words.now (take to places.now) }
@@ -81,15 +75,9 @@ pub fn take_answers(
         rows.old to rows.new result }
 {
     let mut end = to;
-    let mut i = from;
-    while i < to {
+    for i in from..to {
         let place = (i - from) as u64;
-        let taken = take_answer(nodes, words, rows, places, i, end, place, scratch);
-        let Taken::To(next) = taken else {
-            return taken;
-        };
-        end = next;
-        i += 1;
+        end = take_answer(nodes, words, rows, places, i, end, place, scratch)?;
     }
-    Taken::To(end)
+    Ok(end)
 }

@@ -17,8 +17,7 @@ use Rattle.rows.specs.WordLaws.{entry_word, all_words_cons, word_at, words_rows}
 use Rattle.rows.specs.States.{all_words, lawful_state, rows_in, rows_of}
 use Rattle.rows.specs.StateLaws.{rows_lawful}
 use Rattle.row_walk.specs.Batches.{BatchWritten}
-use Rattle.row_walk.specs.declared.batch.Batch.{Batch}
-use Rattle.row_walk.specs.declared.batch.Batch.TheVariants.{To, Bad}
+use Rattle.std.specs.Prelude.{Option as Maybe, Some, None}
 use Rattle.batches.specs.Replays.{first_load}
 use Rattle.load_state.specs.LoadStates.{context_words, load_words, is_request, request_of, turn_number, first_turn}
 use Rattle.load_state.specs.Outcomes.{LoadOutcome, AnsweredAs}
@@ -51,20 +50,20 @@ module _ (triple principal resource : ℕ) (context state : List ℕ) (first : �
   abbrev pub to_begin : LoadOutcome
   to_begin = begun_with triple principal resource context state first nodes (load_begun (request_of triple principal resource context) nodes)
 
-  pub begun_bad : (r : Batch) → BatchWritten out 0 out' first_batch r → r ≡ Bad → AnsweredAs to_begin (Refused 14 0) state
+  pub begun_bad : (r : Maybe ℕ) → BatchWritten out 0 out' first_batch r → r ≡ None → AnsweredAs to_begin (Refused 14 0) state
   begun_bad r h e = rw (first_or (request_of triple principal resource context) nodes) (go first_batch (rw e at h))
     where
       go :
           (o : Option (List EntityRequest))
-          → BatchWritten out 0 out' o Bad
+          → BatchWritten out 0 out' o None
           → AnsweredAs (begun_with triple principal resource context state first nodes (first_or14 o)) (Refused 14 0) state
       go none h = (refl, refl)
       go (some rows) h = absurd h
 
   pub begun_to :
-      (r : Batch) {waiting : ℕ} (turn count : ℕ) (entry state' : List ℕ)
+      (r : Maybe ℕ) {waiting : ℕ} (turn count : ℕ) (entry state' : List ℕ)
       → BatchWritten out 0 out' first_batch r
-      → r ≡ To waiting
+      → r ≡ Some waiting
       → turn ≡ first_turn waiting
       → count ≡ length nodes
       → entry ≡ entry_words triple nodes
@@ -75,7 +74,7 @@ module _ (triple principal resource : ℕ) (context state : List ℕ) (first : �
     where
       go :
           (o : Option (List EntityRequest))
-          → BatchWritten out 0 out' o (To waiting)
+          → BatchWritten out 0 out' o (Some waiting)
           → AnsweredAs (begun_with triple principal resource context state first nodes (first_or14 o)) (Done count 0 0) state'
       go none h = absurd h
       go (some rows) h =

@@ -10,7 +10,7 @@ ghost use Rattle.load_begin.specs.Begins.{lawful_context, begun_state, entry_wor
 
 use entries::find_entry;
 use load_state::{LoadReply, LoadState, is_request, turn_for};
-use row_walk::{Batch, Request, initial_entities_to_load};
+use row_walk::{Request, initial_entities_to_load};
 use rows::Kind;
 use values::is_lawful;
 
@@ -73,7 +73,7 @@ fn begin_entry(
     let from = at + 1;
     let end = from + count;
     let mut found = [0u64; 4_096];
-    let Batch::To(waiting) = initial_entities_to_load(
+    let Some(waiting) = initial_entities_to_load(
         &rows[from..end],
         0,
         0,

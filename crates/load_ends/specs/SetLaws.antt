@@ -1,5 +1,5 @@
 -- Laws of lent sets of ancestor ids, of which the first are kept. No contract cites this file.
-use Rattle.std.specs.Prelude.{ℕ, zero, suc, ◌+◌, ◌≤◌, ◌≡◌, refl, List, [], ◌∷◌, ltb, length, take, drop, get_or}
+use Rattle.std.specs.Prelude.{Ok, Err, ℕ, zero, suc, ◌+◌, ◌≤◌, ◌≡◌, refl, List, [], ◌∷◌, ltb, length, take, drop, get_or}
 use Rattle.std.proofs.Common.{arith, ap, ◌∙◌, length-take}
 use Rattle.std.proofs.Math.Option.{Option}
 use Rattle.rules.specs.Facts.{by_test, capped, capped_min}
@@ -10,7 +10,6 @@ use Rattle.answers.specs.Answers.{ReadItem, read_item, read_from, checked_as, Al
 use Rattle.answers.specs.AnswerLaws.{reads_next}
 use Rattle.answers.specs.LentLaws.{split, wrong_read, all_within, all_summed}
 use Rattle.answers.specs.declared.Lending.TheVariants.{Sets}
-use Rattle.answers.specs.declared.Checked.TheVariants.{AllFine, WrongAt}
 use Rattle.load_state.specs.Outcomes.{refusing_call, size_of_all, words_of}
 use Rattle.load_state.specs.WorkedLaws.{items_counted, sum_few}
 use Rattle.load_state.specs.declared.LoadReply.TheVariants.{Done}
@@ -23,12 +22,12 @@ all_read (accepted all) h = (all, refl)
 all_read (refused number place) h = absurd h
 
 -- how many words they take
-pub fine_sized : {A : Type 0} (answer : Answer (ReadItem (List A))) {size : ℕ} → checked_as answer ≡ AllFine size → size_of_all answer ≡ size
+pub fine_sized : {A : Type 0} (answer : Answer (ReadItem (List A))) {size : ℕ} → checked_as answer ≡ Ok size → size_of_all answer ≡ size
 fine_sized (accepted all) e = cc
 fine_sized (refused number place) e = let z : ◌≡◌ {A = ℕ} 0 1 = cc in absurd (omega arith)
 
 -- none of those that are read is wrong
-pub never_wrong : {A : Type 0} (answer : Answer (ReadItem (List A))) {place : ℕ} → checked_as answer ≡ WrongAt place → AllRead answer → ⊥
+pub never_wrong : {A : Type 0} (answer : Answer (ReadItem (List A))) {place : ℕ} → checked_as answer ≡ Err place → AllRead answer → ⊥
 never_wrong (accepted all) e h = let z : ◌≡◌ {A = ℕ} 0 1 = cc in omega arith
 never_wrong (refused number place) e h = h
 
@@ -96,7 +95,7 @@ module _ (words : List ℕ) (count asked : ℕ) (read : AllRead (lent_from Sets 
 
 module _ (state words : List ℕ) (count : ℕ) (load : Load) (turn : get_or state 0 0 ≡ 4) where
   pub sets_wrong :
-      {place : ℕ} → checked_as (lent_from Sets 0 count words) ≡ WrongAt place → taking_sets state words count load ≡ refusing_call 1 place state
+      {place : ℕ} → checked_as (lent_from Sets 0 count words) ≡ Err place → taking_sets state words count load ≡ refusing_call 1 place state
   sets_wrong e = rw (wrong_read (item_at Sets) 0 count words e)
 
   pub sets_over :

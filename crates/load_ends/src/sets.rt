@@ -8,7 +8,7 @@ ghost use Rattle.answers.specs.declared.Lending.TheVariants.{Sets};
 ghost use Rattle.load_state.specs.Outcomes.{AnsweredAs};
 ghost use Rattle.load_ends.specs.Ends.{sets_stored, taking_sets, ancestors_answer_in};
 
-use answers::{Checked, Lending, Summed};
+use answers::Lending;
 use load_state::{LoadReply, LoadState, Worked, read_load};
 
 // The one length of ancestors' answers: a count, and words behind it.
@@ -33,7 +33,7 @@ fn keep_sets(state: &mut [u64], words: &[u64], count: u64, asked: usize) -> u64
     let kept = words::at_most(count, asked as u64);
     let mut levels = [0u64; 1];
     // the first of sets that are all of their form are of it too, so the test never fails
-    let Checked::AllFine(size) = answers::check(Lending::Sets, words, kept, &mut levels) else {
+    let Ok(size) = answers::check(Lending::Sets, words, kept, &mut levels) else {
         return kept;
     };
     store_sets(state, kept, &words[..size]);
@@ -55,10 +55,10 @@ fn take_sets(
         → AnsweredAs (taking_sets state.old words.now count load) result state.new }
 {
     let mut levels = [0u64; 1];
-    if let Checked::WrongAt(place) = answers::check(Lending::Sets, words, count, &mut levels) {
+    if let Err(place) = answers::check(Lending::Sets, words, count, &mut levels) {
         return LoadReply::Refused(1, place);
     }
-    if let Summed::Over(place) = answers::sum(Lending::Sets, words, count, sum) {
+    if let Err(place) = answers::sum(Lending::Sets, words, count, sum) {
         return LoadReply::Refused(15, place);
     }
     let kept = keep_sets(state, words, count, asked);

@@ -1,5 +1,6 @@
 -- The state of a load in words (docs/FORMS.md, 'Load state'): its parts, and which of them are of their form.
-use Rattle.std.specs.Prelude.{ℕ, ◌+◌, ◌^◌, Bool, true, false, cond, ◌&&◌, List, ltb, eqb, take, drop, get_or}
+use Rattle.std.specs.Prelude.{ℕ, ◌+◌, ◌^◌, Bool, cond, ◌&&◌, List, ltb, eqb, take, drop, get_or}
+use Rattle.std.specs.Result.{is_ok}
 use Rattle.rules.specs.Tries.{ids}
 use Rattle.rules.specs.ValueRowTests.{attributes_from, lawful_value_rows}
 use Rattle.rules.specs.Loading.{Request}
@@ -10,8 +11,6 @@ use Rattle.values.specs.ValueWords.{value_rows_of}
 use Rattle.answers.specs.Answers.{lent_from, checked_as}
 use Rattle.answers.specs.declared.Lending.{Lending}
 use Rattle.answers.specs.declared.Lending.TheVariants.{Answers, Sets}
-use Rattle.answers.specs.declared.Checked.{Checked}
-use Rattle.answers.specs.declared.Checked.TheVariants.{AllFine, WrongAt}
 
 -- the one length of a load's state, and of a context
 abbrev pub load_words : ℕ
@@ -67,12 +66,8 @@ unfoldable pub good_context : List ℕ → Bool
 good_context state = ltb (get_or state 6 0) context_words && lawful_value_rows (value_rows_of (context_in state))
 
 -- answers and sets that are of their form
-abbrev pub is_fine : Checked → Bool
-is_fine (AllFine size) = true
-is_fine (WrongAt place) = false
-
 unfoldable pub good_lent : Lending → ℕ → List ℕ → Bool
-good_lent lent count words = ltb count 4097 && is_fine (checked_as (lent_from lent 0 count words))
+good_lent lent count words = ltb count 4097 && is_ok (checked_as (lent_from lent 0 count words))
 
 unfoldable pub good_parts : List ℕ → Bool
 good_parts state =

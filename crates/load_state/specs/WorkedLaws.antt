@@ -18,8 +18,8 @@ use Rattle.row_walk.specs.Batches.{BatchWritten}
 use Rattle.row_walk.specs.Initial.{request_with}
 use Rattle.row_walk.specs.SmallLaws.{SmallRows, batch_small, initial_small}
 use Rattle.row_walk.specs.declared.initial.Request.{Request as Asked}
-use Rattle.row_walk.specs.declared.batch.Batch.{Batch}
-use Rattle.row_walk.specs.declared.batch.Batch.TheVariants.{To, Bad}
+use Rattle.std.specs.Prelude.{Option as Maybe, Some, None}
+use Rattle.std.specs.Result.{is_ok}
 use Rattle.answers.specs.Answers.{HasScratch, ItemOf, item_at, ReadItem, AllRead, read_items, lent_from, lent_items, PlacedAt, checked_as}
 use Rattle.answers.specs.LentLaws.{all_counted}
 use Rattle.answers.specs.declared.Lending.{Lending}
@@ -29,9 +29,7 @@ use Rattle.batches.specs.Takes.{LoadAt}
 use Rattle.batches.specs.Replays.{first_load, NoLoad, ReplayedTo}
 use Rattle.batches.specs.HearingLaws.{placed_heard as stand-heard}
 use Rattle.batches.specs.ReplayLaws.{after_sum, begun_first, first_waits}
-use Rattle.batches.specs.declared.replaying.Replayed.{Replayed}
-use Rattle.batches.specs.declared.replaying.Replayed.TheVariants.{Come as Replayed-Come, Unlawful}
-use Rattle.load_state.specs.LoadStates.{is_request, entry_in, answer_words, set_words, is_fine, good_head, good_entry, good_context, good_lent, good_parts}
+use Rattle.load_state.specs.LoadStates.{is_request, entry_in, answer_words, set_words, good_head, good_entry, good_context, good_lent, good_parts}
 use Rattle.load_state.specs.Transcripts.{node_words, nodes_from, worked_by, WorkedTo}
 use Rattle.load_state.specs.declared.working.Worked.TheVariants.{Come}
 
@@ -68,15 +66,15 @@ module _ (asked : Asked) (context : List ℕ) (nodes : List Row) where
   first_found = batch_of (initial_entities (request_with asked context) 0 0 nodes)
 
   pub no_first :
-      (answers : List (Option Entity)) (rows rows' : List ℕ) (r : Batch)
+      (answers : List (Option Entity)) (rows rows' : List ℕ) (r : Maybe ℕ)
       → BatchWritten rows 0 rows' first_found r
-      → r ≡ Bad
+      → r ≡ None
       → NoLoad (worked_by (request_with asked context) nodes answers)
   no_first answers rows rows' r h e = go first_found (rw e at h)
     where
       go :
           (o : Option (List EntityRequest))
-          → BatchWritten rows 0 rows' o Bad
+          → BatchWritten rows 0 rows' o None
           → NoLoad
           (elim o [ none ↦ refused_at 14 0 | some found ↦ done (first_load found) ]
           then
@@ -95,13 +93,13 @@ module _ (asked : Asked) (context : List ℕ) (nodes : List Row) where
       (order : ordered s nodes ≡ true)
       (few : length nodes ≤ length rows)
     where
-      pub first_read : (r : Batch) → BatchWritten rows 0 rows' first_found r → r ≡ To first → FirstRead words places rows' first s
+      pub first_read : (r : Maybe ℕ) → BatchWritten rows 0 rows' first_found r → r ≡ Some first → FirstRead words places rows' first s
       first_read r h told = go first_found refl (rw told at h)
         where
           go :
               (o : Option (List EntityRequest))
               → first_found ≡ o
-              → BatchWritten rows 0 rows' o (To first)
+              → BatchWritten rows 0 rows' o (Some first)
               → FirstRead words places rows' first s
           go none e wrote = absurd wrote
           go (some found) e wrote =
@@ -167,20 +165,20 @@ module _
     worked_is = rw (begun.begun, heard, as_many)
 
     pub worked_none :
-        (r : Replayed)
+        (r : Maybe (ℕ × ℕ))
         → ReplayedTo
         (after_answers count nodes (first_load (asked_before rows first)) (heard_before words places count))
         words rows' places count nodes r
-        → r ≡ Unlawful
+        → r ≡ None
         → NoLoad (worked_by (request_with asked context) nodes (lent_items Answers count words))
     worked_none r h told = rw (worked_is, told) at h
 
     pub worked_come :
-        (end batches sum : ℕ) (r : Replayed)
+        (end batches sum : ℕ) (r : Maybe (ℕ × ℕ))
         → ReplayedTo
         (after_answers count nodes (first_load (asked_before rows first)) (heard_before words places count))
         words rows' places count nodes r
-        → r ≡ Replayed-Come end batches
+        → r ≡ Some (end, batches)
         → summed size_of_answer 0 0 (lent_items Answers count words) ≡ done sum
         → WorkedTo (worked_by (request_with asked context) nodes (lent_items Answers count words)) words rows' places count nodes (Come count end batches sum)
     worked_come end batches sum r h told sums = go (worked_by (request_with asked context) nodes (lent_items Answers count words)) refl (rw (worked_is, told) at h)
@@ -188,7 +186,7 @@ module _
         go :
             (o : LoadAnswer Load)
             → worked_by (request_with asked context) nodes (lent_items Answers count words) ≡ o
-            → ReplayedTo o words rows' places count nodes (Replayed-Come end batches)
+            → ReplayedTo o words rows' places count nodes (Some (end, batches))
             → WorkedTo o words rows' places count nodes (Come count end batches sum)
         go (done load) e h =
             let all : summed size_of_answer 0 0 (lent_items Answers count words) ≡ done load.sum = worked_summed (request_with asked context) nodes (lent_items Answers count words) e in
@@ -238,7 +236,7 @@ entry-nodes (w ∷ words) h =
       omega (arith, rw (eq-eqb (row_in w).depth 0 top) at one),
     )
 
-is_fine_read : {A : Type 0} (answer : Answer (ReadItem (List A))) → is_fine (checked_as answer) ≡ true → AllRead answer
+is_fine_read : {A : Type 0} (answer : Answer (ReadItem (List A))) → is_ok (checked_as answer) ≡ true → AllRead answer
 is_fine_read (accepted all) e = tt
 is_fine_read (refused number place) e = let z : ◌≡◌ {A = ℕ} 0 1 = cc in absurd (omega arith)
 

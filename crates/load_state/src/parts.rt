@@ -3,7 +3,7 @@ ghost use Rattle.std.specs.Prelude.{◌≡◌, ◌≤◌, length};
 ghost use Rattle.load_state.specs.LoadStates.{is_request, good_head, good_entry, good_context, good_lent, good_parts};
 
 use crate::LoadState;
-use answers::{Checked, Lending};
+use answers::Lending;
 use rows::{Kind, Row, is_lawful_entry};
 use values::{ValueRow, is_lawful};
 
@@ -83,10 +83,7 @@ fn has_good_lent(lent: Lending, count: u64, words: &[u64], levels: &mut [u64]) -
     if Kind::NODES < count {
         return false;
     }
-    if let Checked::AllFine(_) = answers::check(lent, words, count, levels) {
-        return true;
-    }
-    false
+    answers::check(lent, words, count, levels).is_ok()
 }
 
 // Whether all parts of a state are of their form.

@@ -10,7 +10,7 @@ ghost use Rattle.load_state.specs.Transcripts.{turn_in, node_words, lent_load, L
 
 use crate::LoadState;
 use crate::working::{Worked, work_out};
-use answers::{Lending, Summed};
+use answers::Lending;
 
 // The turn of a load where so many rows wait: a batch waits where rows do.
 pub fn turn_for(waiting: usize) -> u64
@@ -27,10 +27,7 @@ fn sets_fit(words: &[u64], count: u64, asked: usize, sum: u64) -> bool
     if (asked as u64) < count {
         return false;
     }
-    if let Summed::To(_) = answers::sum(Lending::Sets, words, count, sum) {
-        return true;
-    }
-    false
+    answers::sum(Lending::Sets, words, count, sum).is_ok()
 }
 
 // Whether the turn fits: so many rows wait, so many were asked, and their answers come to a sum.

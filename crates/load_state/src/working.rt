@@ -10,9 +10,9 @@ ghost use Rattle.load_state.specs.Transcripts.{node_words, nodes_from, worked_by
 
 use crate::LoadState;
 use crate::parts::has_good_parts;
-use answers::{Lending, Summed};
-use batches::{Replayed, replay};
-use row_walk::{Batch, Request, initial_entities_to_load};
+use answers::Lending;
+use batches::replay;
+use row_walk::{Request, initial_entities_to_load};
 
 // The load that answers lead to: the places behind the rows answered and behind those that wait, the batches and the sum; or there is none.
 #[derive(Drop)]
@@ -45,16 +45,15 @@ fn work_out_load(
     requires in_bounds { (8192 ≤ length rows.old) × (length words.now + length words.now ≤ length scratch.old) }
     ensures { WorkedTo (worked_by (request_with request context.now) (rows_of nodes.now) (lent_items Answers count words.now)) words.now rows.new places.new count (rows_of nodes.now) result }
 {
-    let Summed::To(sum) = answers::sum(Lending::Answers, words, count, 0) else {
+    let Ok(sum) = answers::sum(Lending::Answers, words, count, 0) else {
         return Worked::Unlawful;
     };
     answers::place(Lending::Answers, words, count, places, 0);
-    let Batch::To(first) = initial_entities_to_load(nodes, 0, 0, request, context, rows, 0) else {
+    let Some(first) = initial_entities_to_load(nodes, 0, 0, request, context, rows, 0) else {
         return Worked::Unlawful;
     };
     let asked = count as usize;
-    let Replayed::Come(end, batches) = replay(nodes, words, rows, places, first, asked, scratch)
-    else {
+    let Some((end, batches)) = replay(nodes, words, rows, places, first, asked, scratch) else {
         return Worked::Unlawful;
     };
     Worked::Come(asked, end, batches, sum)

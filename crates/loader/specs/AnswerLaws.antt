@@ -23,8 +23,7 @@ use Rattle.batches.specs.Hearings.{heard_at, heard_before, heard_in, AllStand}
 use Rattle.batches.specs.Takes.{TakenInto, LoadAt}
 use Rattle.batches.specs.TakingLaws.{front_split, taken_up_to}
 use Rattle.batches.specs.ReplayLaws.{load_after, batch_comes, trips_some}
-use Rattle.batches.specs.declared.taking.Taken.{Taken}
-use Rattle.batches.specs.declared.taking.Taken.TheVariants.{To, Refused as TakenRefused}
+use Rattle.std.specs.Prelude.{Result, Ok, Err}
 use Rattle.load_state.specs.LoadStates.{turn_number, first_turn, answer_words}
 use Rattle.load_state.specs.Transcripts.{node_words, lent_load, CameTo, LentTo}
 use Rattle.load_state.specs.WorkedLaws.{GoodParts, placed_heard, items_counted, sum_few, nodes_few}
@@ -260,25 +259,25 @@ module _ {state rows places fresh : List ℕ} {asked end batches sum : ℕ} (g :
           ∙ batch_comes (rows_of (node_words state)) words rows places' asked end g.came.s g.load given_at given_stand fits g.total heard_sums)
 
       pub given_refused :
-          (rows' : List ℕ) (r : Taken) (number place : ℕ)
+          (rows' : List ℕ) (r : Result ℕ (ℕ × ℕ)) (number place : ℕ)
           → TakenInto taken rows end rows' r
-          → r ≡ TakenRefused number place
+          → r ≡ Err (number, place)
           → AnsweredAs (taken_into state fresh end (asked + sum) answered_load) (Refused number place) state
       given_refused rows' r number place h told = rw leads (go taken (rw told at h))
         where
           go :
               (o : LoadAnswer (List EntityRequest))
-              → TakenInto o rows end rows' (TakenRefused number place)
+              → TakenInto o rows end rows' (Err (number, place))
               → AnsweredAs (taken_into state fresh end (asked + sum) (o then (λ found. done (next found)))) (Refused number place) state
           go (done found) h = absurd h
           go (refused_at n p) h = (rw (h.0, h.1), refl)
           go (counted expected got) h = absurd h
 
-      module _ (rows' : List ℕ) (r : Taken) (to : ℕ) (h : TakenInto taken rows end rows' r) (told : r ≡ To to) where
+      module _ (rows' : List ℕ) (r : Result ℕ (ℕ × ℕ)) (to : ℕ) (h : TakenInto taken rows end rows' r) (told : r ≡ Ok to) where
         pub given_ahead : end ≤ to
         given_ahead = go taken (rw told at h)
           where
-            go : (o : LoadAnswer (List EntityRequest)) → TakenInto o rows end rows' (To to) → end ≤ to
+            go : (o : LoadAnswer (List EntityRequest)) → TakenInto o rows end rows' (Ok to) → end ≤ to
             go (done found) h = omega (arith, h.after)
             go (refused_at n p) h = absurd h
             go (counted expected got) h = absurd h
@@ -297,7 +296,7 @@ module _ {state rows places fresh : List ℕ} {asked end batches sum : ℕ} (g :
 
             go :
                 (o : LoadAnswer (List EntityRequest))
-                → TakenInto o rows end rows' (To to)
+                → TakenInto o rows end rows' (Ok to)
                 → AnsweredAs (taken_into state fresh end (asked + sum) (o then (λ found. done (next found)))) (Done (to - end) (batches + 1) end) state'
             go (done found) h =
                 let few : length found ≡ to - end = omega (arith, h.after, length-map found request_word) in

@@ -1,5 +1,5 @@
 -- Laws of answers that are lent, by the tests that they are put to. No contract cites this file.
-use Rattle.std.specs.Prelude.{ℕ, zero, suc, ◌+◌, ◌-◌, ◌≤◌, ◌≡◌, true, false, ◌&&◌, leb, length, drop, get_or}
+use Rattle.std.specs.Prelude.{Ok, Err, ℕ, zero, suc, ◌+◌, ◌-◌, ◌≤◌, ◌≡◌, true, false, ◌&&◌, leb, length, drop, get_or}
 use Rattle.std.proofs.Common.{add-zero, arith, ◌∙◌, length-append, length-drop, length-take-le}
 use Rattle.std.proofs.Math.Path.{refl, sym, ap}
 use mathlib.Core.List.{List, [], ◌∷◌, ◌++◌, append-nil}
@@ -14,7 +14,6 @@ use Rattle.rows.specs.States.{rows_of}
 use Rattle.answers.specs.Answers.{ReadItem, read_item, item_at, read_from, AllRead, lent_from, lent_items, checked_as}
 use Rattle.answers.specs.LentLaws.{joined, all_joined, all_counted, all_summed, all_within, wrong_read, fine_all}
 use Rattle.answers.specs.declared.Lending.TheVariants.{Answers}
-use Rattle.answers.specs.declared.Checked.TheVariants.{AllFine, WrongAt}
 use Rattle.load_state.specs.LoadStates.{load_words, answer_words}
 use Rattle.load_state.specs.Transcripts.{transcript_in, node_words, lent_load, CameTo, LentTo}
 use Rattle.load_state.specs.WorkedLaws.{items_counted}
@@ -48,18 +47,18 @@ module _ (state lent rows places : List ℕ) (asked end batches sum : ℕ)
 
     pub batch_wrong :
         (place : ℕ)
-        → checked_as (lent_from Answers 0 (get_or lent 0 0) (behind_count lent)) ≡ WrongAt place
+        → checked_as (lent_from Answers 0 (get_or lent 0 0) (behind_count lent)) ≡ Err place
         → AnsweredAs (taken_from state lent (answered_by state lent)) (Refused 1 place) state
     batch_wrong place wrong =
         let (load, e, at) = came in
         rw (e, wrong_read (item_at Answers) 0 (get_or lent 0 0) (behind_count lent) wrong) (refl, refl)
 
-    module _ (size : ℕ) (fine : checked_as (lent_from Answers 0 (get_or lent 0 0) (behind_count lent)) ≡ AllFine size) where
+    module _ (size : ℕ) (fine : checked_as (lent_from Answers 0 (get_or lent 0 0) (behind_count lent)) ≡ Ok size) where
       whole : Whole (get_or lent 0 0) (behind_count lent)
       whole = all_whole (get_or lent 0 0) (behind_count lent) (fine_all (lent_from Answers 0 (get_or lent 0 0) (behind_count lent)) fine)
 
       size_is : whole.all.size ≡ size
-      size_is = let same : checked_as (accepted whole.all) ≡ AllFine size = rw whole.fine at fine in cc
+      size_is = let same : checked_as (accepted whole.all) ≡ Ok size = rw whole.fine at fine in cc
 
       pub lent_read : AllRead (lent_from Answers 0 (get_or lent 0 0) (behind_count lent))
       lent_read = fine_all (lent_from Answers 0 (get_or lent 0 0) (behind_count lent)) fine

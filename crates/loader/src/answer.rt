@@ -12,8 +12,8 @@ ghost use Rattle.load_state.specs.Outcomes.{AnsweredAs, given_in, words_of};
 ghost use Rattle.load_state.specs.declared.working.Worked.TheVariants.{Come};
 ghost use Rattle.loader.specs.Calls.{taken_into, taken_from, answer_in};
 
-use answers::{Checked, Lending, Summed};
-use batches::{Taken, take_answers};
+use answers::Lending;
+use batches::take_answers;
 use load_state::{LoadReply, LoadState, Worked, nodes_from, read_load, turn_for};
 
 // The one length of answers: a count, and words behind it.
@@ -66,8 +66,8 @@ fn take_given(
         end,
         scratch,
     ) {
-        Taken::Refused(number, place) => LoadReply::Refused(number, place),
-        Taken::To(next) => {
+        Err((number, place)) => LoadReply::Refused(number, place),
+        Ok(next) => {
             let waiting = next - end;
             let turn = turn_for(waiting);
             store_answers(state, turn, end as u64, fresh, LoadState::ANSWERS + used);
@@ -97,20 +97,17 @@ fn take_batch(
         result state.new }
 {
     let count = lent[0];
-    let size;
-    match answers::check(Lending::Answers, &lent[1..LENT_WORDS], count, scratch) {
-        Checked::WrongAt(row) => {
+    let size = match answers::check(Lending::Answers, &lent[1..LENT_WORDS], count, scratch) {
+        Ok(size) => size,
+        Err(row) => {
             return LoadReply::Refused(1, row);
         }
-        Checked::AllFine(words) => {
-            size = words;
-        }
-    }
+    };
     let waiting = (end - asked) as u64;
     if count != waiting {
         return LoadReply::Counted(waiting, count);
     }
-    if let Summed::Over(row) = answers::sum(Lending::Answers, &lent[1..LENT_WORDS], count, sum) {
+    if let Err(row) = answers::sum(Lending::Answers, &lent[1..LENT_WORDS], count, sum) {
         return LoadReply::Refused(15, row);
     }
     let behind = 1 + size;

@@ -13,7 +13,7 @@ use Rattle.rules.proofs.ValueRowTestLaws.{lawful_merge, lawful_merged}
 use Rattle.words.specs.Runs.{Wrote}
 use Rattle.values.specs.ValueWords.{depth_from, key_from, kind_from, number_from, value_row_in, value_rows_of, value_word}
 use Rattle.merging.specs.Merges.{WroteRows, MergedInto, merged_entity_rows}
-use Rattle.merging.specs.declared.Merged.TheVariants.{To, Different}
+use Rattle.std.specs.Prelude.{Some, None}
 
 -- ---- rows and their words
 
@@ -53,12 +53,12 @@ lawful_words rows h = rows_again 1 (level false 0 ∷ []) rows h
 
 pub merged_to :
     (o : Option (List ValueRow)) (out out' : List ℕ) (to end : ℕ)
-    → MergedInto o out to out' (To end)
-    → (rows : List ValueRow) × (o ≡ some rows) × WroteRows rows out to out' (To end)
+    → MergedInto o out to out' (Some end)
+    → (rows : List ValueRow) × (o ≡ some rows) × WroteRows rows out to out' (Some end)
 merged_to none out out' to end h = let z : ◌≡◌ {A = ℕ} 0 1 = cc h.answer in absurd (omega arith)
 merged_to (some rows) out out' to end h = (rows, refl, h)
 
-pub merged_different : (o : Option (List ValueRow)) (out out' : List ℕ) (to : ℕ) → MergedInto o out to out' Different → o ≡ none
+pub merged_different : (o : Option (List ValueRow)) (out out' : List ℕ) (to : ℕ) → MergedInto o out to out' None → o ≡ none
 merged_different none out out' to h = refl
 merged_different (some rows) out out' to h = let z : ◌≡◌ {A = ℕ} 0 1 = cc h.answer in absurd (omega arith)
 
@@ -112,7 +112,7 @@ module _
   -- where the answer is a place, the merged entity's words stand before it
   pub merged_written :
       (out out' : List ℕ) (to end : ℕ)
-      → MergedInto (merged_entity_rows left_parents left right_parents right) out to out' (To end)
+      → MergedInto (merged_entity_rows left_parents left right_parents right) out to out' (Some end)
       → WroteEntity left_parents left right_parents right out to out' end
   merged_written out out' to end h =
       let (rows, is, wrote) = merged_to (merged_entity_rows left_parents left right_parents right) out out' to end h in
@@ -129,7 +129,7 @@ module _
   -- where it is that they differ, the entities do not merge
   pub merged_apart :
       (out out' : List ℕ) (to : ℕ)
-      → MergedInto (merged_entity_rows left_parents left right_parents right) out to out' Different
+      → MergedInto (merged_entity_rows left_parents left right_parents right) out to out' None
       → merged_entities (entity_of left_parents left) (entity_of right_parents right) ≡ none
   merged_apart out out' to h =
       go (merged_entities (entity_of left_parents left) (entity_of right_parents right))

@@ -2,6 +2,7 @@
 use Rattle.std.specs.Prelude.{ℕ, zero, suc, ◌+◌, ◌≤◌, ◌<◌, ◌≡◌, refl, true, false, List, [], ◌∷◌, ◌++◌, map, eqb, length, drop, get_or, set}
 use Rattle.std.proofs.Common.{le_refl, add-one, arith, sym, ap, ◌∙◌, lt-ltb, le-ltb, eq-eqb, ne_eqb, eqb-true, length-append, drop_of_length-le, drop-cons}
 use Rattle.std.proofs.lemmas.List.{map-append, length-map}
+use Rattle.std.specs.Prelude.{Option as Maybe, Some, None}
 use Rattle.std.proofs.Math.Option.{Option, none, some}
 use Rattle.rules.specs.Facts.{by_test, by_option, both_true}
 use Rattle.rules.specs.Tries.{Next, first, second, same, next, same_list}
@@ -15,9 +16,8 @@ use Rattle.words.specs.RunLaws.{wrote_ended, wrote_length}
 use Rattle.values.specs.ValueWords.{depth_from, key_from, kind_from, number_from, value_row_in, value_rows_of, value_word}
 use Rattle.values.specs.ValueWordLaws.{word_again}
 use Rattle.merging.specs.Merges.{inside_in, side_for, Chosen, alone_turn, rest_of, RowsTaken, MergeTurned, MergedInto, merged_entity_rows}
-use Rattle.merging.specs.declared.Turn.TheVariants.{Taken, Apart}
+use Rattle.merging.specs.declared.Turn.{Turn}
 use Rattle.merging.specs.declared.Side.TheVariants.{Left, Right, Both}
-use Rattle.merging.specs.declared.Merged.TheVariants.{To, Different}
 
 -- lists that differ are not the same
 pub not_same : (xs ys : List ℕ) → (xs ≡ ys → ⊥) → same_list xs ys ≡ false
@@ -99,11 +99,11 @@ module _ (left right : List ℕ) (i j : ℕ) where
       go same says = (h, k, says.depths, says.steps)
 
 -- a row alone: by the set that the pass is inside, as a number
-pub alone_outside : (here word i j : ℕ) {now : Option ℕ} → inside_in here ≡ now → here ≡ 0 → Taken word i j 0 ≡ alone_turn word i j now
+pub alone_outside : (here word i j : ℕ) {now : Option ℕ} → inside_in here ≡ now → here ≡ 0 → ◌≡◌ {A = Maybe Turn} (Some (record { word = word; left = i; right = j; inside = 0 })) (alone_turn word i j now)
 alone_outside zero word i j e h = rw (← e)
 alone_outside (suc here) word i j e h = absurd (omega arith)
 
-pub alone_inside : (here word i j : ℕ) {now : Option ℕ} → inside_in here ≡ now → (here ≡ 0 → ⊥) → Apart ≡ alone_turn word i j now
+pub alone_inside : (here word i j : ℕ) {now : Option ℕ} → inside_in here ≡ now → (here ≡ 0 → ⊥) → None ≡ alone_turn word i j now
 alone_inside zero word i j e h = absurd (h refl)
 alone_inside (suc here) word i j e h = rw (← e)
 
@@ -218,7 +218,7 @@ module _ {left right out out' : List ℕ} {to i j inside at : ℕ} (passing : Me
   passing_room more room = omega (arith, passing.few, passing.wrote.after, wrote_length passing.wrote)
 
   -- the two differ
-  pub passing_apart : rest_of left right i j inside ≡ none → MergedInto (merge_rows none (value_rows_of left) (value_rows_of right)) out to out' Different
+  pub passing_apart : rest_of left right i j inside ≡ none → MergedInto (merge_rows none (value_rows_of left) (value_rows_of right)) out to out' None
   passing_apart e =
       let nothing : merge_rows none (value_rows_of left) (value_rows_of right) ≡ none = passing.under ∙ rw e in
       rw nothing
@@ -229,7 +229,7 @@ module _ {left right out out' : List ℕ} {to i j inside at : ℕ} (passing : Me
       })
 
   -- all rows are passed
-  pub passing_ended : length left + length right ≤ i + j → MergedInto (merge_rows none (value_rows_of left) (value_rows_of right)) out to out' (To at)
+  pub passing_ended : length left + length right ≤ i + j → MergedInto (merge_rows none (value_rows_of left) (value_rows_of right)) out to out' (Some at)
   passing_ended past =
       let past_left : length left ≤ i = omega (arith, passing.in_left, passing.in_right) in
       let past_right : length right ≤ j = omega (arith, passing.in_left, passing.in_right) in
@@ -237,7 +237,7 @@ module _ {left right out out' : List ℕ} {to i j inside at : ℕ} (passing : Me
       under_end _ _ _ (rw (drop_of_length-le left past_left, drop_of_length-le right past_right) at passing.under) in
       rw all
       (record {
-        answer = ap To (passing.wrote.after ∙ rw (length-map passing.words value_row_in));
+        answer = ap Some (passing.wrote.after ∙ rw (length-map passing.words value_row_in));
         text = passing.wrote.text ∙ rw (words_again passing.words);
       })
 
@@ -246,7 +246,7 @@ module _ {left right out out' : List ℕ} {to i j inside at : ℕ} (passing : Me
 module _ (left_parents left right_parents right : List ℕ) where
   -- parents that differ
   pub entities_apart :
-      (out : List ℕ) (to : ℕ) → same_list left_parents right_parents ≡ false → MergedInto (merged_entity_rows left_parents left right_parents right) out to out Different
+      (out : List ℕ) (to : ℕ) → same_list left_parents right_parents ≡ false → MergedInto (merged_entity_rows left_parents left right_parents right) out to out None
   entities_apart out to e = rw e (record { answer = refl; front = refl; size = refl })
 
   -- parents that are equal: the merge of the rows is all

@@ -1,31 +1,29 @@
 -- What a merge over words answers and writes (`merge_values`, `merge_entities`), and what each turn of its pass does.
 use Rattle.std.specs.Prelude.{ℕ, zero, suc, ◌+◌, ◌≤◌, ◌<◌, ◌≡◌, cond, List, map, length, take, drop, get_or}
+use Rattle.std.specs.Prelude.{Option as Maybe, Some, None}
 use Rattle.std.proofs.Math.Option.{Option, none, some}
 use Rattle.std.proofs.lemmas.List.Edits.{sets}
 use Rattle.rules.specs.Tries.{Next, first, second, same, same_list}
 use Rattle.rules.specs.ValueRows.{ValueRow, onto_rows, merge_rows}
 use Rattle.rules.proofs.ValueRowLaws.{Comes}
 use Rattle.values.specs.ValueWords.{depth_from, key_from, value_row_in, value_rows_of, value_word}
-use Rattle.merging.specs.declared.Merged.{Merged}
-use Rattle.merging.specs.declared.Merged.TheVariants.{To, Different}
 use Rattle.merging.specs.declared.Side.{Side}
 use Rattle.merging.specs.declared.Side.TheVariants.{Left, Right, Both}
 use Rattle.merging.specs.declared.Turn.{Turn}
-use Rattle.merging.specs.declared.Turn.TheVariants.{Taken, Apart}
 
 -- The two differ: nothing before the place `to` is changed.
-pub record WroteDifferent (out : List ℕ) (to : ℕ) (out' : List ℕ) (r : Merged) : Type 0 where
-  pub answer : r ≡ Different
+pub record WroteDifferent (out : List ℕ) (to : ℕ) (out' : List ℕ) (r : Maybe ℕ) : Type 0 where
+  pub answer : r ≡ None
   pub front : take to out' ≡ take to out
   pub size : length out' ≡ length out
 
 -- The merged rows' words are written from the place `to` on, and the answer is the place after them.
-pub record WroteRows (rows : List ValueRow) (out : List ℕ) (to : ℕ) (out' : List ℕ) (r : Merged) : Type 0 where
-  pub answer : r ≡ To (to + length rows)
+pub record WroteRows (rows : List ValueRow) (out : List ℕ) (to : ℕ) (out' : List ℕ) (r : Maybe ℕ) : Type 0 where
+  pub answer : r ≡ Some (to + length rows)
   pub text : out' ≡ sets out to (map value_word rows)
 
 -- What a merge comes to, if anything, is written.
-abbrev pub MergedInto : Option (List ValueRow) → List ℕ → ℕ → List ℕ → Merged → Type 0
+abbrev pub MergedInto : Option (List ValueRow) → List ℕ → ℕ → List ℕ → Maybe ℕ → Type 0
 MergedInto none out to out' r = WroteDifferent out to out' r
 MergedInto (some rows) out to out' r = WroteRows rows out to out' r
 
@@ -55,9 +53,9 @@ Chosen left right i j Both =
     × (key_from (get_or left i 0) ≡ key_from (get_or right j 0))
 
 -- A row that one side alone has is taken outside a set, and so many rows are passed then; inside one the two differ.
-abbrev pub alone_turn : ℕ → ℕ → ℕ → Option ℕ → Turn
-alone_turn word left right none = Taken word left right 0
-alone_turn word left right (some depth) = Apart
+abbrev pub alone_turn : ℕ → ℕ → ℕ → Option ℕ → Maybe Turn
+alone_turn word left right none = Some (record { word = word; left = left; right = right; inside = 0 })
+alone_turn word left right (some depth) = None
 
 -- what the pass gives for the rows that are left
 abbrev pub rest_of : List ℕ → List ℕ → ℕ → ℕ → ℕ → Option (List ValueRow)
@@ -70,6 +68,6 @@ pub record RowsTaken (left right : List ℕ) (i j inside word i' j' inside' : �
   pub in_right : j' ≤ length right
   pub more : i + j < i' + j'
 
-abbrev pub MergeTurned : List ℕ → List ℕ → ℕ → ℕ → ℕ → Turn → Type 0
-MergeTurned left right i j inside (Taken word i' j' inside') = RowsTaken left right i j inside word i' j' inside'
-MergeTurned left right i j inside Apart = rest_of left right i j inside ≡ none
+abbrev pub MergeTurned : List ℕ → List ℕ → ℕ → ℕ → ℕ → Maybe Turn → Type 0
+MergeTurned left right i j inside (Some turn) = RowsTaken left right i j inside turn.word turn.left turn.right turn.inside
+MergeTurned left right i j inside None = rest_of left right i j inside ≡ none

@@ -10,31 +10,21 @@ ghost use Rattle.merging.specs.Merges.{inside_in, side_for, Chosen, alone_turn, 
 
 use values::ValueRow;
 
-// What a merge comes to: the place after the merged rows, or that the two differ (13).
-#[derive(Drop)]
-pub enum Merged {
-    To(usize),
-    Different,
-}
-
 // Which run has the next row, or that both have it.
-#[derive(Drop)]
+#[derive(Clone, Copy, PartialEq, Eq, Debug)]
 enum Side {
     Left,
     Right,
     Both,
 }
 
-// A turn of the pass: a row is taken, so many rows of each run are passed then, and the pass is inside that set; or the two differ.
-#[derive(Drop)]
-enum Turn {
-    Taken {
-        word: u64,
-        left: usize,
-        right: usize,
-        inside: u64,
-    },
-    Apart,
+// A turn of the pass: the row that it takes, how many rows of each run are passed then, and the set that the pass is inside then.
+#[derive(Clone, Copy, PartialEq, Eq, Debug)]
+struct Turn {
+    word: u64,
+    left: usize,
+    right: usize,
+    inside: u64,
 }
 
 // Whether two runs of words are equal.
@@ -116,22 +106,22 @@ fn next_side(left: &[u64], right: &[u64], i: usize, j: usize) -> Side
 }
 
 // A row that one side alone has is taken outside a set; inside one the two differ.
-fn take_alone(word: u64, left: usize, right: usize, inside: u64) -> Turn
+fn take_alone(word: u64, left: usize, right: usize, inside: u64) -> Option<Turn>
     ensures { result ≡ alone_turn word left right (inside_at (inside_in inside) (value_row_in word)) }
 {
     if inside_at(inside, ValueRow { word }) == 0 {
-        return Turn::Taken {
+        return Some(Turn {
             word,
             left,
             right,
             inside: 0,
-        };
+        });
     }
-    Turn::Apart
+    None
 }
 
-// A turn: the next row of either run, or of both where they have the same.
-fn next_turn(left: &[u64], right: &[u64], i: usize, j: usize, inside: u64) -> Turn
+// A turn: the next row of either run, or of both where they have the same; none where the two differ.
+fn next_turn(left: &[u64], right: &[u64], i: usize, j: usize, inside: u64) -> Option<Turn>
     requires { (i ≤ length left.now) × (j ≤ length right.now) × (i + j < length left.now + length right.now) }
     ensures { MergeTurned left.now right.now i j inside result }
 {
@@ -141,20 +131,21 @@ fn next_turn(left: &[u64], right: &[u64], i: usize, j: usize, inside: u64) -> Tu
         Side::Both => {
             let word = left[i];
             if word != right[j] {
-                return Turn::Apart;
+                return None;
             }
-            Turn::Taken {
+            Some(Turn {
                 word,
                 left: i + 1,
                 right: j + 1,
                 inside: inside_after(inside, ValueRow { word }),
-            }
+            })
         }
     }
 }
 
-// Two records' rows merged in one pass: the next row of either, again and again (`merge_values`).
-pub fn merge_values(left: &[u64], right: &[u64], out: &mut [u64], to: usize) -> Merged
+// Two records' rows merged in one pass: the next row of either, again and again (`merge_values`). Answers the place after the merged rows,
+// or none where the two differ (13).
+pub fn merge_values(left: &[u64], right: &[u64], out: &mut [u64], to: usize) -> Option<usize>
     requires { to + (length left.now + length right.now) ≤ length out.old }
     ensures { MergedInto (merge_rows none (value_rows_of left.now) (value_rows_of right.now)) out.old to out.new result }
 {
@@ -163,22 +154,14 @@ pub fn merge_values(left: &[u64], right: &[u64], out: &mut [u64], to: usize) -> 
     let mut inside: u64 = 0;
     let mut at = to;
     while i + j < left.len() + right.len() {
-        let Turn::Taken {
-            word,
-            left: past_left,
-            right: past_right,
-            inside: now_inside,
-        } = next_turn(left, right, i, j, inside)
-        else {
-            return Merged::Different;
-        };
-        out[at] = word;
+        let turn = next_turn(left, right, i, j, inside)?;
+        out[at] = turn.word;
         at += 1;
-        i = past_left;
-        j = past_right;
-        inside = now_inside;
+        i = turn.left;
+        j = turn.right;
+        inside = turn.inside;
     }
-    Merged::To(at)
+    Some(at)
 }
 
 // Two answers for one entity merged: the parents must be equal, and the attributes are merged (`merge_entities`).
@@ -189,12 +172,12 @@ pub fn merge_entities(
     right: &[u64],
     out: &mut [u64],
     to: usize,
-) -> Merged
+) -> Option<usize>
     requires { to + (length left.now + length right.now) ≤ length out.old }
     ensures { MergedInto (merged_entity_rows left_parents.now left.now right_parents.now right.now) out.old to out.new result }
 {
     if same_words(left_parents, right_parents) {
         return merge_values(left, right, out, to);
     }
-    Merged::Different
+    None
 }

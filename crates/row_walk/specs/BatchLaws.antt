@@ -21,10 +21,10 @@ use Rattle.row_walk.specs.RowWalks.{ancestors_at}
 use Rattle.row_walk.specs.ScanLaws.{rows_left}
 use Rattle.row_walk.specs.Meetings.{going, met_then, Meets}
 use Rattle.row_walk.specs.Batches.{met_below, yields, BatchWritten}
-use Rattle.row_walk.specs.declared.batch.Batch.TheVariants.{To, Bad}
+use Rattle.std.specs.Prelude.{Some, None}
 use Rattle.row_walk.specs.declared.walk.Meeting.{Meeting}
 use Rattle.row_walk.specs.declared.walk.Met.{Met}
-use Rattle.row_walk.specs.declared.walk.Met.TheVariants.{Row as RowMet, Ids, Bad as BadMet, End}
+use Rattle.row_walk.specs.declared.walk.Met.TheVariants.{Row as RowMet, Ids, Bad, End}
 
 -- a batch drops ancestor ids
 batch_ids : (depth : ℕ) (rows : List ValueRow) (rest : List Event) → batch_of (ancestors_at depth rows ++ rest) ≡ batch_of rest
@@ -86,14 +86,14 @@ module _ {events : List Event} {out : List ℕ} {to : ℕ} {out' : List ℕ} {at
       record { rows = sofar.rows; wrote = sofar.wrote; whole = sofar.whole ∙ rw (batch_ids depth rows rest) }
 
   -- 14 is met
-  gathered_bad : (rest : List Event) → Gathered events out to (bad ∷ rest) out' at → BatchWritten out to out' (batch_of events) Bad
+  gathered_bad : (rest : List Event) → Gathered events out to (bad ∷ rest) out' at → BatchWritten out to out' (batch_of events) None
   unfolding batch_of
   gathered_bad rest sofar =
       let same : take to out' ≡ take to out = rw sofar.wrote.text (take-sets to out to (map request_word sofar.rows) (le_refl to)) in
       rw sofar.whole (same, wrote_length sofar.wrote)
 
   -- nothing more is met
-  pub gathered_all : Gathered events out to [] out' at → BatchWritten out to out' (batch_of events) (To at)
+  pub gathered_all : Gathered events out to [] out' at → BatchWritten out to out' (batch_of events) (Some at)
   unfolding batch_of
   gathered_all sofar = rw (sofar.whole, append-nil sofar.rows) sofar.wrote
 
@@ -118,7 +118,7 @@ module _ {nodes values : List ℕ} {depth from : ℕ} {out : List ℕ} {to : ℕ
   -- no node is left
   pub gathering_last :
       length nodes ≤ i
-      → BatchWritten out to out' (batch_of (met_below nodes depth from values)) (To at)
+      → BatchWritten out to out' (batch_of (met_below nodes depth from values)) (Some at)
   unfolding walk_rows
   gathering_last h = gathered_all (rw (drop_of_length-le nodes h) at sofar.gathered)
 
@@ -134,13 +134,13 @@ module _ {nodes values : List ℕ} {depth from : ℕ} {out : List ℕ} {to : ℕ
     next_room is = rw is at (rw meets.meets at sofar.room)
 
     pub gathering_bad :
-        r.met ≡ BadMet
-        → BatchWritten out to out' (batch_of (met_below nodes depth from values)) Bad
+        r.met ≡ Bad
+        → BatchWritten out to out' (batch_of (met_below nodes depth from values)) None
     gathering_bad is = gathered_bad _ (next is)
 
     pub gathering_end :
         r.met ≡ End
-        → BatchWritten out to out' (batch_of (met_below nodes depth from values)) (To at)
+        → BatchWritten out to out' (batch_of (met_below nodes depth from values)) (Some at)
     gathering_end is = gathered_all (next is)
 
     -- a row is met at a node, its id is small, and there is room for it
@@ -202,6 +202,6 @@ remaining_past nodes node run h = ap (behind node run) (drop-map row_in node nod
 pub remaining_none :
     (nodes : List ℕ) (node : ℕ) (run : List ValueRow) (out : List ℕ) (to : ℕ)
     → length nodes ≤ node
-    → BatchWritten out to out (batch_of (remaining_rows (rows_of nodes) node run)) (To to)
+    → BatchWritten out to out (batch_of (remaining_rows (rows_of nodes) node run)) (Some to)
 unfolding batch_of
 remaining_none nodes node run out to h = rw (remaining_past nodes node run h) (record { after = omega arith; text = refl })

@@ -26,7 +26,7 @@ use Rattle.words.specs.RunLaws.{wrote_length, wrote_more}
 use Rattle.row_walk.specs.ScanLaws.{rows_left}
 use Rattle.row_walk.specs.Batches.{yields, BatchWritten}
 use Rattle.row_walk.specs.BatchLaws.{in_front, Gathered, gathered_row, gathered_all, remaining_below, remaining_past}
-use Rattle.row_walk.specs.declared.batch.Batch.TheVariants.{To, Bad}
+use Rattle.std.specs.Prelude.{Some, None}
 use Rattle.row_walk.specs.Initial.{request_with, asks_at, ContextAt}
 use Rattle.row_walk.specs.YieldLaws.{yields_append, batch_length, rows_below, one_node}
 use Rattle.row_walk.specs.declared.initial.Request.{Request as Asked}
@@ -128,7 +128,7 @@ asking_length sofar = wrote_length sofar.gathered.wrote
 module _ {nodes : List ℕ} {request : Request} {depth from : ℕ} {out : List ℕ} {to : ℕ} {out' : List ℕ} {i at : ℕ}
     (sofar : Asking nodes request depth from out to out' i at) where
   -- no row is left
-  pub asking_last : length nodes ≤ i → BatchWritten out to out' (batch_of (asked request depth nodes from)) (To at)
+  pub asking_last : length nodes ≤ i → BatchWritten out to out' (batch_of (asked request depth nodes from)) (Some at)
   unfolding at_roots
   asking_last h = gathered_all (rw (drop_of_length-le nodes h) at sofar.gathered)
 
@@ -137,7 +137,7 @@ module _ {nodes : List ℕ} {request : Request} {depth from : ℕ} {out : List �
     left = ap (at_roots request depth i) (rows_left row_in nodes i inside)
 
     -- the next row is not below the depth
-    pub asking_above : depth_in (get_or nodes i 0) ≤ depth → BatchWritten out to out' (batch_of (asked request depth nodes from)) (To at)
+    pub asking_above : depth_in (get_or nodes i 0) ≤ depth → BatchWritten out to out' (batch_of (asked request depth nodes from)) (Some at)
     unfolding at_roots
     asking_above h =
         let none_left : asked request depth nodes i ≡ [] = left ∙ rw (le-leb (depth_in (get_or nodes i 0)) depth h) in
@@ -191,15 +191,15 @@ batch_append (bad ∷ a) b = refl
 
 module _ (a b : List Event) (out : List ℕ) (to : ℕ) (out₁ : List ℕ) where
   -- 14 in the first is 14
-  pub written_bad : BatchWritten out to out₁ (batch_of a) Bad → BatchWritten out to out₁ (batch_of (a ++ b)) Bad
+  pub written_bad : BatchWritten out to out₁ (batch_of a) None → BatchWritten out to out₁ (batch_of (a ++ b)) None
   written_bad h = rw (batch_append a b) (go (batch_of a) h)
     where
-      go : (o : Option (List EntityRequest)) → BatchWritten out to out₁ o Bad → BatchWritten out to out₁ (o >>= (λ rows. in_front rows (batch_of b))) Bad
+      go : (o : Option (List EntityRequest)) → BatchWritten out to out₁ o None → BatchWritten out to out₁ (o >>= (λ rows. in_front rows (batch_of b))) None
       go none h = h
       go (some rows) h = absurd h
 
   -- the first is written, with as many rows as it meets
-  pub written_end : (end : ℕ) → BatchWritten out to out₁ (batch_of a) (To end) → (end ≡ to + yields a) × (length out₁ ≡ length out)
+  pub written_end : (end : ℕ) → BatchWritten out to out₁ (batch_of a) (Some end) → (end ≡ to + yields a) × (length out₁ ≡ length out)
   written_end end h =
       by_option (batch_of a)
       (λ e. absurd (rw e at h))
@@ -209,12 +209,12 @@ module _ (a b : List Event) (out : List ℕ) (to : ℕ) (out₁ : List ℕ) wher
 
   -- both are written
   pub written_both : (end : ℕ) (out₂ : List ℕ) (end₂ : ℕ) →
-      BatchWritten out to out₁ (batch_of a) (To end) → BatchWritten out₁ end out₂ (batch_of b) (To end₂) →
-      BatchWritten out to out₂ (batch_of (a ++ b)) (To end₂)
+      BatchWritten out to out₁ (batch_of a) (Some end) → BatchWritten out₁ end out₂ (batch_of b) (Some end₂) →
+      BatchWritten out to out₂ (batch_of (a ++ b)) (Some end₂)
   written_both end out₂ end₂ h k = rw (batch_append a b) (go (batch_of a) (batch_of b) h k)
     where
-      go : (o p : Option (List EntityRequest)) → BatchWritten out to out₁ o (To end) → BatchWritten out₁ end out₂ p (To end₂) →
-          BatchWritten out to out₂ (o >>= (λ rows. in_front rows p)) (To end₂)
+      go : (o p : Option (List EntityRequest)) → BatchWritten out to out₁ o (Some end) → BatchWritten out₁ end out₂ p (Some end₂) →
+          BatchWritten out to out₂ (o >>= (λ rows. in_front rows p)) (Some end₂)
       go none p h k = absurd h
       go (some rows) none h k = absurd k
       go (some rows) (some more) h k = rw (map-append request_word rows more) (wrote_more h k)

@@ -10,14 +10,7 @@ use crate::walk::{Met, next_event};
 use rows::Row;
 use values::EntityRequest;
 
-// A batch: the place after its rows, or 14.
-#[derive(Drop)]
-pub enum Batch {
-    To(usize),
-    Bad,
-}
-
-// The rows below a depth, from a row on, looked up among values. A row that is found is one word.
+// Writes the rows below a depth, from a row on, that are found among values, each as one word. Answers the place after them, or none (14).
 fn batch_below(
     nodes: &[u64],
     depth: u64,
@@ -25,7 +18,7 @@ fn batch_below(
     values: &[u64],
     out: &mut [u64],
     to: usize,
-) -> Batch
+) -> Option<usize>
     requires from_in_bounds { (from ≤ length nodes.now) × (length nodes.now ≤ 65536) }
     requires values_in_bounds { to + yields (met_below nodes.now depth from values.now) ≤ length out.old }
     ensures { BatchWritten out.old to out.new
@@ -51,33 +44,33 @@ fn batch_below(
             }
             Met::Ids(_, _) => {}
             Met::Bad => {
-                return Batch::Bad;
+                return None;
             }
             Met::End => {
-                return Batch::To(at);
+                return Some(at);
             }
         }
         len = meeting.len;
         i = node + 1;
     }
-    Batch::To(at)
+    Some(at)
 }
 
-// The rows that a node's children find among attributes.
+// Writes the rows that a node's children find among attributes. Answers the place after them, or none (14).
 pub fn find_remaining_entities(
     nodes: &[u64],
     node: usize,
     values: &[u64],
     out: &mut [u64],
     to: usize,
-) -> Batch
+) -> Option<usize>
     requires nodes_len_bound { length nodes.now ≤ 65536 }
     requires values_in_bounds { to + yields (remaining_rows (rows_of nodes.now) node (value_rows_of values.now)) ≤ length out.old }
     ensures { BatchWritten out.old to out.new
         (batch_of (remaining_rows (rows_of nodes.now) node (value_rows_of values.now))) result }
 {
     if nodes.len() <= node {
-        return Batch::To(to);
+        return Some(to);
     }
     let row = Row { word: nodes[node] };
     batch_below(nodes, row.depth(), node + 1, values, out, to)

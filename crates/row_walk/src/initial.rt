@@ -7,9 +7,8 @@ ghost use Rattle.rows.specs.States.{rows_of};
 ghost use Rattle.values.specs.ValueWords.{value_rows_of};
 ghost use Rattle.row_walk.specs.Batches.{yields, BatchWritten};
 ghost use Rattle.row_walk.specs.Initial.{request_with, asks_at, ContextAt};
-ghost use Rattle.row_walk.specs.declared.batch.Batch.TheVariants.{To};
 
-use crate::batch::{Batch, find_remaining_entities};
+use crate::batch::find_remaining_entities;
 use rows::{RequestType, Row, StepParts};
 use values::EntityRequest;
 
@@ -77,7 +76,7 @@ pub fn context_root(nodes: &[u64], from: usize, depth: u64) -> usize
     nodes.len()
 }
 
-// The rows that are found in the context, below its root.
+// Writes the rows that are found in the context, below its root. Answers the place after them, or none (14).
 fn find_remaining_entities_context(
     nodes: &[u64],
     depth: u64,
@@ -85,7 +84,7 @@ fn find_remaining_entities_context(
     context: &[u64],
     out: &mut [u64],
     to: usize,
-) -> Batch
+) -> Option<usize>
     requires nodes_len_bound { length nodes.now ≤ 65536 }
     requires nodes_in_bounds { to + yields (in_context_rows (value_rows_of context.now) depth from (rows_of (drop from nodes.now))) ≤ length out.old }
     ensures { BatchWritten out.old to out.new
@@ -95,7 +94,7 @@ fn find_remaining_entities_context(
     find_remaining_entities(nodes, root, context, out, to)
 }
 
-// The rows of the other roots.
+// Writes the rows of the other roots. Answers the place after them.
 pub fn ask_roots(
     nodes: &[u64],
     depth: u64,
@@ -107,7 +106,7 @@ pub fn ask_roots(
     requires nodes_len_bound { (length nodes.now ≤ 65536) × (request.principal < 65536) × (request.resource < 65536) }
     requires nodes_in_bounds { to + yields (at_roots (request_with request []) depth from (rows_of (drop from nodes.now))) ≤ length out.old }
     ensures { BatchWritten out.old to out.new
-        (batch_of (at_roots (request_with request []) depth from (rows_of (drop from nodes.now)))) (To result) }
+        (batch_of (at_roots (request_with request []) depth from (rows_of (drop from nodes.now)))) (Some result) }
 {
     let mut i = from;
     let mut at = to;
@@ -127,7 +126,8 @@ pub fn ask_roots(
     at
 }
 
-// The first batch, from the rows below a depth: the entities found in the context, then the other roots.
+// Writes the first batch, from the rows below a depth: the entities found in the context, then the other roots. Answers the place after its
+// rows, or none (14).
 pub fn initial_entities_to_load(
     nodes: &[u64],
     depth: u64,
@@ -136,16 +136,13 @@ pub fn initial_entities_to_load(
     context: &[u64],
     out: &mut [u64],
     to: usize,
-) -> Batch
+) -> Option<usize>
     requires nodes_len_bound { (length nodes.now ≤ 65536) × (request.principal < 65536) × (request.resource < 65536) }
     requires nodes_in_bounds { to + yields (initial_entities (request_with request context.now) depth from (rows_of (drop from nodes.now)))
         ≤ length out.old }
     ensures { BatchWritten out.old to out.new
         (batch_of (initial_entities (request_with request context.now) depth from (rows_of (drop from nodes.now)))) result }
 {
-    let found = find_remaining_entities_context(nodes, depth, from, context, out, to);
-    let Batch::To(end) = found else {
-        return Batch::Bad;
-    };
-    Batch::To(ask_roots(nodes, depth, from, request, out, end))
+    let end = find_remaining_entities_context(nodes, depth, from, context, out, to)?;
+    Some(ask_roots(nodes, depth, from, request, out, end))
 }

@@ -7,7 +7,7 @@ mod rule;
 mod scan;
 mod walk;
 
-pub use batch::{Batch, find_remaining_entities};
+pub use batch::find_remaining_entities;
 pub use initial::{Request, ask_roots, context_root, initial_entities_to_load};
 pub use scan::has_child;
 pub use walk::{Meeting, Met, next_event};

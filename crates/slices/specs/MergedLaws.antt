@@ -26,8 +26,7 @@ use Rattle.words.specs.Runs.{Wrote}
 use Rattle.words.specs.RunLaws.{taken_back}
 use Rattle.values.specs.ValueWords.{value_row_in, value_rows_of, value_word}
 use Rattle.merging.specs.Merges.{WroteRows, MergedInto}
-use Rattle.merging.specs.declared.Merged.{Merged}
-use Rattle.merging.specs.declared.Merged.TheVariants.{To, Different}
+use Rattle.std.specs.Prelude.{Option as Maybe, Some, None}
 use Rattle.slices.specs.Slices.{parent_count, row_count, rows_at}
 use Rattle.slices.specs.Writing.{MayMerge}
 
@@ -114,7 +113,7 @@ module _
     (starts : start ≡ place + 1 + parent_count words place)
     (ends : end ≡ place + 1 + parent_count words place + row_count words place)
     (holds : held ≡ from + size)
-    (scratch' : List ℕ) (r : Merged)
+    (scratch' : List ℕ) (r : Maybe ℕ)
     (done : MergedInto (merge_rows none (value_rows_of (take (held - from) (drop from out)))
     (value_rows_of (take (end - start) (drop start words)))) scratch 0 scratch' r)
   where
@@ -128,10 +127,10 @@ module _
     wrote_rows : WroteRows may.rows scratch 0 scratch' r
     wrote_rows = rw merged_runs at done
 
-    pub more_merges : r ≡ Different → ⊥
+    pub more_merges : r ≡ None → ⊥
     more_merges e = let z : ◌≡◌ {A = ℕ} 0 1 = cc wrote_rows.answer in omega arith
 
-    module _ {merged : ℕ} (to : r ≡ To merged) where
+    module _ {merged : ℕ} (to : r ≡ Some merged) where
       pub more_count : merged ≡ length may.rows
       more_count = let e : 0 + length may.rows ≡ merged = cc wrote_rows.answer in omega arith
 

@@ -9,8 +9,7 @@ use Rattle.rules.proofs.MergeLaws.{IdsFrom, merged_of}
 use Rattle.rules.proofs.SliceLaws.{answers_to, ids_to, with_more}
 use Rattle.words.specs.Runs.{Wrote}
 use Rattle.values.specs.ValueWords.{value_rows_of}
-use Rattle.slices.specs.declared.entity.NextAnswer.{NextAnswer}
-use Rattle.slices.specs.declared.entity.NextAnswer.TheVariants.{Row, Ended as NoRow}
+use Rattle.std.specs.Prelude.{Option as Maybe, Some, None}
 use Rattle.slices.specs.Slices.{
   rows_asked,
   row_count,
@@ -46,9 +45,9 @@ pub record FirstAnswer (words rows places : List ℕ) (e from k : ℕ) : Type 0 
   pub answers :
       answers_after words rows places e from ≡ entity_at words (get_or places k 0) ∷ answers_after words rows places e (k + 1)
 
-abbrev pub AnswerFound : List ℕ → List ℕ → List ℕ → ℕ → ℕ → NextAnswer → Type 0
-AnswerFound words rows places e from (Row k) = FirstAnswer words rows places e from k
-AnswerFound words rows places e from NoRow = answers_after words rows places e from ≡ []
+abbrev pub AnswerFound : List ℕ → List ℕ → List ℕ → ℕ → ℕ → Maybe ℕ → Type 0
+AnswerFound words rows places e from (Some k) = FirstAnswer words rows places e from k
+AnswerFound words rows places e from None = answers_after words rows places e from ≡ []
 
 -- ---- rows
 

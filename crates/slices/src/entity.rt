@@ -14,16 +14,9 @@ ghost use Rattle.slices.specs.Writing.{asks_for, AnswerFound, MayMerge, RowsFit,
 use crate::ids::add_ancestors;
 use crate::keys::place_of;
 use answers::Head;
-use merging::{Merged, merge_values};
+use merging::merge_values;
 use values::EntityRequest;
 use words::copy_words;
-
-// The next row that asks for an entity and has an answer, if there is one.
-#[derive(Drop)]
-pub enum NextAnswer {
-    Row(usize),
-    Ended,
-}
 
 // Whether a row asks for an entity and its answer, by its head, is not absent.
 fn asks_for(row: u64, head: u64, entity: u64) -> bool
@@ -35,14 +28,14 @@ fn asks_for(row: u64, head: u64, entity: u64) -> bool
     false
 }
 
-// The first row from `from` on that asks for an entity and has an answer.
+// The place of the first row from `from` on that asks for an entity and has an answer, if there is one.
 pub fn next_answer(
     words: &[u64],
     keys: &[u64],
     places: &[u64],
     entity: u64,
     from: usize,
-) -> NextAnswer
+) -> Option<usize>
     requires { Heard words.now keys.now (places_of places.now keys.now) × (from ≤ length keys.now) }
     ensures { AnswerFound words.now keys.now (places_of places.now keys.now) entity from result }
 {
@@ -50,11 +43,11 @@ pub fn next_answer(
     while k < keys.len() {
         let place = place_of(keys, places, k);
         if asks_for(keys[k], words[place], entity) {
-            return NextAnswer::Row(k);
+            return Some(k);
         }
         k += 1;
     }
-    NextAnswer::Ended
+    None
 }
 
 // The place after an entity's head and parents, where its rows start.
@@ -90,7 +83,7 @@ fn merge_more(
     let start = rows_start(words, place);
     let end = rows_end(words, place);
     let held = from + size;
-    let Merged::To(merged) = merge_values(&out[from..held], &words[start..end], scratch, 0) else {
+    let Some(merged) = merge_values(&out[from..held], &words[start..end], scratch, 0) else {
         return size;
     };
     copy_words(&scratch[..merged], out, from);
@@ -114,7 +107,7 @@ fn write_rows(
     let mut size: usize = 0;
     let mut k: usize = 0;
     while k < keys.len() {
-        let NextAnswer::Row(next) = next_answer(words, keys, places, entity, k) else {
+        let Some(next) = next_answer(words, keys, places, entity, k) else {
             return size;
         };
         let place = place_of(keys, places, next);
@@ -139,7 +132,7 @@ fn write_parents(
     requires { ParentsFit words.now keys.now (places_of places.now keys.now) sets.now (places_of set_places.now keys.now) entity out.old to scratch.old }
     ensures { (value : Entity) → merged_of (answers_for words.now keys.now (places_of places.now keys.now) entity) ≡ some value → Wrote out.old to (with_ids (ids_for keys.now sets.now (places_of set_places.now keys.now) entity) value.parents) out.new (to + result) }
 {
-    let NextAnswer::Row(first) = next_answer(words, keys, places, entity, 0) else {
+    let Some(first) = next_answer(words, keys, places, entity, 0) else {
         return 0;
     };
     let place = place_of(keys, places, first);

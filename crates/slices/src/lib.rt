@@ -11,7 +11,7 @@ ghost use Rattle.rules.specs.Loading.{Loaded, with_ancestors};
 ghost use Rattle.rules.specs.SliceLaws.{SliceOf};
 ghost use Rattle.slices.specs.Slices.{rows_asked, answers_in, sets_in, SliceFit, WroteSlice};
 
-use entity::{NextAnswer, next_answer, write_entity};
+use entity::{next_answer, write_entity};
 pub use ids::union_ids;
 use keys::{IDS, group_end, sort_keys, write_keys};
 
@@ -49,15 +49,11 @@ pub fn build_slice(
         let entity = sorted[from] % IDS;
         let behind = group_end(sorted, from);
         let group = &sorted[from..behind];
-        let found = next_answer(words, group, places, entity, 0);
-        match found {
-            NextAnswer::Row(_) => {
-                end = write_entity(
-                    words, group, places, sets, set_places, entity, out, end, scratch,
-                );
-                count += 1;
-            }
-            NextAnswer::Ended => {}
+        if let Some(_) = next_answer(words, group, places, entity, 0) {
+            end = write_entity(
+                words, group, places, sets, set_places, entity, out, end, scratch,
+            );
+            count += 1;
         }
         from = behind;
     }

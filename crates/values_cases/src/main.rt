@@ -3,11 +3,10 @@
 
 ghost use Rattle.std.specs.Prelude.{◌<◌};
 
-use answers::{Checked, Lending, Summed};
+use answers::Lending;
 use cases::{STDOUT_FILENO, print};
 use load_items::{Handed, read_field, show_values, show_words};
-use merging::Merged;
-use row_walk::{Batch, Request};
+use row_walk::Request;
 use text::Line;
 use values::ValueRow;
 
@@ -31,10 +30,10 @@ fn tell_asked(rows: &[u64]) {
     show_words(Handed::Rows, count, rows);
 }
 
-fn tell_batch(batch: Batch, out: &[u64]) {
+fn tell_batch(batch: Option<usize>, out: &[u64]) {
     match batch {
-        Batch::Bad => print(b"14"),
-        Batch::To(end) => {
+        None => print(b"14"),
+        Some(end) => {
             if end <= out.len() {
                 tell_asked(&out[..end]);
             }
@@ -62,10 +61,10 @@ fn ask_lawful(line: &[u8]) {
     tell_lawful(&words[..n], &mut levels);
 }
 
-fn tell_merged(merged: Merged, out: &[u64]) {
+fn tell_merged(merged: Option<usize>, out: &[u64]) {
     match merged {
-        Merged::Different => print(b"13"),
-        Merged::To(end) => {
+        None => print(b"13"),
+        Some(end) => {
             if end <= out.len() {
                 tell_rows(&out[..end]);
             }
@@ -176,13 +175,13 @@ fn ask_first(line: &[u8]) {
     tell_first(line, &nodes[..n], &context[..v], &mut out);
 }
 
-fn tell_sum(summed: Summed) {
+fn tell_sum(summed: Result<u64, u64>) {
     match summed {
-        Summed::To(sum) => {
+        Ok(sum) => {
             print(b" words, sum ");
             io::print_decimal(STDOUT_FILENO, sum);
         }
-        Summed::Over(place) => {
+        Err(place) => {
             print(b" words, ");
             cases::print_refused(15, place);
         }
@@ -196,8 +195,8 @@ fn tell_lent(lent: Lending, words: &[u64], count: u64, sum: u64, levels: &mut [u
     }
     let checked = answers::check(lent, words, count, levels);
     match checked {
-        Checked::WrongAt(place) => cases::print_refused(1, place),
-        Checked::AllFine(taken) => {
+        Err(place) => cases::print_refused(1, place),
+        Ok(taken) => {
             io::print_decimal(STDOUT_FILENO, taken as u64);
             if sum <= ValueRow::VALUES {
                 tell_sum(answers::sum(lent, words, count, sum));

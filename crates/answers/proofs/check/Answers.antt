@@ -4,7 +4,7 @@ use native.Mathlib.Omega.{arith}
 use mathlib.Core.Path.{refl, sym, ◌∙◌}
 use Rattle.answers.specs.AnswerLaws.{CheckedTo, checked_none, checked_all, checked_wrong, checked_next, scratch_part}
 use Rattle.answers.proofs.check.Goals as goal
-use Rattle.answers.proofs.check.Goals.{In-Takes}
+use Rattle.answers.proofs.check.Goals.{In-Some}
 
 pub loop-k-init : goal.loop-k-init
 loop-k-init c = (refl, checked_none _ _ _)
@@ -22,20 +22,20 @@ returns-in_default c =
 
 -- the next is of its form, and those behind it decide
 onward :
-    (c : In-Takes) →
+    (c : In-Some) →
     let args = c.args in
-    CheckedTo args.lent args.words.now args.count (c.loop-k.k + 1) (c.loop-k.at + c.in-Takes.size)
+    CheckedTo args.lent args.words.now args.count (c.loop-k.k + 1) (c.loop-k.at + c.in-Some.size)
 onward c =
-    checked_next c.loop-k.invariant.1 c.loop-k-test.true (sym c.front.ensures ∙ c.in-Takes.is)
+    checked_next c.loop-k.invariant.1 c.loop-k-test.true (sym c.front.ensures ∙ c.in-Some.is)
 
 pub overflow_add-at : goal.overflow_add-at
 overflow_add-at c =
-    let next = onward (goal.at.overflow_add-at c).In-Takes in
+    let next = onward (goal.at.overflow_add-at c).In-Some in
     omega (arith, next.inside, c.well_formed)
 
 pub loop-k-preserved : goal.loop-k-preserved
 loop-k-preserved c =
-    (c.front.auto.levels ∙ c.loop-k.invariant.0, onward (goal.at.loop-k-preserved c).In-Takes)
+    (c.front.auto.levels ∙ c.loop-k.invariant.0, onward (goal.at.loop-k-preserved c).In-Some)
 
 pub shape_of-levels : goal.shape_of-levels
 shape_of-levels c = c.loop-k.invariant.0

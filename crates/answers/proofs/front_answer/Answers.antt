@@ -1,5 +1,6 @@
 -- `answers::front_answer` meets its contract: an absent entity takes its head alone, and the test of an entity decides otherwise.
 use Prim.Native.Nat.{◌+◌}
+use Rattle.std.specs.Prelude.{Some, None}
 use native.Mathlib.Omega.{arith}
 use mathlib.Core.Path.{◌≡◌, sym, ap}
 use mathlib.Core.Bool.{cond}
@@ -7,7 +8,6 @@ use lib.ListN.{get_or, length-take, length-drop}
 use Rattle.answers.specs.Answers.{front_of, answer_at, words_behind}
 use Rattle.answers.specs.AnswerLaws.{nothing_at, front_absent, front_entity}
 use Rattle.answers.specs.declared.Lending.TheVariants.{Answers}
-use Rattle.answers.specs.declared.Front.TheVariants.{Takes, Wrong}
 use Rattle.answers.proofs.front_answer.Goals as goal
 use Rattle.answers.proofs.front_answer.Goals.{After-is_entity}
 
@@ -26,7 +26,7 @@ is_entity-requires c = (
 -- what the test of an entity says of the words
 entity :
     (c : After-is_entity) →
-    front_of (answer_at c.args.words.now) ≡ cond c.is_entity.result (Takes (1 + words_behind Answers (get_or c.args.words.now 0 0))) Wrong
+    front_of (answer_at c.args.words.now) ≡ cond c.is_entity.result (Some (1 + words_behind Answers (get_or c.args.words.now 0 0))) None
 entity c =
     front_entity c.args.words.now c.is_entity.result (omega arith) c.if-word-eq0.false
     (sym (rw c.of-head.ensures at c.is_entity.ensures))

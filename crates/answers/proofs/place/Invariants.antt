@@ -1,9 +1,5 @@
-use Prim.Native.Nat.{◌-◌}
 use Rattle.answers.specs.AnswerLaws.{PlacesTo}
 use Rattle.answers.proofs.place.Given as goal
 
 abbrev pub invariant-loop-k : goal.invariant-loop-k
 invariant-loop-k l = PlacesTo l.lent l.words l.count l.to l.initial.places l.k l.at l.places
-
-abbrev pub decreases-loop-k : goal.decreases-loop-k
-decreases-loop-k l = l.count - l.k

@@ -6,18 +6,18 @@ use Rattle.words.specs.RunLaws.{wrote_length}
 use Rattle.merging.specs.Merges.{RowsTaken}
 use Rattle.merging.specs.MergeLaws.{passing_begun, passing_more, passing_room, passing_apart, passing_ended}
 use Rattle.merging.proofs.merge_values.Goals as goal
-use Rattle.merging.proofs.merge_values.Goals.{In-Taken}
+use Rattle.merging.proofs.merge_values.Goals.{In_ok-turn}
 
 -- the turn takes a row
 takes :
-    (c : In-Taken)
+    (c : In_ok-turn)
     → let args = c.args in
-    RowsTaken args.left.now args.right.now c.loop-i.i c.loop-i.j c.loop-i.inside c.in-Taken.word c.in-Taken.past_left c.in-Taken.past_right c.in-Taken.now_inside
-takes c = rw c.in-Taken.is at c.next_turn.ensures
+    RowsTaken args.left.now args.right.now c.loop-i.i c.loop-i.j c.loop-i.inside c.in_ok-turn.turn.word c.in_ok-turn.turn.left c.in_ok-turn.turn.right c.in_ok-turn.turn.inside
+takes c = rw c.in_ok-turn.was at c.next_turn.ensures
 
 -- there is room for it
 room :
-    (c : In-Taken)
+    (c : In_ok-turn)
     → c.loop-i.at < length c.loop-i.out
 room c =
     passing_room c.loop-i.invariant c.loop-i-test.true c.requires
@@ -34,26 +34,26 @@ overflow_add-left c = omega (arith, c.requires)
 pub next_turn-requires : goal.next_turn-requires
 next_turn-requires c = (c.loop-i.invariant.in_left, c.loop-i.invariant.in_right, c.loop-i-test.true)
 
-pub shape_of-out-in_default : goal.shape_of-out-in_default
-shape_of-out-in_default c = wrote_length c.loop-i.invariant.wrote
+pub shape_of-out-in_err-turn : goal.shape_of-out-in_err-turn
+shape_of-out-in_err-turn c = wrote_length c.loop-i.invariant.wrote
 
-pub returns-in_default : goal.returns-in_default
-returns-in_default c = passing_apart c.loop-i.invariant (rw c.in_default.is at c.next_turn.ensures)
+pub returns-in_err-turn : goal.returns-in_err-turn
+returns-in_err-turn c = rw c.from_residual.ensures (passing_apart c.loop-i.invariant (rw c.in_err-turn.was at c.next_turn.ensures))
 
 pub offset_bounds-out-at : goal.offset_bounds-out-at
-offset_bounds-out-at c = omega (arith, room (goal.at.offset_bounds-out-at c).In-Taken)
+offset_bounds-out-at c = omega (arith, room (goal.at.offset_bounds-out-at c).In_ok-turn)
 
 pub bounds-out-at : goal.bounds-out-at
-bounds-out-at c = room (goal.at.bounds-out-at c).In-Taken
+bounds-out-at c = room (goal.at.bounds-out-at c).In_ok-turn
 
 pub overflow_add-at : goal.overflow_add-at
-overflow_add-at c = omega (arith, room (goal.at.overflow_add-at c).In-Taken)
+overflow_add-at c = omega (arith, room (goal.at.overflow_add-at c).In_ok-turn)
 
 pub loop-i-smaller : goal.loop-i-smaller
-loop-i-smaller c = omega (arith, (takes (goal.at.loop-i-smaller c).In-Taken).more, (takes (goal.at.loop-i-smaller c).In-Taken).in_left, (takes (goal.at.loop-i-smaller c).In-Taken).in_right, c.loop-i-test.true)
+loop-i-smaller c = omega (arith, (takes (goal.at.loop-i-smaller c).In_ok-turn).more, (takes (goal.at.loop-i-smaller c).In_ok-turn).in_left, (takes (goal.at.loop-i-smaller c).In_ok-turn).in_right, c.loop-i-test.true)
 
 pub loop-i-preserved : goal.loop-i-preserved
-loop-i-preserved c = passing_more c.loop-i.invariant (takes (goal.at.loop-i-preserved c).In-Taken)
+loop-i-preserved c = passing_more c.loop-i.invariant (takes (goal.at.loop-i-preserved c).In_ok-turn)
 
 pub shape_of-out : goal.shape_of-out
 shape_of-out c = wrote_length c.loop-i.invariant.wrote

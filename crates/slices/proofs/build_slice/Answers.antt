@@ -46,24 +46,24 @@ slice_bounds-group-start c = omega (arith, c.group_end-behind.ensures.some)
 pub slice_bounds-group-end : goal.slice_bounds-group-end
 slice_bounds-group-end c = c.group_end-behind.ensures.inside
 
-pub next_answer-found-requires : goal.next_answer-found-requires
-next_answer-found-requires c = (rw c.loop-from.invariant.0 (own_heard (fit_again c.requires c.sort_keys.auto.spare) c.loop-from.invariant.2 (rw c.loop-from.invariant.0 at c.group_end-behind.ensures)), omega arith)
+pub next_answer-requires : goal.next_answer-requires
+next_answer-requires c = (rw c.loop-from.invariant.0 (own_heard (fit_again c.requires c.sort_keys.auto.spare) c.loop-from.invariant.2 (rw c.loop-from.invariant.0 at c.group_end-behind.ensures)), omega arith)
 
 pub write_entity-end-requires : goal.write_entity-end-requires
 write_entity-end-requires c =
-    rw c.loop-from.invariant.0 (group_fit (fit_again c.requires c.sort_keys.auto.spare) c.loop-from.invariant.2 (rw c.loop-from.invariant.0 at c.group_end-behind.ensures) (first_some (rw (c.loop-from.invariant.0, c.in-Row.is) at c.next_answer-found.ensures)))
+    rw c.loop-from.invariant.0 (group_fit (fit_again c.requires c.sort_keys.auto.spare) c.loop-from.invariant.2 (rw c.loop-from.invariant.0 at c.group_end-behind.ensures) (first_some (rw (c.loop-from.invariant.0, c.in-Some.is) at c.next_answer.ensures)))
 
 pub overflow_add-count : goal.overflow_add-count
 overflow_add-count c = omega (arith, group_counts (fit_again c.requires c.sort_keys.auto.spare) c.loop-from.invariant.2 (rw c.loop-from.invariant.0 at c.group_end-behind.ensures))
 
-pub loop-from-smaller-in-Row : goal.loop-from-smaller-in-Row
-loop-from-smaller-in-Row c = omega (arith, c.loop-from-test.true, c.group_end-behind.ensures.some)
+pub loop-from-smaller-in-Some : goal.loop-from-smaller-in-Some
+loop-from-smaller-in-Some c = omega (arith, c.loop-from-test.true, c.group_end-behind.ensures.some)
 
-pub loop-from-preserved-in-Row : goal.loop-from-preserved-in-Row
-loop-from-preserved-in-Row c = (
+pub loop-from-preserved-in-Some : goal.loop-from-preserved-in-Some
+loop-from-preserved-in-Some c = (
   c.loop-from.invariant.0,
   c.loop-from.invariant.1,
-  groups_next (fit_again c.requires c.sort_keys.auto.spare) c.loop-from.invariant.2 (rw c.loop-from.invariant.0 at c.group_end-behind.ensures) (first_some (rw (c.loop-from.invariant.0, c.in-Row.is) at c.next_answer-found.ensures)) _ _ _ (search rules) (search rules) (rw c.loop-from.invariant.0 at c.write_entity-end.ensures),
+  groups_next (fit_again c.requires c.sort_keys.auto.spare) c.loop-from.invariant.2 (rw c.loop-from.invariant.0 at c.group_end-behind.ensures) (first_some (rw (c.loop-from.invariant.0, c.in-Some.is) at c.next_answer.ensures)) _ _ _ (search rules) (search rules) (rw c.loop-from.invariant.0 at c.write_entity-end.ensures),
 )
 
 pub loop-from-smaller : goal.loop-from-smaller
@@ -73,7 +73,7 @@ pub loop-from-preserved : goal.loop-from-preserved
 loop-from-preserved c = (
   c.loop-from.invariant.0,
   c.loop-from.invariant.1,
-  groups_passed (fit_again c.requires c.sort_keys.auto.spare) c.loop-from.invariant.2 (rw c.loop-from.invariant.0 at c.group_end-behind.ensures) (rw (c.loop-from.invariant.0, c.in-Ended.is) at c.next_answer-found.ensures),
+  groups_passed (fit_again c.requires c.sort_keys.auto.spare) c.loop-from.invariant.2 (rw c.loop-from.invariant.0 at c.group_end-behind.ensures) (rw (c.loop-from.invariant.0, c.in_default.is) at c.next_answer.ensures),
 )
 
 pub shape_of-out : goal.shape_of-out

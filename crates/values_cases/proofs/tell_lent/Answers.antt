@@ -21,4 +21,4 @@ check-checked-requires c = scratch c.args.lent c.args.words.now c.args.levels.no
 pub sum-requires : goal.sum-requires
 sum-requires c =
     let args = c.args in
-    (fine_all (lent_from args.lent 0 args.count args.words.now) (sym c.check-checked.ensures ∙ c.in-AllFine.is), search rules)
+    (fine_all (lent_from args.lent 0 args.count args.words.now) (sym c.check-checked.ensures ∙ c.in-Ok.is), search rules)

@@ -5,7 +5,7 @@ use native.Mathlib.Nat.{add-sub_cancel_left}
 use lib.ListN.{drop, length-drop}
 use lib.Seq.{length-take-le}
 use Rattle.batches.specs.Hearings.{heard_at}
-use Rattle.batches.specs.HearingLaws.{standing_within, standing_absent, standing_present, Present, agree_absent, agree_merged, agree_apart}
+use Rattle.batches.specs.HearingLaws.{standing_within, standing_absent, standing_present, Present, agree_absent, agree_tested}
 use Rattle.batches.proofs.merges.agree.Goals as goal
 use Rattle.batches.proofs.merges.agree.Goals.{After-of-b}
 
@@ -88,22 +88,12 @@ merge_entities-requires c =
     simp (add-sub_cancel_left, length-take-le c.of-a.result.rows (drop (a.left + 1 + c.of-a.result.parents) a.words.now) (simp length-drop (omega (arith, left.fits))), length-take-le c.of-b.result.rows (drop (a.right + 1 + c.of-b.result.parents) a.words.now) (simp length-drop (omega (arith, right.fits))))
     (omega (arith, left.fits, right.fits, c.requires.2))
 
-pub returns-in-To : goal.returns-in-To
-returns-in-To c =
-    let a = c.args in
-    let x = a.left + 1 in
-    let y = a.right + 1 in
-    agree_merged a.words.now a.left a.right c.of-a.result c.of-b.result (left-present (goal.at.returns-in-To c).After-of-b) (right-present (goal.at.returns-in-To c).After-of-b)
-    (x + c.of-a.result.parents - x) (x + c.of-a.result.parents + c.of-a.result.rows - (x + c.of-a.result.parents)) (y + c.of-b.result.parents - y) (y + c.of-b.result.parents + c.of-b.result.rows - (y + c.of-b.result.parents))
-    (add-sub_cancel_left x c.of-a.result.parents, add-sub_cancel_left (x + c.of-a.result.parents) c.of-a.result.rows, add-sub_cancel_left y c.of-b.result.parents, add-sub_cancel_left (y + c.of-b.result.parents) c.of-b.result.rows)
-    _ _ _ (rw c.in-To.is at c.merge_entities.ensures)
-
 pub returns : goal.returns
 returns c =
     let a = c.args in
     let x = a.left + 1 in
     let y = a.right + 1 in
-    agree_apart a.words.now a.left a.right c.of-a.result c.of-b.result (left-present (goal.at.returns c).After-of-b) (right-present (goal.at.returns c).After-of-b)
+    rw c.is_some.ensures (agree_tested a.words.now a.left a.right c.of-a.result c.of-b.result (left-present (goal.at.returns c).After-of-b) (right-present (goal.at.returns c).After-of-b)
     (x + c.of-a.result.parents - x) (x + c.of-a.result.parents + c.of-a.result.rows - (x + c.of-a.result.parents)) (y + c.of-b.result.parents - y) (y + c.of-b.result.parents + c.of-b.result.rows - (y + c.of-b.result.parents))
     (add-sub_cancel_left x c.of-a.result.parents, add-sub_cancel_left (x + c.of-a.result.parents) c.of-a.result.rows, add-sub_cancel_left y c.of-b.result.parents, add-sub_cancel_left (y + c.of-b.result.parents) c.of-b.result.rows)
-    _ _ (rw c.in_default.is at c.merge_entities.ensures)
+    _ _ _ c.merge_entities.ensures)

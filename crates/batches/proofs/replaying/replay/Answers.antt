@@ -82,7 +82,7 @@ loop-asked-preserved c =
           (whole a.nodes.now a.words.now a.rows.now a.places.now a.first a.count) c.requires.count_in_bounds.0
           c.loop-asked.rows c.loop-asked.asked c.loop-asked.end c.loop-asked.batches c.loop-asked.invariant.0 c.requires.all_stand c.if-end-asked.false (omega arith)
           (omega (arith, length-map a.nodes.now row_in, c.requires.nodes_len_bound.0, c.requires.count_in_bounds.1, c.loop-asked.invariant.1.0)) _ _
-          (rw c.in-To.is at c.take_answers.ensures),
+          (rw c.in-Ok.is at c.take_answers.ensures),
       (
         c.take_answers.auto.rows ∙ c.loop-asked.invariant.1.0,
         c.take_answers.auto.scratch ∙ c.loop-asked.invariant.1.1,

@@ -19,7 +19,7 @@ use Rattle.batches.specs.Hearings.{heard_at, merges_with}
 use Rattle.batches.specs.HearingLaws.{standing_within, standing_absent, standing_present, Present}
 use Rattle.batches.specs.TakeWordLaws.{batch_kept, taken_absent, taken_bad, taken_to, taken_apart}
 use Rattle.batches.proofs.taking.take_answer.Goals as goal
-use Rattle.batches.proofs.taking.take_answer.Goals.{After-find_remaining_entities, After-merges_with_earlier, After-of-head, In-To}
+use Rattle.batches.proofs.taking.take_answer.Goals.{After-find_remaining_entities, After-merges_with_earlier, After-of-head, In-Some}
 
 pub offset_bounds-words-at : goal.offset_bounds-words-at
 offset_bounds-words-at c = omega (arith, standing_within c.args.words.now (get_or c.args.places.now c.args.i 0) c.requires.all_stand.1)
@@ -85,7 +85,7 @@ returns-in_default c =
     (rw c.in_default.is at (found (goal.at.returns-in_default c).After-find_remaining_entities))
 
 -- the earlier rows are as they were
-earlier : (c : In-To) → (let a = c.args in let from = get_or a.places.now a.i 0 + 1 + c.of-head.result.parents in let run = value_rows_of (take (from + c.of-head.result.rows - from) (drop from a.words.now)) in BatchWritten a.rows.now a.end c.find_remaining_entities.new.out (batch_of (remaining_rows (rows_of a.nodes.now) (row_asked (get_or a.rows.now a.i 0)).node run)) c.find_remaining_entities.result) →
+earlier : (c : In-Some) → (let a = c.args in let from = get_or a.places.now a.i 0 + 1 + c.of-head.result.parents in let run = value_rows_of (take (from + c.of-head.result.rows - from) (drop from a.words.now)) in BatchWritten a.rows.now a.end c.find_remaining_entities.new.out (batch_of (remaining_rows (rows_of a.nodes.now) (row_asked (get_or a.rows.now a.i 0)).node run)) c.find_remaining_entities.result) →
     let a = c.args in
     (take a.i c.find_remaining_entities.new.out ≡ take a.i a.rows.now) × (length c.find_remaining_entities.new.out ≡ length a.rows.now)
 earlier c found-here =
@@ -94,12 +94,12 @@ earlier c found-here =
     let from = at + 1 + c.of-head.result.parents in
     let run = value_rows_of (take (from + c.of-head.result.rows - from) (drop from a.words.now)) in
     batch_kept a.rows.now _ a.end (batch_of (remaining_rows (rows_of a.nodes.now) (row_asked (get_or a.rows.now a.i 0)).node run)) c.find_remaining_entities.result a.i
-    found-here c.in-To.is (omega (arith, c.requires.i_lt_end.0))
+    found-here c.in-Some.is (omega (arith, c.requires.i_lt_end.0))
 
 pub slice_bounds-merges_with_earlier-end-2 : goal.slice_bounds-merges_with_earlier-end-2
 slice_bounds-merges_with_earlier-end-2 c =
     let a = c.args in
-    sym (length-take-le a.i _ (omega (arith, (earlier (goal.at.slice_bounds-merges_with_earlier-end-2 c).In-To (found (goal.at.slice_bounds-merges_with_earlier-end-2 c).After-find_remaining_entities)).1, c.requires.i_lt_end.0, c.requires.i_lt_end.1.1)))
+    sym (length-take-le a.i _ (omega (arith, (earlier (goal.at.slice_bounds-merges_with_earlier-end-2 c).In-Some (found (goal.at.slice_bounds-merges_with_earlier-end-2 c).After-find_remaining_entities)).1, c.requires.i_lt_end.0, c.requires.i_lt_end.1.1)))
 
 pub slice_bounds-merges_with_earlier-end-3 : goal.slice_bounds-merges_with_earlier-end-3
 slice_bounds-merges_with_earlier-end-3 c =
@@ -109,7 +109,7 @@ slice_bounds-merges_with_earlier-end-3 c =
 pub merges_with_earlier-requires : goal.merges_with_earlier-requires
 merges_with_earlier-requires c =
     let a = c.args in
-    record { rows_len = (length-take-le a.i _ (omega (arith, (earlier (goal.at.merges_with_earlier-requires c).In-To (found (goal.at.merges_with_earlier-requires c).After-find_remaining_entities)).1, c.requires.i_lt_end.0, c.requires.i_lt_end.1.1)) ∙ sym (length-take-le a.i a.places.now (omega (arith, c.requires.i_lt_end.1.0))), (c.requires.all_stand.0, c.requires.all_stand.1)); words_in_bounds = omega (arith, c.requires.nodes_len_bound.1) }
+    record { rows_len = (length-take-le a.i _ (omega (arith, (earlier (goal.at.merges_with_earlier-requires c).In-Some (found (goal.at.merges_with_earlier-requires c).After-find_remaining_entities)).1, c.requires.i_lt_end.0, c.requires.i_lt_end.1.1)) ∙ sym (length-take-le a.i a.places.now (omega (arith, c.requires.i_lt_end.1.0))), (c.requires.all_stand.0, c.requires.all_stand.1)); words_in_bounds = omega (arith, c.requires.nodes_len_bound.1) }
 
 -- whether it merges, by the row that is asked
 merged : (c : After-merges_with_earlier) → (let a = c.args in (take a.i c.find_remaining_entities.new.out ≡ take a.i a.rows.now) × (length c.find_remaining_entities.new.out ≡ length a.rows.now)) →
@@ -129,8 +129,8 @@ returns-then-merges_with_earlier c =
     taken_to (rows_of a.nodes.now) (map row_asked (take a.i a.rows.now)) (map (heard_at a.words.now) (take a.i a.places.now)) a.place (row_asked (get_or a.rows.now a.i 0)) (heard_at a.words.now at)
     (entity_of (take c.of-head.result.parents (drop (at + 1) a.words.now)) (take c.of-head.result.rows (drop from a.words.now))) run there.is
     (rw (add-sub_cancel_left from c.of-head.result.rows)) a.rows.now _ a.end
-    _ (rw c.in-To.is at (found (goal.at.returns-then-merges_with_earlier c).After-find_remaining_entities))
-    (merged (goal.at.returns-then-merges_with_earlier c).After-merges_with_earlier (earlier (goal.at.returns-then-merges_with_earlier c).In-To (found (goal.at.returns-then-merges_with_earlier c).After-find_remaining_entities)) ∙ c.if-merges_with_earlier.true)
+    _ (rw c.in-Some.is at (found (goal.at.returns-then-merges_with_earlier c).After-find_remaining_entities))
+    (merged (goal.at.returns-then-merges_with_earlier c).After-merges_with_earlier (earlier (goal.at.returns-then-merges_with_earlier c).In-Some (found (goal.at.returns-then-merges_with_earlier c).After-find_remaining_entities)) ∙ c.if-merges_with_earlier.true)
 
 pub returns : goal.returns
 returns c =
@@ -142,5 +142,5 @@ returns c =
     taken_apart (rows_of a.nodes.now) (map row_asked (take a.i a.rows.now)) (map (heard_at a.words.now) (take a.i a.places.now)) a.place (row_asked (get_or a.rows.now a.i 0)) (heard_at a.words.now at)
     (entity_of (take c.of-head.result.parents (drop (at + 1) a.words.now)) (take c.of-head.result.rows (drop from a.words.now))) run there.is
     (rw (add-sub_cancel_left from c.of-head.result.rows)) a.rows.now _ a.end
-    _ (rw c.in-To.is at (found (goal.at.returns c).After-find_remaining_entities))
-    (merged (goal.at.returns c).After-merges_with_earlier (earlier (goal.at.returns c).In-To (found (goal.at.returns c).After-find_remaining_entities)) ∙ c.if-merges_with_earlier.false)
+    _ (rw c.in-Some.is at (found (goal.at.returns c).After-find_remaining_entities))
+    (merged (goal.at.returns c).After-merges_with_earlier (earlier (goal.at.returns c).In-Some (found (goal.at.returns c).After-find_remaining_entities)) ∙ c.if-merges_with_earlier.false)

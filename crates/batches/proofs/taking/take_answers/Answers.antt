@@ -5,6 +5,7 @@ use lib.ListN.{length-map}
 use Rattle.rows.specs.Words.{row_in}
 use Rattle.rows.specs.States.{rows_of}
 use Rattle.words.specs.RunLaws.{wrote_length}
+use Rattle.std.proofs.lemmas.Result.{err_from_is_err_and}
 use Rattle.batches.specs.TakingLaws.{stand_at, taking_none, taking_more, taking_refused, taking_all, taking_room}
 use Rattle.batches.proofs.taking.take_answers.Goals as goal
 
@@ -17,34 +18,29 @@ loop-i-init c =
 pub overflow_sub-place : goal.overflow_sub-place
 overflow_sub-place c = omega (arith, c.loop-i.invariant.0.from_on)
 
-pub take_answer-taken-requires : goal.take_answer-taken-requires
-take_answer-taken-requires c =
+pub take_answer-requires : goal.take_answer-requires
+take_answer-requires c =
     let a = c.args in
     let (s, load, at) = c.requires.by_index in
     let room =
     taking_room (rows_of a.nodes.now) a.words.now a.rows.now a.places.now a.from a.to s load at c.requires.all_stand
     c.loop-i.i c.loop-i.rows c.loop-i.end c.loop-i.invariant.0 in record { i_lt_end = (omega (arith, c.loop-i.invariant.0.wrote.after), (omega (arith, c.requires.to_in_bounds.0), omega (arith, room, length-map a.nodes.now row_in, wrote_length c.loop-i.invariant.0.wrote, c.requires.to_in_bounds.1, c.requires.nodes_len_bound.0))); nodes_len_bound = (c.requires.nodes_len_bound.0, omega (arith, c.requires.nodes_len_bound.1, c.loop-i.invariant.1)); all_stand = stand_at a.words.now a.places.now c.loop-i.i a.to (omega arith) c.requires.to_in_bounds.0 c.requires.all_stand }
 
-pub shape_of-rows-in_default : goal.shape_of-rows-in_default
-shape_of-rows-in_default c = c.take_answer-taken.auto.rows ∙ wrote_length c.loop-i.invariant.0.wrote
+pub shape_of-rows-in_err-end : goal.shape_of-rows-in_err-end
+shape_of-rows-in_err-end c = c.take_answer.auto.rows ∙ wrote_length c.loop-i.invariant.0.wrote
 
-pub shape_of-scratch-in_default : goal.shape_of-scratch-in_default
-shape_of-scratch-in_default c = c.take_answer-taken.auto.scratch ∙ c.loop-i.invariant.1
+pub shape_of-scratch-in_err-end : goal.shape_of-scratch-in_err-end
+shape_of-scratch-in_err-end c = c.take_answer.auto.scratch ∙ c.loop-i.invariant.1
 
-pub returns-in_default : goal.returns-in_default
-returns-in_default c =
+pub returns-in_err-end : goal.returns-in_err-end
+returns-in_err-end c =
     let a = c.args in
     let (s, load, at) = c.requires.by_index in
-    rw c.in_default.is
+    let p = err_from_is_err_and c.from_residual.result c.from_residual.ensures.1 in
+    rw (p.1, p.2)
     (taking_refused (rows_of a.nodes.now) a.words.now a.rows.now a.places.now a.from a.to c.requires.to_in_bounds.0 at.fits
     c.loop-i.i (omega arith) c.loop-i.rows c.loop-i.end c.loop-i.invariant.0 _ _ _
-    (rw c.in_default.is at c.take_answer-taken.ensures))
-
-pub overflow_add-i : goal.overflow_add-i
-overflow_add-i c = omega arith
-
-pub loop-i-smaller : goal.loop-i-smaller
-loop-i-smaller c = omega arith
+    (rw c.in_err-end.was at c.take_answer.ensures))
 
 pub loop-i-preserved : goal.loop-i-preserved
 loop-i-preserved c =
@@ -52,8 +48,8 @@ loop-i-preserved c =
     let (s, load, at) = c.requires.by_index in (
       taking_more (rows_of a.nodes.now) a.words.now a.rows.now a.places.now a.from a.to c.requires.to_in_bounds.0 at.fits
           c.loop-i.i (omega arith) c.loop-i.rows c.loop-i.end c.loop-i.invariant.0 _ _
-          (rw c.in-To.is at c.take_answer-taken.ensures),
-      c.take_answer-taken.auto.scratch ∙ c.loop-i.invariant.1,
+          (rw c.in_ok-end.was at c.take_answer.ensures),
+      c.take_answer.auto.scratch ∙ c.loop-i.invariant.1,
     )
 
 pub shape_of-rows : goal.shape_of-rows

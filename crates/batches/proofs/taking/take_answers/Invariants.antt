@@ -1,4 +1,3 @@
-use Prim.Native.Nat.{◌-◌}
 use mathlib.Core.Path.{◌≡◌}
 use lib.ListN.{length}
 use Rattle.rows.specs.States.{rows_of}
@@ -8,6 +7,3 @@ use Rattle.batches.proofs.taking.take_answers.Given as goal
 abbrev pub invariant-loop-i : goal.invariant-loop-i
 invariant-loop-i l =
     TakenSoFar (rows_of l.nodes) l.words l.initial.rows l.places l.from l.to l.i l.rows l.end × (length l.scratch ≡ length l.initial.scratch)
-
-abbrev pub decreases-loop-i : goal.decreases-loop-i
-decreases-loop-i l = l.to - l.i

@@ -32,7 +32,7 @@ returns c =
     begun_to a.request.triple a.request.principal a.request.resource a.context.now a.state.now a.first (rows_of (take a.count (drop (a.at + 1) words))) (replicate 4096 0) c.initial_entities_to_load.new.out c.initial_entities_to_load.result
     c.turn_for-turn.result a.count (take (a.at + 1 + a.count - a.at) (drop a.at words)) _
     (rw (add-sub_cancel_left (a.at + 1) a.count) at c.initial_entities_to_load.ensures)
-    c.in-To.is
+    c.in-Some.is
     c.turn_for-turn.ensures
     (sym (length-map (take a.count (drop (a.at + 1) words)) row_in ∙ length-take-le a.count (drop (a.at + 1) words) (simp length-drop (omega (arith, c.requires.count_in_bounds.0)))))
     (rw size c.requires.rows_value)

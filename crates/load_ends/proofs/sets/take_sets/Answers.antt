@@ -10,7 +10,7 @@ use Rattle.load_state.specs.declared.LoadReply.TheVariants.{Done}
 use Rattle.load_ends.specs.Ends.{sets_stored}
 use Rattle.load_ends.specs.SetLaws.{sets_wrong, sets_over, sets_kept}
 use Rattle.load_ends.proofs.sets.take_sets.Goals as goal
-use Rattle.load_ends.proofs.sets.take_sets.Goals.{In-Over, In_default, In_default-sum}
+use Rattle.load_ends.proofs.sets.take_sets.Goals.{In-Err-sum, In_default, In_default-sum}
 
 -- all are of their form
 read : (c : In_default) → let a = c.args in AllRead (lent_from Sets 0 a.count a.words.now)
@@ -21,21 +21,21 @@ sums : (c : In_default-sum) → let a = c.args in summed length 0 a.sum (lent_it
 sums c = c.sum.ensures ∙ ap sum_in c.in_default-sum.is
 
 -- or pass the limit
-over : (c : In-Over) → let a = c.args in summed length 0 a.sum (lent_items Sets a.count a.words.now) ≡ refused_at 15 c.in-Over.place
-over c = c.sum.ensures ∙ ap sum_in c.in-Over.is
+over : (c : In-Err-sum) → let a = c.args in summed length 0 a.sum (lent_items Sets a.count a.words.now) ≡ refused_at 15 c.in-Err-sum.place
+over c = c.sum.ensures ∙ ap sum_in c.in-Err-sum.is
 
-pub returns-in-WrongAt : goal.returns-in-WrongAt
-returns-in-WrongAt c load asked rows batches sum =
+pub returns-in-Err : goal.returns-in-Err
+returns-in-Err c load asked rows batches sum =
     let a = c.args in
-    rw (sets_wrong a.state.now a.words.now a.count load c.requires.state_value (sym c.check.ensures ∙ c.in-WrongAt.is)) (refl, refl)
+    rw (sets_wrong a.state.now a.words.now a.count load c.requires.state_value (sym c.check.ensures ∙ c.in-Err.is)) (refl, refl)
 
 pub sum-requires : goal.sum-requires
 sum-requires c = (read (goal.at.sum-requires c).In_default, c.requires.in_bounds.1.1)
 
-pub returns-in-Over : goal.returns-in-Over
-returns-in-Over c load asked rows batches sum =
+pub returns-in-Err-sum : goal.returns-in-Err-sum
+returns-in-Err-sum c load asked rows batches sum =
     let a = c.args in
-    rw (sets_over a.state.now a.words.now a.count load c.requires.state_value {place = c.in-Over.place} (read (goal.at.returns-in-Over c).In_default) (rw sum (over (goal.at.returns-in-Over c).In-Over))) (refl, refl)
+    rw (sets_over a.state.now a.words.now a.count load c.requires.state_value {place = c.in-Err-sum.place} (read (goal.at.returns-in-Err-sum c).In_default) (rw sum (over (goal.at.returns-in-Err-sum c).In-Err-sum))) (refl, refl)
 
 pub keep_sets-kept-requires : goal.keep_sets-kept-requires
 keep_sets-kept-requires c =

@@ -12,12 +12,7 @@ returns-then-count-gt-NODES c = rw (le-ltb c.args.count 4097 (omega (arith, c.if
 pub check-requires : goal.check-requires
 check-requires c = has_scratch c.args.lent c.args.words.now c.args.levels.now c.requires
 
-pub returns-in-AllFine : goal.returns-in-AllFine
-unfolding good_lent
-returns-in-AllFine c =
-    rw (lt-ltb c.args.count 4097 (omega (arith, c.if-count-gt-NODES.false)), ← c.check.ensures, c.in-AllFine.is)
-
 pub returns : goal.returns
 unfolding good_lent
 returns c =
-    rw (lt-ltb c.args.count 4097 (omega (arith, c.if-count-gt-NODES.false)), ← c.check.ensures, c.in_default.is)
+    rw (lt-ltb c.args.count 4097 (omega (arith, c.if-count-gt-NODES.false)), ← c.check.ensures) c.is_ok.ensures.value

@@ -12,11 +12,11 @@ use Rattle.row_walk.specs.InitialLaws.{initial_yields}
 use Rattle.batches.specs.Hearings.{heard_before, AllStand}
 use Rattle.load_state.specs.WorkedLaws.{items_counted, placed_heard, no_first, FirstRead, first_read, worked_over, worked_none, worked_come}
 use Rattle.load_state.proofs.working.work_out_load.Goals as goal
-use Rattle.load_state.proofs.working.work_out_load.Goals.{After-place, In-To, In-To-initial_entities_to_load}
+use Rattle.load_state.proofs.working.work_out_load.Goals.{After-place, In-Ok, In-Some}
 
 -- the sum of all answers
-sums : (c : In-To) → let a = c.args in summed size_of_answer 0 0 (lent_items Answers a.count a.words.now) ≡ done c.in-To.sum
-sums c = c.sum.ensures ∙ ap sum_in c.in-To.is
+sums : (c : In-Ok) → let a = c.args in summed size_of_answer 0 0 (lent_items Answers a.count a.words.now) ≡ done c.in-Ok.sum
+sums c = c.sum.ensures ∙ ap sum_in c.in-Ok.is
 
 -- they are heard at their places
 heard :
@@ -31,14 +31,14 @@ heard c =
 
 -- and the load begins with the rows of the first batch
 begun :
-    (c : In-To-initial_entities_to_load) →
+    (c : In-Some) →
     let a = c.args in
-    FirstRead a.request a.context.now (rows_of a.nodes.now) a.words.now c.place.new.places c.initial_entities_to_load.new.out c.in-To-initial_entities_to_load.first c.requires.by_index.0
+    FirstRead a.request a.context.now (rows_of a.nodes.now) a.words.now c.place.new.places c.initial_entities_to_load.new.out c.in-Some.first c.requires.by_index.0
 begun c =
     let a = c.args in
-    first_read a.request a.context.now (rows_of a.nodes.now) c.requires.nodes_len_bound.1 a.words.now c.place.new.places a.rows.now c.initial_entities_to_load.new.out c.in-To-initial_entities_to_load.first c.requires.by_index.0
+    first_read a.request a.context.now (rows_of a.nodes.now) c.requires.nodes_len_bound.1 a.words.now c.place.new.places a.rows.now c.initial_entities_to_load.new.out c.in-Some.first c.requires.by_index.0
     c.requires.by_index.1 (omega (arith, length-map a.nodes.now row_in, c.requires.nodes_len_bound.0, c.requires.in_bounds.0))
-    c.initial_entities_to_load.result c.initial_entities_to_load.ensures c.in-To-initial_entities_to_load.is
+    c.initial_entities_to_load.result c.initial_entities_to_load.ensures c.in-Some.is
 
 pub returns-in_default : goal.returns-in_default
 returns-in_default c =
@@ -56,16 +56,16 @@ returns-in_default-initial_entities_to_load c =
 
 pub replay-requires : goal.replay-requires
 replay-requires c =
-    let (same, stand) = heard (goal.at.replay-requires c).After-place in record { count_in_bounds = (omega (arith, c.place.auto.places, c.requires.all_read.1), omega (arith, c.initial_entities_to_load.auto.out, c.requires.in_bounds.0)); nodes_len_bound = (c.requires.nodes_len_bound.0, c.requires.in_bounds.1); all_stand = stand; by_index = (c.in-To.sum, rw same (sums (goal.at.replay-requires c).In-To)); by_index_2 = (c.requires.by_index.0, (begun (goal.at.replay-requires c).In-To-initial_entities_to_load).at) }
+    let (same, stand) = heard (goal.at.replay-requires c).After-place in record { count_in_bounds = (omega (arith, c.place.auto.places, c.requires.all_read.1), omega (arith, c.initial_entities_to_load.auto.out, c.requires.in_bounds.0)); nodes_len_bound = (c.requires.nodes_len_bound.0, c.requires.in_bounds.1); all_stand = stand; by_index = (c.in-Ok.sum, rw same (sums (goal.at.replay-requires c).In-Ok)); by_index_2 = (c.requires.by_index.0, (begun (goal.at.replay-requires c).In-Some).at) }
 
 pub returns-in_default-replay : goal.returns-in_default-replay
 returns-in_default-replay c =
     let a = c.args in
-    worked_none a.request a.context.now (rows_of a.nodes.now) a.words.now _ _ _ _ _ (begun (goal.at.returns-in_default-replay c).In-To-initial_entities_to_load) a.count (heard (goal.at.returns-in_default-replay c).After-place).0
+    worked_none a.request a.context.now (rows_of a.nodes.now) a.words.now _ _ _ _ _ (begun (goal.at.returns-in_default-replay c).In-Some) a.count (heard (goal.at.returns-in_default-replay c).After-place).0
     (items_counted Answers a.count a.words.now c.requires.all_read.0) (heard (goal.at.returns-in_default-replay c).After-place).1 c.replay.result c.replay.ensures c.in_default-replay.is
 
 pub returns : goal.returns
 returns c =
     let a = c.args in
-    worked_come a.request a.context.now (rows_of a.nodes.now) a.words.now _ _ _ _ _ (begun (goal.at.returns c).In-To-initial_entities_to_load) a.count (heard (goal.at.returns c).After-place).0
-    (items_counted Answers a.count a.words.now c.requires.all_read.0) (heard (goal.at.returns c).After-place).1 _ _ _ c.replay.result c.replay.ensures c.in-Come.is (sums (goal.at.returns c).In-To)
+    worked_come a.request a.context.now (rows_of a.nodes.now) a.words.now _ _ _ _ _ (begun (goal.at.returns c).In-Some) a.count (heard (goal.at.returns c).After-place).0
+    (items_counted Answers a.count a.words.now c.requires.all_read.0) (heard (goal.at.returns c).After-place).1 _ _ _ c.replay.result c.replay.ensures c.in-Some-replay.is (sums (goal.at.returns c).In-Ok)

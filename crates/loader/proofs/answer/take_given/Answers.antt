@@ -96,10 +96,10 @@ take_answers-requires c =
 
 pub overflow_sub-waiting : goal.overflow_sub-waiting
 overflow_sub-waiting c =
-    given_ahead (given (goal.at.overflow_sub-waiting c).Start) c.requires.in_bounds.0 _ (words_are (goal.at.overflow_sub-waiting c).After-copy_words-2) _ c.place.ensures (placed (goal.at.overflow_sub-waiting c).After-place (within (goal.at.overflow_sub-waiting c).Start)) _ c.take_answers.result _ (taken (goal.at.overflow_sub-waiting c).After-take_answers (nodes (goal.at.overflow_sub-waiting c).After-nodes_from-from)) c.in-To.is
+    given_ahead (given (goal.at.overflow_sub-waiting c).Start) c.requires.in_bounds.0 _ (words_are (goal.at.overflow_sub-waiting c).After-copy_words-2) _ c.place.ensures (placed (goal.at.overflow_sub-waiting c).After-place (within (goal.at.overflow_sub-waiting c).Start)) _ c.take_answers.result _ (taken (goal.at.overflow_sub-waiting c).After-take_answers (nodes (goal.at.overflow_sub-waiting c).After-nodes_from-from)) c.in-Ok.is
 
-pub overflow_add-used-in-To : goal.overflow_add-used-in-To
-overflow_add-used-in-To c = omega (arith, (within (goal.at.overflow_add-used-in-To c).Start).2)
+pub overflow_add-used-in-Ok : goal.overflow_add-used-in-Ok
+overflow_add-used-in-Ok c = omega (arith, (within (goal.at.overflow_add-used-in-Ok c).Start).2)
 
 pub store_answers-requires : goal.store_answers-requires
 store_answers-requires c = (c.requires.in_bounds.0, omega (arith, (within (goal.at.store_answers-requires c).Start).2, c.requires.in_bounds.0))
@@ -109,10 +109,10 @@ overflow_add-result c =
     let g = given (goal.at.overflow_add-result c).Start in
     omega (arith, within (goal.at.overflow_add-result c).Start, g.came.trips, g.came.at.going.fewer, came_rows g.came)
 
-pub returns-in-Refused : goal.returns-in-Refused
-returns-in-Refused c =
-    given_refused (given (goal.at.returns-in-Refused c).Start) c.requires.in_bounds.0 _ (words_are (goal.at.returns-in-Refused c).After-copy_words-2) _ c.place.ensures (placed (goal.at.returns-in-Refused c).After-place (within (goal.at.returns-in-Refused c).Start)) _ c.take_answers.result _ _ (taken (goal.at.returns-in-Refused c).After-take_answers (nodes (goal.at.returns-in-Refused c).After-nodes_from-from)) c.in-Refused.is
+pub returns-in-Err : goal.returns-in-Err
+returns-in-Err c =
+    given_refused (given (goal.at.returns-in-Err c).Start) c.requires.in_bounds.0 _ (words_are (goal.at.returns-in-Err c).After-copy_words-2) _ c.place.ensures (placed (goal.at.returns-in-Err c).After-place (within (goal.at.returns-in-Err c).Start)) _ c.take_answers.result _ _ (taken (goal.at.returns-in-Err c).After-take_answers (nodes (goal.at.returns-in-Err c).After-nodes_from-from)) c.in-Err.is
 
-pub returns-in-To : goal.returns-in-To
-returns-in-To c =
-    given_taken (given (goal.at.returns-in-To c).Start) c.requires.in_bounds.0 _ (words_are (goal.at.returns-in-To c).After-copy_words-2) _ c.place.ensures (placed (goal.at.returns-in-To c).After-place (within (goal.at.returns-in-To c).Start)) _ c.take_answers.result _ (taken (goal.at.returns-in-To c).After-take_answers (nodes (goal.at.returns-in-To c).After-nodes_from-from)) c.in-To.is c.requires.asked_lt_end.0 _ _ c.turn_for-turn.ensures c.store_answers.ensures
+pub returns-in-Ok : goal.returns-in-Ok
+returns-in-Ok c =
+    given_taken (given (goal.at.returns-in-Ok c).Start) c.requires.in_bounds.0 _ (words_are (goal.at.returns-in-Ok c).After-copy_words-2) _ c.place.ensures (placed (goal.at.returns-in-Ok c).After-place (within (goal.at.returns-in-Ok c).Start)) _ c.take_answers.result _ (taken (goal.at.returns-in-Ok c).After-take_answers (nodes (goal.at.returns-in-Ok c).After-nodes_from-from)) c.in-Ok.is c.requires.asked_lt_end.0 _ _ c.turn_for-turn.ensures c.store_answers.ensures

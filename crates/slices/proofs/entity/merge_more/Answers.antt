@@ -7,14 +7,14 @@ use lib.Seq.{length-take-le}
 use Rattle.slices.specs.Slices.{row_count}
 use Rattle.slices.specs.MergedLaws.{more_merges, more_few, more_wrote}
 use Rattle.slices.proofs.entity.merge_more.Goals as goal
-use Rattle.slices.proofs.entity.merge_more.Goals.{In-To}
+use Rattle.slices.proofs.entity.merge_more.Goals.{In-Some}
 
 -- there are no more rows than both had
-few : (c : In-To) → c.in-To.merged
+few : (c : In-Some) → c.in-Some.merged
     ≤ c.args.size + row_count c.args.words.now c.args.place
 few c =
     more_few _ _ _ _ _ _ c.requires c.rows_start-start.ensures c.rows_end-end.ensures refl _ _ c.merge_values.ensures
-    c.in-To.is
+    c.in-Some.is
 
 pub returns-in_default : goal.returns-in_default
 returns-in_default c =
@@ -26,21 +26,21 @@ returns-in_default c =
 
 pub slice_bounds-copy_words-end : goal.slice_bounds-copy_words-end
 slice_bounds-copy_words-end c =
-    omega (arith, few (goal.at.slice_bounds-copy_words-end c).In-To, c.requires.scratch_room)
+    omega (arith, few (goal.at.slice_bounds-copy_words-end c).In-Some, c.requires.scratch_room)
 
 pub slice_bounds-copy_words-end-2 : goal.slice_bounds-copy_words-end-2
 slice_bounds-copy_words-end-2 c =
     sym (length-take-le _ _ (omega
-    (arith, few (goal.at.slice_bounds-copy_words-end-2 c).In-To, c.requires.scratch_room)))
+    (arith, few (goal.at.slice_bounds-copy_words-end-2 c).In-Some, c.requires.scratch_room)))
 
 pub copy_words-requires : goal.copy_words-requires
 copy_words-requires c =
     simp length-take (omega (
       arith,
-      few (goal.at.copy_words-requires c).In-To,
+      few (goal.at.copy_words-requires c).In-Some,
       c.requires.room,
     ))
 
 pub returns : goal.returns
 returns c =
-    more_wrote _ _ _ _ _ _ c.requires c.rows_start-start.ensures c.rows_end-end.ensures refl _ _ c.merge_values.ensures c.in-To.is _ _ c.copy_words.ensures
+    more_wrote _ _ _ _ _ _ c.requires c.rows_start-start.ensures c.rows_end-end.ensures refl _ _ c.merge_values.ensures c.in-Some.is _ _ c.copy_words.ensures

@@ -6,15 +6,15 @@ use Rattle.slices.specs.Keys.{places_of}
 use Rattle.slices.specs.Writing.{FirstAnswer}
 use Rattle.slices.specs.WriteLaws.{merged_none, merged_few, merged-all, merged_end, may_merge, merged_next}
 use Rattle.slices.proofs.entity.write_rows.Goals as goal
-use Rattle.slices.proofs.entity.write_rows.Goals.{In-Row}
+use Rattle.slices.proofs.entity.write_rows.Goals.{In-Some}
 
 -- the next answer is found
 found :
-    (c : In-Row)
+    (c : In-Some)
     → let a = c.args in
     FirstAnswer a.words.now a.keys.now (places_of a.places.now a.keys.now) a.entity c.loop-k.k
-    c.in-Row.next
-found c = rw c.in-Row.is at c.next_answer.ensures
+    c.in-Some.next
+found c = rw c.in-Some.is at c.next_answer.ensures
 
 pub loop-k-init : goal.loop-k-init
 loop-k-init c = merged_none c.requires
@@ -32,21 +32,21 @@ pub returns-in_default : goal.returns-in_default
 returns-in_default c = record { wrote = merged-all c.requires c.loop-k.invariant (rw c.in_default.is at c.next_answer.ensures); upper_bound = merged_few c.requires c.loop-k.invariant }
 
 pub place_of-place-requires : goal.place_of-place-requires
-place_of-place-requires c = omega (arith, (found (goal.at.place_of-place-requires c).In-Row).inside, c.requires.heard.as_many)
+place_of-place-requires c = omega (arith, (found (goal.at.place_of-place-requires c).In-Some).inside, c.requires.heard.as_many)
 
 pub merge_more-size-requires : goal.merge_more-size-requires
 merge_more-size-requires c =
-    rw c.place_of-place.ensures (may_merge c.requires c.loop-k.invariant (found (goal.at.merge_more-size-requires c).In-Row))
+    rw c.place_of-place.ensures (may_merge c.requires c.loop-k.invariant (found (goal.at.merge_more-size-requires c).In-Some))
 
 pub overflow_add-k : goal.overflow_add-k
-overflow_add-k c = omega (arith, (found (goal.at.overflow_add-k c).In-Row).inside)
+overflow_add-k c = omega (arith, (found (goal.at.overflow_add-k c).In-Some).inside)
 
 pub loop-k-smaller : goal.loop-k-smaller
-loop-k-smaller c = omega (arith, (found (goal.at.loop-k-smaller c).In-Row).inside, (found (goal.at.loop-k-smaller c).In-Row).after)
+loop-k-smaller c = omega (arith, (found (goal.at.loop-k-smaller c).In-Some).inside, (found (goal.at.loop-k-smaller c).In-Some).after)
 
 pub loop-k-preserved : goal.loop-k-preserved
 loop-k-preserved c =
-    merged_next c.requires c.loop-k.invariant (found (goal.at.loop-k-preserved c).In-Row) (search rules)
+    merged_next c.requires c.loop-k.invariant (found (goal.at.loop-k-preserved c).In-Some) (search rules)
     (rw c.place_of-place.ensures at c.merge_more-size.ensures)
 
 pub shape_of-out : goal.shape_of-out
