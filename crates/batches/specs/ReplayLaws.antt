@@ -45,6 +45,7 @@ use Rattle.rules.specs.WalkRows.{remaining_rows}
 use Rattle.values.specs.ValueWords.{value_rows_of, row_asked, request_word}
 use Rattle.answers.specs.Answers.{head_in}
 use Rattle.words.specs.Runs.{Wrote}
+use Rattle.words.specs.Replies.{Refused}
 use Rattle.words.specs.RunLaws.{wrote_length}
 use Rattle.words.specs.SeqLaws.{take-sets}
 use Rattle.row_walk.specs.SmallLaws.{SmallRows, remaining_small, batch_small, rows_again}
@@ -55,7 +56,7 @@ use Rattle.batches.specs.Takes.{TakenInto, LoadAt}
 use Rattle.batches.specs.TakeWordLaws.{taken_present}
 use Rattle.batches.specs.TakingLaws.{stand_split, front_split, part_split, part_length, load_lengths, taken_up_to, load_takes}
 use Rattle.batches.specs.Replays.{first_load, NoLoad, ReplayedTo}
-use Rattle.std.specs.Prelude.{Some, Ok, Err}
+use Rattle.std.specs.Prelude.{Some, Ok}
 
 -- Sums: where all answers are summed, those of each batch are.
 module _ {A : Type 0} (size : A → ℕ) where
@@ -526,7 +527,7 @@ module _ (nodes : List Row) (words places : List ℕ) (count : ℕ) (whole : Loa
 
         pub replaying_refused :
             (rows' : List ℕ) (number place : ℕ)
-            → TakenInto (taken_up_to nodes words rows places asked end end) rows end rows' (Err (number, place))
+            → TakenInto (taken_up_to nodes words rows places asked end end) rows end rows' (Refused number place)
             → NoLoad whole
         replaying_refused rows' number place = go (taken_up_to nodes words rows places asked end end) leads_on
           where
@@ -535,7 +536,7 @@ module _ (nodes : List Row) (words places : List ℕ) (count : ℕ) (whole : Loa
                 → whole
                 ≡ ((o then (λ found. done (next found))) then
                 (λ load. after_answers (h.left - 1) nodes load (heard_in words places end count)))
-                → TakenInto o rows end rows' (Err (number, place))
+                → TakenInto o rows end rows' (Refused number place)
                 → NoLoad whole
             go (done found) e k = absurd k
             go (refused_at n p) e k = rw e tt

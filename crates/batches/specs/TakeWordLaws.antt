@@ -1,7 +1,7 @@
 -- Laws of answers taken in words. No contract cites this file.
 use Rattle.std.specs.Prelude.{ℕ, ◌≤◌, ◌≡◌, refl, true, false, List, map, length, take}
 use Rattle.std.proofs.Common.{arith, le_refl}
-use Rattle.std.specs.Prelude.{Option as Maybe, Some, None, Ok, Err}
+use Rattle.std.specs.Prelude.{Option as Maybe, Some, None, Ok}
 use Rattle.std.proofs.Math.Option.{Option, none, some}
 use Rattle.rules.specs.Tries.{Row}
 use Rattle.rules.specs.Values.{Entity}
@@ -13,6 +13,7 @@ use Rattle.rules.specs.Loading.{EntityRequest, batch_of}
 use Rattle.rules.proofs.SliceLaws.{answers_to}
 use Rattle.rules.proofs.TakeLaws.{found_or, taken_by}
 use Rattle.words.specs.Runs.{Wrote}
+use Rattle.words.specs.Replies.{Refused}
 use Rattle.words.specs.RunLaws.{wrote_length}
 use Rattle.words.specs.SeqLaws.{take-sets}
 use Rattle.values.specs.ValueWords.{request_word}
@@ -64,7 +65,7 @@ module _ (nodes : List Row) (asked : List EntityRequest) (answers : List (Option
     module _ (out out' : List ℕ) (to : ℕ) where
       pub taken_bad :
           BatchWritten out to out' (batch_of (remaining_rows nodes row.node run)) None
-          → TakenInto (taken_by nodes asked answers place row heard) out to out' (Err (14, place))
+          → TakenInto (taken_by nodes asked answers place row heard) out to out' (Refused 14 place)
       taken_bad h =
           let (found, stays) = batch_bad out out' to (batch_of (remaining_rows nodes row.node run)) h in
           rw (taken_present, found) (refl, refl, stays)
@@ -82,7 +83,7 @@ module _ (nodes : List Row) (asked : List EntityRequest) (answers : List (Option
           (end : ℕ)
           → BatchWritten out to out' (batch_of (remaining_rows nodes row.node run)) (Some end)
           → merges_with (answers_to row.id asked answers) heard ≡ false
-          → TakenInto (taken_by nodes asked answers place row heard) out to out' (Err (13, place))
+          → TakenInto (taken_by nodes asked answers place row heard) out to out' (Refused 13 place)
       taken_apart end h merges =
           let (rows, found, wrote) = batch_to out out' to end (batch_of (remaining_rows nodes row.node run)) h in
           rw (taken_present, found, merges)

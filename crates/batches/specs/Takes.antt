@@ -5,6 +5,7 @@ use Rattle.rules.specs.Loading.{LoadAnswer, done, refused_at, counted, EntityReq
 use Rattle.rules.proofs.SliceLaws.{LoadOf}
 use Rattle.rules.proofs.TripLaws.{GoingLoad}
 use Rattle.words.specs.Runs.{Wrote}
+use Rattle.words.specs.declared.Refusal.{Refusal}
 use Rattle.values.specs.ValueWords.{request_word}
 use Rattle.batches.specs.Hearings.{asked_before, asked_in, heard_before}
 
@@ -14,11 +15,11 @@ pub record StaysBefore (out : List ℕ) (to : ℕ) (out' : List ℕ) : Type 0 wh
   pub size : length out' ≡ length out
 
 -- The rows that an answer gives are written from a place on, or it is refused.
-abbrev pub TakenInto : LoadAnswer (List EntityRequest) → List ℕ → ℕ → List ℕ → Result ℕ (ℕ × ℕ) → Type 0
+abbrev pub TakenInto : LoadAnswer (List EntityRequest) → List ℕ → ℕ → List ℕ → Result ℕ Refusal → Type 0
 TakenInto (done rows) out to out' (Ok end) = Wrote out to (map request_word rows) out' end
-TakenInto (done rows) out to out' (Err (n, p)) = ⊥
+TakenInto (done rows) out to out' (Err refusal) = ⊥
 TakenInto (refused_at number place) out to out' (Ok end) = ⊥
-TakenInto (refused_at number place) out to out' (Err (n, p)) = (n ≡ number) × (p ≡ place) × StaysBefore out to out'
+TakenInto (refused_at number place) out to out' (Err refusal) = (refusal.number ≡ number) × (refusal.place ≡ place) × StaysBefore out to out'
 TakenInto (counted expected got) out to out' r = ⊥
 
 -- A load of an entry at the place s: the rows before `from` were asked and answered, and those up to `to` wait.

@@ -21,12 +21,13 @@ use Rattle.values.specs.ValueWords.{value_rows_of, row_asked, request_word}
 use Rattle.answers.specs.Answers.{head_in}
 use Rattle.answers.specs.AnswerLaws.{set_ids}
 use Rattle.words.specs.Runs.{Wrote}
+use Rattle.words.specs.Replies.{Refused}
 use Rattle.words.specs.RunLaws.{wrote_length, wrote_more}
 use Rattle.words.specs.SeqLaws.{take-sets}
 use Rattle.batches.specs.Hearings.{heard_at, asked_before, heard_before, asked_in, heard_in, AnswerStands, AllStand}
 use Rattle.batches.specs.HearingLaws.{standing_absent, standing_present, all_stand}
 use Rattle.batches.specs.Takes.{StaysBefore, TakenInto, LoadAt}
-use Rattle.std.specs.Prelude.{Ok, Err}
+use Rattle.std.specs.Prelude.{Ok}
 
 -- Answers that stand are good.
 
@@ -245,8 +246,8 @@ module _ (nodes : List Row) (words rows places : List ℕ) (from to : ℕ) where
           go (counted expected got) e h = absurd h
 
       pub taking_refused :
-          (out' : List ℕ) (number place : ℕ) → TakenInto taken_here out end out' (Err (number, place))
-          → TakenInto (taken_up_to to) rows to out' (Err (number, place))
+          (out' : List ℕ) (number place : ℕ) → TakenInto taken_here out end out' (Refused number place)
+          → TakenInto (taken_up_to to) rows to out' (Refused number place)
       taking_refused out' number place = go taken_here here_next
         where
           stays : StaysBefore out end out' → StaysBefore rows to out'
@@ -262,8 +263,8 @@ module _ (nodes : List Row) (words rows places : List ℕ) (from to : ℕ) where
           go :
               (o : LoadAnswer (List EntityRequest))
               → taken_up_to (i + 1) ≡ (o then (λ more. done (sofar.found ++ more)))
-              → TakenInto o out end out' (Err (number, place))
-              → TakenInto (taken_up_to to) rows to out' (Err (number, place))
+              → TakenInto o out end out' (Refused number place)
+              → TakenInto (taken_up_to to) rows to out' (Refused number place)
           go (done more) e h = absurd h
           go (refused_at n p) e h =
               let heard : heard_in words places from to ≡ heard_in words places from (i + 1) ++ heard_in words places (i + 1) to =

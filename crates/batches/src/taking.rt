@@ -11,9 +11,10 @@ use crate::merges::merges_with_earlier;
 use answers::Head;
 use row_walk::find_remaining_entities;
 use values::EntityRequest;
+use words::Refusal;
 
 // Takes the answer to row i: what its node's children find in it is written behind the rows so far (14), and it must merge with the earlier
-// answers to its entity (13). Answers the place after the rows that come of it, or the refusal's number and its place, which is `place`.
+// answers to its entity (13). Answers the place after the rows that come of it, or the refusal, whose place is `place`.
 fn take_answer(
     nodes: &[u64],
     words: &[u64],
@@ -23,7 +24,7 @@ fn take_answer(
     end: usize,
     place: u64,
     scratch: &mut [u64],
-) -> Result<usize, (u64, u64)>
+) -> Result<usize, Refusal>
     requires i_lt_end { (i < end) × ((i < length places.now) × (end + length nodes.now ≤ length rows.old)) }
     requires nodes_len_bound { (length nodes.now ≤ 4096) × (length words.now + length words.now ≤ length scratch.old) }
     requires all_stand { AllStand words.now (take i places.now) × AnswerStands words.now (get_or places.now i 0) }
@@ -45,16 +46,16 @@ fn take_answer(
     let asked = EntityRequest::of(row);
     let node = asked.node as usize;
     let Some(next) = find_remaining_entities(nodes, node, &words[from..to], rows, end) else {
-        return Err((14, place));
+        return Err(Refusal { number: 14, place });
     };
     if merges_with_earlier(words, &rows[..i], &places[..i], asked.id, at, scratch) {
         return Ok(next);
     }
-    Err((13, place))
+    Err(Refusal { number: 13, place })
 }
 
 // Takes the answers to the rows that wait, from `from` up to `to`: the rows that they give are written behind these. Answers the place after
-// all rows, or a refusal's number and its place in the batch.
+// all rows, or the refusal, whose place is the answer's in the batch.
 pub fn take_answers(
     nodes: &[u64],
     words: &[u64],
@@ -63,7 +64,7 @@ pub fn take_answers(
     from: usize,
     to: usize,
     scratch: &mut [u64],
-) -> Result<usize, (u64, u64)>
+) -> Result<usize, Refusal>
     requires to_in_bounds { (to ≤ length places.now) × (8192 ≤ length rows.old) }
     requires nodes_len_bound { (length nodes.now ≤ 4096) × (length words.now + length words.now ≤ length scratch.old) }
     requires all_stand { AllStand words.now (take to places.now) }

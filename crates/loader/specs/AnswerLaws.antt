@@ -23,7 +23,9 @@ use Rattle.batches.specs.Hearings.{heard_at, heard_before, heard_in, AllStand}
 use Rattle.batches.specs.Takes.{TakenInto, LoadAt}
 use Rattle.batches.specs.TakingLaws.{front_split, taken_up_to}
 use Rattle.batches.specs.ReplayLaws.{load_after, batch_comes, trips_some}
-use Rattle.std.specs.Prelude.{Result, Ok, Err}
+use Rattle.std.specs.Prelude.{Result, Ok}
+use Rattle.words.specs.declared.Refusal.{Refusal}
+use Rattle.words.specs.Replies.{Refused as Not-taken}
 use Rattle.load_state.specs.LoadStates.{turn_number, first_turn, answer_words}
 use Rattle.load_state.specs.Transcripts.{node_words, lent_load, CameTo, LentTo}
 use Rattle.load_state.specs.WorkedLaws.{GoodParts, placed_heard, items_counted, sum_few, nodes_few}
@@ -259,21 +261,21 @@ module _ {state rows places fresh : List ℕ} {asked end batches sum : ℕ} (g :
           ∙ batch_comes (rows_of (node_words state)) words rows places' asked end g.came.s g.load given_at given_stand fits g.total heard_sums)
 
       pub given_refused :
-          (rows' : List ℕ) (r : Result ℕ (ℕ × ℕ)) (number place : ℕ)
+          (rows' : List ℕ) (r : Result ℕ Refusal) (number place : ℕ)
           → TakenInto taken rows end rows' r
-          → r ≡ Err (number, place)
+          → r ≡ Not-taken number place
           → AnsweredAs (taken_into state fresh end (asked + sum) answered_load) (Refused number place) state
       given_refused rows' r number place h told = rw leads (go taken (rw told at h))
         where
           go :
               (o : LoadAnswer (List EntityRequest))
-              → TakenInto o rows end rows' (Err (number, place))
+              → TakenInto o rows end rows' (Not-taken number place)
               → AnsweredAs (taken_into state fresh end (asked + sum) (o then (λ found. done (next found)))) (Refused number place) state
           go (done found) h = absurd h
           go (refused_at n p) h = (rw (h.0, h.1), refl)
           go (counted expected got) h = absurd h
 
-      module _ (rows' : List ℕ) (r : Result ℕ (ℕ × ℕ)) (to : ℕ) (h : TakenInto taken rows end rows' r) (told : r ≡ Ok to) where
+      module _ (rows' : List ℕ) (r : Result ℕ Refusal) (to : ℕ) (h : TakenInto taken rows end rows' r) (told : r ≡ Ok to) where
         pub given_ahead : end ≤ to
         given_ahead = go taken (rw told at h)
           where

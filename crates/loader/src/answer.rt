@@ -66,7 +66,7 @@ fn take_given(
         end,
         scratch,
     ) {
-        Err((number, place)) => LoadReply::Refused(number, place),
+        Err(refusal) => LoadReply::Refused(refusal.number, refusal.place),
         Ok(next) => {
             let waiting = next - end;
             let turn = turn_for(waiting);
