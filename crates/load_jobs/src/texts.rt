@@ -6,7 +6,7 @@ use files::{DONE, To};
 use forms::Form;
 use jobs::refuse;
 use load_answers::{STORE, start_of};
-use value_text::RequestReply;
+use value_text::Request;
 
 // The words of a context.
 pub const CONTEXT: usize = 8_193;
@@ -38,13 +38,17 @@ pub fn read_request(to: To, line: &[u8], count: usize, context: &mut [u64]) -> A
     }
     let n = loaded.bytes;
     match value_text::read_request(&text[..n], context) {
-        RequestReply::Refused(number, place) => {
+        Err(Refusal { number, place }) => {
             let status = refuse(to, line, 3, count, Form::Request, number, place, &text[..n]);
             not_asked(status)
         }
-        RequestReply::Done(request, principal, resource) => Asked {
+        Ok(Request {
+            request_type,
+            principal,
+            resource,
+        }) => Asked {
             status: DONE,
-            request,
+            request: request_type,
             principal,
             resource,
         },

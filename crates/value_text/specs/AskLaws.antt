@@ -1,5 +1,5 @@
 -- Laws of reading a request's text. No contract cites this file.
-use Rattle.std.specs.Prelude.{ℕ, ◌+◌, ◌≤◌, ◌<◌, List, ◌≡◌, refl, length, take, drop}
+use Rattle.std.specs.Prelude.{ℕ, ◌+◌, ◌≤◌, ◌<◌, List, ◌≡◌, refl, length, take, drop, Ok}
 use Rattle.std.proofs.Math.Nat.{sub-zero}
 use Rattle.std.proofs.Common.{arith, sym, ap, ◌∙◌, le-leb}
 use Rattle.std.proofs.Math.Option.{none, some}
@@ -13,10 +13,10 @@ use Rattle.text.specs.Answers.{line_at}
 use Rattle.text.specs.declared.Line.{Line}
 use Rattle.text.specs.declared.Line.TheVariants.{Whole}
 use Rattle.text.proofs.Laws.{whole_line, cut_line}
-use Rattle.words.specs.Replies.{Done, Refused}
-use Rattle.value_text.specs.declared.request.RequestReply.TheVariants.{Done as DoneRequest}
+use Rattle.words.specs.Replies.{Done, Refused, refusal}
+use Rattle.words.specs.declared.Refusal.{Refusal}
 use Rattle.value_text.specs.Outcomes.{storing_rows, read_value_in}
-use Rattle.value_text.specs.Asking.{RequestOutcome, refusing_request, storing_request, read_request_in}
+use Rattle.value_text.specs.Asking.{RequestOutcome, refusing_request, request_in, storing_request, read_request_in}
 
 -- what an outcome says, part by part
 pub by_parts : {defined given : RequestOutcome} → defined ≡ given → (given.reply ≡ defined.reply) × (given.buffer ≡ defined.buffer)
@@ -58,12 +58,12 @@ module _ (text out : List ℕ) where
 
         pub request_done : (read_value_in 1 (drop (end + 1) text) out).reply ≡ Done →
             read_request_in text out
-            ≡ record { reply = DoneRequest asked.type asked.principal asked.resource; buffer = (read_value_in 1 (drop (end + 1) text) out).buffer }
+            ≡ record { reply = Ok (request_in asked); buffer = (read_value_in 1 (drop (end + 1) text) out).buffer }
         request_done done = go (value_from_lines 1 (lines_of (drop (end + 1) text))) refl
           where
             go : (answer : Answer (List ValueRow)) → value_from_lines 1 (lines_of (drop (end + 1) text)) ≡ answer →
                 read_request_in text out
-                ≡ record { reply = DoneRequest asked.type asked.principal asked.resource; buffer = (read_value_in 1 (drop (end + 1) text) out).buffer }
+                ≡ record { reply = Ok (request_in asked); buffer = (read_value_in 1 (drop (end + 1) text) out).buffer }
             go (accepted rows) q = (by_context (accepted rows) q).1 ∙ rw (by_context (accepted rows) q).0
             go (refused number place) q =
                 let other : Refused number place ≡ Done = rw (by_context (refused number place) q).0 at done in
@@ -80,6 +80,6 @@ module _ (text out : List ℕ) where
                 absurd (let z : ◌≡◌ {A = ℕ} 0 1 = cc in omega arith)
             go (refused n p) q =
                 let same : Refused n p ≡ Refused number place = rw (by_context (refused n p) q).0 at stopped in
-                let same_number : n ≡ number = cc in
-                let same_place : p ≡ place = cc in
-                (by_context (refused n p) q).1 ∙ rw ((by_context (refused n p) q).0, same_number, same_place)
+                let why : refusal n p ≡ refusal number place = cc in
+                (by_context (refused n p) q).1
+                ∙ rw ((by_context (refused n p) q).0, ap (λ (r : Refusal). r.number) why, ap (λ (r : Refusal). r.place) why)

@@ -1,5 +1,5 @@
 -- What the fields of a line are read as, one after the other, for the contracts of `line`.
-use Rattle.std.specs.Prelude.{ℕ, cond, List, [], ◌∷◌, drop}
+use Rattle.std.specs.Prelude.{ℕ, cond, List, [], ◌∷◌, drop, Option as Maybe, Some, None}
 use Rattle.std.proofs.Math.Option.{Option, none, some}
 use Rattle.rules.specs.Text.{fields_of, decimal_of}
 use Rattle.rules.specs.Listing.{◌>>=◌, is_letter, place_in}
@@ -7,21 +7,12 @@ use Rattle.rules.specs.ValueRows.{ValueRow, value_row}
 use Rattle.rules.specs.ValueRowTests.{is_value_row}
 use Rattle.rules.specs.ValueTexts.{kind_letters}
 use Rattle.values.specs.ValueWords.{value_row_in}
-use Rattle.value_text.specs.declared.line.ParsedRow.{ParsedRow}
-use Rattle.value_text.specs.declared.line.ParsedRow.TheVariants.{Of, Bad}
-use Rattle.value_text.specs.declared.line.Behind.{Behind}
-use Rattle.value_text.specs.declared.line.Behind.TheVariants.{At, Other as OtherLetter}
-use Rattle.value_text.specs.declared.line.Kind.{Kind}
-use Rattle.value_text.specs.declared.line.Kind.TheVariants.{Of as OfKind, Other}
+use Rattle.values.specs.declared.row.ValueRow.{ValueRow as RowWord}
 
 -- what a line was read as
-abbrev pub row_read : ParsedRow → Option ValueRow
-row_read (Of row) = some (value_row_in row.word)
-row_read Bad = none
-
-abbrev pub kind_read : Kind → Option ℕ
-kind_read (OfKind kind) = some kind
-kind_read Other = none
+abbrev pub row_read : Maybe RowWord → Option ValueRow
+row_read (Some row) = some (value_row_in row.word)
+row_read None = none
 
 -- the fields behind the first, where that is a letter and not the only one
 abbrev pub lettered : ℕ → List (List ℕ) → Option (List (List ℕ))
@@ -29,9 +20,9 @@ lettered letter [] = none
 lettered letter (word ∷ []) = none
 lettered letter (word ∷ field ∷ fields) = cond (is_letter letter word) (some (field ∷ fields)) none
 
-abbrev pub behind_read : List ℕ → Behind → Option (List (List ℕ))
-behind_read line (At at) = some (fields_of (drop at line))
-behind_read line OtherLetter = none
+abbrev pub behind_read : List ℕ → Maybe ℕ → Option (List (List ℕ))
+behind_read line (Some at) = some (fields_of (drop at line))
+behind_read line None = none
 
 -- a row that is of its form
 abbrev pub of_form : ValueRow → Option ValueRow

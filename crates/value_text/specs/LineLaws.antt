@@ -1,5 +1,5 @@
 -- Laws of the fields of a line, read one after the other. No contract cites this file.
-use Rattle.std.specs.Prelude.{ℕ, ◌+◌, ◌-◌, ◌^◌, ◌≤◌, ◌<◌, true, false, List, [], ◌∷◌, ◌≡◌, refl, length, take, drop}
+use Rattle.std.specs.Prelude.{ℕ, ◌+◌, ◌-◌, ◌^◌, ◌≤◌, ◌<◌, true, false, List, [], ◌∷◌, ◌≡◌, refl, length, take, drop, Option as Maybe, Some, None}
 use Rattle.std.proofs.Math.Nat.{sub-zero}
 use Rattle.std.proofs.Common.{arith, sym, ap, ◌∙◌, eq-eqb, ne_eqb, lt-ltb, le-ltb, le-leb, length-drop, take_all}
 use Rattle.std.proofs.Math.Option.{Option, none, some}
@@ -10,12 +10,6 @@ use Rattle.rules.specs.Listing.{◌>>=◌, is_letter, place_in}
 use Rattle.rules.specs.ValueRows.{value_row}
 use Rattle.rules.specs.ValueTexts.{kind_letters, value_row_of, asked_of}
 use Rattle.text.specs.Answers.{number_of, number_at, field_at}
-use Rattle.text.specs.declared.Decimal.{Decimal}
-use Rattle.text.specs.declared.Decimal.TheVariants.{Value, Bad}
-use Rattle.text.specs.declared.Field.{Field}
-use Rattle.text.specs.declared.Field.TheVariants.{Last}
-use Rattle.text.specs.declared.Number.{Number}
-use Rattle.text.specs.declared.Number.TheVariants.{Of, Bad as BadNumber}
 use Rattle.text.proofs.Laws.{value_most, number_ends, number_unended}
 use Rattle.text.proofs.FieldLaws.{Ends, fields_last}
 use Rattle.values.specs.ValueWords.{value_row_in, value_word}
@@ -30,9 +24,9 @@ then_none none then h = refl
 then_none (some n) then h = h n
 
 module _ {A : Type 0} (line : List ℕ) (at : ℕ) (then : ℕ → List (List ℕ) → Option A) where
-  module _ {r : Number} (ensured : r ≡ number_at TAB line at) where
+  module _ {r : Maybe (ℕ × ℕ)} (ensured : r ≡ number_at TAB line at) where
     -- a decimal that a tab ends: the others stand behind the tab
-    pub number_first : {n end : ℕ} → r ≡ Of n end →
+    pub number_first : {n end : ℕ} → r ≡ Some (n, end) →
         (n ≤ 65535) × (at ≤ end) × (end < length line)
         × (first_by decimal_of then (fields_of (drop at line)) ≡ then n (fields_of (drop (end + 1) line)))
     number_first {n} {end} e =
@@ -40,7 +34,7 @@ module _ {A : Type 0} (line : List ℕ) (at : ℕ) (then : ℕ → List (List �
         (small, omega arith, within, rw (left, parted_first {b = TAB} (free_decimal TAB n (omega arith)), decimal_read n small))
 
     -- no decimal that a tab ends
-    pub number_none : ((n : ℕ) → then n [] ≡ none) → r ≡ BadNumber → none ≡ first_by decimal_of then (fields_of (drop at line))
+    pub number_none : ((n : ℕ) → then n [] ≡ none) → r ≡ None → none ≡ first_by decimal_of then (fields_of (drop at line))
     number_none alone bad = go (fields_of (drop at line)) refl
       where
         go : (fields : List (List ℕ)) → fields_of (drop at line) ≡ fields → none ≡ first_by decimal_of then (fields_of (drop at line))
@@ -59,7 +53,7 @@ module _ {A : Type 0} (line : List ℕ) (at : ℕ) (reads : List ℕ → Option 
     field_none e = rw (ends.2, e)
 
   -- it is the last
-  pub field_alone : {r : Field} → r ≡ field_at line at → r ≡ Last → ((n : ℕ) → then n [] ≡ none) → none ≡ first_by reads then (fields_of (drop at line))
+  pub field_alone : {r : Maybe ℕ} → r ≡ field_at line at → r ≡ None → ((n : ℕ) → then n [] ≡ none) → none ≡ first_by reads then (fields_of (drop at line))
   field_alone {r} ensured e alone =
       rw (fields_last line at r ensured e) (sym (then_none (reads (take (length line - at) (drop at line))) (λ n. then n []) alone))
 
@@ -79,18 +73,18 @@ only_left rest then =
     go bad (field ∷ next ∷ more) q = rw q
 
 -- what a line ends with, read as a decimal
-module _ {A : Type 0} (line : List ℕ) (at : ℕ) (then : ℕ → Option A) (r : Decimal)
+module _ {A : Type 0} (line : List ℕ) (at : ℕ) (then : ℕ → Option A) (r : Maybe ℕ)
     (ensured : number_of r ≡ decimal_of (take (length line - at) (drop at line))) where
   last_read : only_by decimal_of then (fields_of (drop at line)) ≡ (number_of r >>= then)
   last_read =
       let all : take (length line - at) (drop at line) ≡ drop at line = take_all (length line - at) (drop at line) (omega (arith, length-drop at line)) in
       only_left (drop at line) then ∙ rw (ensured, all)
 
-  pub last_value : {n : ℕ} → r ≡ Value n → (n ≤ 65535) × (only_by decimal_of then (fields_of (drop at line)) ≡ then n)
-  last_value {n} e = (value_most _ r n ensured e, last_read ∙ ap (λ (d : Decimal). number_of d >>= then) e)
+  pub last_value : {n : ℕ} → r ≡ Some n → (n ≤ 65535) × (only_by decimal_of then (fields_of (drop at line)) ≡ then n)
+  last_value {n} e = (value_most _ r n ensured e, last_read ∙ ap (λ (d : Maybe ℕ). number_of d >>= then) e)
 
-  pub last_none : r ≡ Bad → none ≡ only_by decimal_of then (fields_of (drop at line))
-  last_none e = sym (last_read ∙ ap (λ (d : Decimal). number_of d >>= then) e)
+  pub last_none : r ≡ None → none ≡ only_by decimal_of then (fields_of (drop at line))
+  last_none e = sym (last_read ∙ ap (λ (d : Maybe ℕ). number_of d >>= then) e)
 
 -- a first field that a tab ends, by whether it is a letter
 module _ (line : List ℕ) (letter : ℕ) {end : ℕ} (ends : Ends line 0 end) where
@@ -172,8 +166,8 @@ row_again depth key kind number k t n =
 module _ (depth key kind number : ℕ) (k : key ≤ 65535) (t : kind < 5) (n : number ≤ 65535) where
   -- a set or a record with a number is not of its form, any other is
   pub row_numbered : (number ≡ 0 → ⊥) → 3 ≤ kind → none ≡ of_form (value_row depth key kind number)
-  row_numbered Some-number opens =
-      rw (le-leb kind 4 (omega arith), lt-ltb key 65536 (omega arith), le-ltb kind 3 opens, ne_eqb number 0 Some-number)
+  row_numbered some-number opens =
+      rw (le-leb kind 4 (omega arith), lt-ltb key 65536 (omega arith), le-ltb kind 3 opens, ne_eqb number 0 some-number)
 
   pub row_formed : (kind < 3) → some (value_row depth key kind number) ≡ of_form (value_row depth key kind number)
   row_formed plain = rw (le-leb kind 4 (omega arith), lt-ltb key 65536 (omega arith), lt-ltb kind 3 plain, lt-ltb number 65536 (omega arith))

@@ -1,5 +1,5 @@
 -- Laws of reading the lines of a value. No contract cites this file.
-use Rattle.std.specs.Prelude.{ℕ, ◌+◌, ◌-◌, ◌≤◌, ◌<◌, Bool, true, false, cond, List, [], ◌∷◌, ◌++◌, map, ◌≡◌, refl, length, take, drop, set}
+use Rattle.std.specs.Prelude.{ℕ, ◌+◌, ◌-◌, ◌≤◌, ◌<◌, Bool, true, false, cond, List, [], ◌∷◌, ◌++◌, map, ◌≡◌, refl, length, take, drop, set, Some, None}
 use Rattle.std.proofs.Common.{add-zero, add_assoc, arith, sym, ap, ◌∙◌, lt-ltb, le-ltb, le-leb, length-set, length-drop, length-take-le}
 use Rattle.std.proofs.lemmas.List.{map-append}
 use Rattle.std.proofs.Math.Option.{Option, none, some}
@@ -13,7 +13,7 @@ use Rattle.rules.proofs.LineLaws.{fold_kept}
 use Rattle.rules.specs.Listing.{◌>>=◌}
 use Rattle.rules.specs.Text.{lines_of, fields_of}
 use Rattle.rules.specs.ValueRows.{ValueRow}
-use Rattle.rules.specs.ValueTexts.{ValueRead, value_row_of, field_level, no_rows, row_taken, has_room, or_one, value_line, unordered, least_of, in_order, value_from_lines}
+use Rattle.rules.specs.ValueTexts.{ValueRead, value_row_of, field_level, no_rows, row_taken, has_room, or_one, value_line, in_order, value_from_lines}
 use Rattle.rules.proofs.ValueTextLaws.{may_pass, Came, came_none, came_line}
 use Rattle.text.specs.Answers.{line_at}
 use Rattle.text.proofs.Laws.{whole_line, cut_line}
@@ -155,18 +155,11 @@ module _ (place : ℕ) (lines : List (List ℕ)) where
     order_passes = passed_rows.0
 
     -- the first element out of order, or none
-    module _ {n : ℕ} (found : Misplaced words n) where
-      pub order_broken : n < length words → refused 1 (place + n) ≡ value_from_lines place lines
-      order_broken h =
-          let there : least_of (unordered field_level place (value_rows_of words)) ≡ some (place + n) =
-          found.least place ∙ rw (lt-ltb n (length words) h) in
-          sym (passed_rows.1 ∙ rw there)
+    pub order_broken : {n : ℕ} → Misplaced words (Some n) → refused 1 (place + n) ≡ value_from_lines place lines
+    order_broken found = sym (passed_rows.1 ∙ rw (found.least place))
 
-      pub order_kept : length words ≤ n → accepted (value_rows_of words) ≡ value_from_lines place lines
-      order_kept h =
-          let none_there : least_of (unordered field_level place (value_rows_of words)) ≡ none =
-          found.least place ∙ rw (le-ltb n (length words) h) in
-          sym (passed_rows.1 ∙ rw none_there)
+    pub order_kept : Misplaced words None → accepted (value_rows_of words) ≡ value_from_lines place lines
+    order_kept found = sym (passed_rows.1 ∙ rw (found.least place))
 
 -- ---- what reading answers, by what was tested
 

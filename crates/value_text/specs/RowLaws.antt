@@ -1,8 +1,8 @@
 -- Laws of taking rows and of their order (Rows). No contract cites this file.
 use Prim.Native.Nat.{ℕ, suc, ◌+◌, ◌-◌, ◌/◌, ◌%◌, ◌≤◌, ◌<◌}
-use Rattle.std.proofs.Common.{add-zero, true≢false, sym, ap, ◌∙◌, leb-true, ltb-true, eq-eqb, ne_eqb, lt-ltb, le-ltb, le-leb, length-drop, drop_of_length-le, get_or-take, length-take-le}
+use Rattle.std.proofs.Common.{le_of_lt, add-zero, true≢false, sym, ap, ◌∙◌, leb-true, ltb-true, eq-eqb, ne_eqb, lt-ltb, le-ltb, le-leb, length-drop, drop_of_length-le, get_or-take, length-take-le}
 use native.Mathlib.Omega.{arith}
-use Rattle.std.specs.Prelude.{true, false, ◌&&◌, List, [], ◌∷◌, ◌≡◌, refl, eqb, leb, ltb, take, drop, get_or, set}
+use Rattle.std.specs.Prelude.{true, false, ◌&&◌, List, [], ◌∷◌, ◌≡◌, refl, cond, eqb, leb, ltb, take, drop, get_or, set, Option as Maybe, Some, None}
 use Rattle.std.proofs.Math.Option.{Option, none, some}
 use Rattle.std.proofs.lemmas.Bool.{lt-leb}
 use Rattle.std.proofs.Math.ListN.{length, get_or-map}
@@ -16,7 +16,7 @@ use Rattle.rules.proofs.ValueTextLaws.{may_pass}
 use Rattle.values.specs.ValueWords.{depth_from, key_from, value_row_in, value_rows_of}
 use Rattle.values.specs.Lawful.{PastInside, is_ahead_at, level_in, levels_in, row_at, rows_behind, Opened}
 use Rattle.values.specs.LawfulLaws.{words_left, after_taken}
-use Rattle.value_text.specs.Rows.{ValueLinePassed, next_unless, place_found, Misplaced}
+use Rattle.value_text.specs.Rows.{ValueLinePassed, next_unless, Misplaced}
 
 -- ---- whether a row may come
 
@@ -81,20 +81,20 @@ module _ (line words levels : List ℕ) (at len word : ℕ) (room : len < length
 -- ---- an element out of order
 
 module _ (words : List ℕ) (at word : ℕ) where
-  pub next_in_record : word % 2 ≡ 0 → length words ≡ next_unless words at (level_in word)
+  pub next_in_record : word % 2 ≡ 0 → None ≡ next_unless words at (level_in word)
   next_in_record e = rw (ne_eqb (word % 2) 1 (λ odd. omega arith))
 
   module _ (odd : word % 2 ≡ 0 → ⊥) where
-    pub next_ahead : is_ahead_at words at ≡ true → length words ≡ next_unless words at (level_in word)
+    pub next_ahead : is_ahead_at words at ≡ true → None ≡ next_unless words at (level_in word)
     next_ahead e = rw (eq-eqb (word % 2) 1 (omega arith), e)
 
     pub next_there : {next : ℕ} → is_ahead_at words at ≡ false → PastInside words (at + 1) (depth_from (get_or words at 0)) next →
-        next ≡ next_unless words at (level_in word)
+        Some next ≡ next_unless words at (level_in word)
     next_there {next} e past =
         let size : length (inside_value (depth_from (get_or words at 0)) (rows_behind words at)) ≡ next - (at + 1) =
         rw (past.inside, length-map (take (next - (at + 1)) (drop (at + 1) words)) value_row_in)
         (length-take-le _ _ (omega (arith, past.within, length-drop (at + 1) words))) in
-        rw (eq-eqb (word % 2) 1 (omega arith), e, size) (omega (arith, past.from))
+        rw (eq-eqb (word % 2) 1 (omega arith), e, size) (ap {B = Maybe ℕ} Some (omega (arith, past.from)))
 
 -- ---- the least of the places out of order
 
@@ -131,22 +131,26 @@ lesser_assoc (some n) (some m) (some k) =
     (λ nm. rw (le-ltb m k km, lt-ltb n m nm))
     (λ mn. rw (le-ltb m k km, le-ltb n m mn, le-ltb m k km, le-ltb n k (omega arith))))
 
+-- a place of a row, if it is one, counted from a place on
+abbrev row_found : List ℕ → ℕ → ℕ → Option ℕ
+row_found words from n = cond (ltb n (length words)) (some (from + n)) none
+
 module _ (words : List ℕ) (from : ℕ) where
-  place_there : (n : ℕ) → n < length words → place_found words from n ≡ some (from + n)
+  place_there : (n : ℕ) → n < length words → row_found words from n ≡ some (from + n)
   place_there n h = rw (lt-ltb n (length words) h)
 
-  place_not : (n : ℕ) → length words ≤ n → place_found words from n ≡ none
+  place_not : (n : ℕ) → length words ≤ n → row_found words from n ≡ none
   place_not n h = rw (le-ltb n (length words) h)
 
   -- a place that comes before the least so far, or not
   lesser_next : (least next : ℕ) → next < least → least ≤ length words →
-      lesser (place_found words from least) (place_found words from next) ≡ place_found words from next
+      lesser (row_found words from least) (row_found words from next) ≡ row_found words from next
   lesser_next least next h within =
       compared least (length words)
       (λ k. rw (place_there least k, place_there next (omega arith), le-ltb (from + least) (from + next) (omega arith)))
       (λ k. rw (place_not least k))
 
-  lesser_kept : (least next : ℕ) → least ≤ next → lesser (place_found words from least) (place_found words from next) ≡ place_found words from least
+  lesser_kept : (least next : ℕ) → least ≤ next → lesser (row_found words from least) (row_found words from next) ≡ row_found words from least
   lesser_kept least next h =
       compared next (length words)
       (λ k.
@@ -169,7 +173,7 @@ pub record Ordering (words levels : List ℕ) (least i : ℕ) : Type 0 where
   pub pass : may_pass (levels_in (take len levels)) (value_rows_of (drop i words)) ≡ true
   pub left : (from : ℕ) →
       least_of (unordered field_level from (value_rows_of words))
-      ≡ lesser (place_found words from least) (least_of (unordered (levels_in (take len levels)) (from + i) (value_rows_of (drop i words))))
+      ≡ lesser (row_found words from least) (least_of (unordered (levels_in (take len levels)) (from + i) (value_rows_of (drop i words))))
 
 pub ordering_none : (words levels : List ℕ) → 0 < length levels → may_pass field_level (value_rows_of words) ≡ true →
     Ordering words (set levels 0 0) (length words) 0
@@ -185,15 +189,24 @@ ordering_none words (x ∷ rest) h pass = record {
 
 module _ {words levels : List ℕ} {least i : ℕ} (ordering : Ordering words levels least i) where
   -- no row is left
-  pub ordering_all : length words ≤ i → Misplaced words least
+  ordering_left : length words ≤ i → (from : ℕ) → least_of (unordered field_level from (value_rows_of words)) ≡ row_found words from least
   unfolding unordered least_of
-  ordering_all h = record {
-    within = ordering.within;
-    least = λ from. ordering.left from ∙ rw (drop_of_length-le words h) (go from);
-  }
+  ordering_left h from = ordering.left from ∙ rw (drop_of_length-le words h) (go from)
     where
-      go : (from : ℕ) → lesser (place_found words from least) none ≡ place_found words from least
-      go from = by_option (place_found words from least) (λ e. rw e) (λ n e. rw e)
+      go : (from : ℕ) → lesser (row_found words from least) none ≡ row_found words from least
+      go from = by_option (row_found words from least) (λ e. rw e) (λ n e. rw e)
+
+  pub ordering_found : length words ≤ i → least < length words → Misplaced words (Some least)
+  ordering_found h inside = record {
+    within = λ n e. let same : least ≡ n = cc in omega arith;
+    least = λ from. ordering_left h from ∙ place_there words from least inside;
+  }
+
+  pub ordering_none_found : length words ≤ i → length words ≤ least → Misplaced words None
+  ordering_none_found h all = record {
+    within = λ n e. absurd (let z : ◌≡◌ {A = ℕ} 0 1 = cc in omega arith);
+    least = λ from. ordering_left h from ∙ place_not words from least all;
+  }
 
   module _ (more : i < length words) (room : length words < length levels) where
     -- the next row may come, so that its level is one of the open ones
@@ -218,44 +231,67 @@ module _ {words levels : List ℕ} {least i : ℕ} (ordering : Ordering words le
         get_or-map level_in (take ordering.len levels) (depth_from (get_or words i 0) - 1) 0
         ∙ ap level_in (get_or-take ordering.len levels (depth_from (get_or words i 0) - 1) 0 (omega arith))
 
-    module _ {next : ℕ} (found : next ≡ next_unless words i (level_in (get_or levels (depth_from (get_or words i 0) - 1) 0))) where
+    module _ {r : Maybe ℕ} (found : r ≡ next_unless words i (level_in (get_or levels (depth_from (get_or words i 0) - 1) 0))) where
       here : Level
       here = level_in (get_or levels (depth_from (get_or words i 0) - 1) 0)
 
-      -- it is at most the count of rows, and below it where the element is out of order
       behind_all : length (rows_behind words i) ≡ length words - (i + 1)
       behind_all = length-map (drop (i + 1) words) value_row_in ∙ length-drop (i + 1) words
 
-      unordered_next : (from : ℕ) →
-          least_of (unordered (levels_in (take ordering.len levels)) (from + i) (value_rows_of (drop i words)))
-          ≡ lesser (place_found words from next)
-          (least_of (unordered (levels_after 1 (levels_in (take ordering.len levels)) (row_at words i)) (from + (i + 1)) (rows_behind words i)))
-      unfolding unordered least_of here
-      unordered_next from =
-          let one : from + (i + 1) ≡ suc (from + i) = omega arith in
-          by_test (in_turn here (row_at words i) (rows_behind words i))
-          (λ turn. rw (words_left words i more, own_level, turn, one, found, turn, place_not words from (length words) (omega arith)))
+      -- what was found says whether the next row is in its turn
+      turn_next : r ≡ None → in_turn here (row_at words i) (rows_behind words i) ≡ true
+      unfolding here
+      turn_next none_found =
+          by_test (in_turn here (row_at words i) (rows_behind words i)) (λ turn. turn)
           (λ out.
-          let inside = length (inside_value (depth_from (get_or words i 0)) (rows_behind words i)) in
-          let there : next ≡ i + 1 + inside = found ∙ rw out in
-          let below : next < length words =
+          let other : r ≡ Some (i + 1 + length (inside_value (depth_from (get_or words i 0)) (rows_behind words i))) = found ∙ rw out in
+          absurd (let z : ◌≡◌ {A = ℕ} 0 1 = cc in omega arith))
+
+      out_next : {next : ℕ} → r ≡ Some next →
+          (in_turn here (row_at words i) (rows_behind words i) ≡ false)
+          × (next ≡ i + 1 + length (inside_value (depth_from (get_or words i 0)) (rows_behind words i)))
+      unfolding here
+      out_next {next} there =
+          by_test (in_turn here (row_at words i) (rows_behind words i))
+          (λ turn.
+          let other : r ≡ None = found ∙ rw turn in
+          absurd (let z : ◌≡◌ {A = ℕ} 0 1 = cc in omega arith))
+          (λ out.
+          let inside = i + 1 + length (inside_value (depth_from (get_or words i 0)) (rows_behind words i)) in
+          let same : Some next ≡ Some inside = sym there ∙ found ∙ rw out in
+          let place : next ≡ inside = cc in
+          (out, place))
+
+      unordered_none : r ≡ None → (from : ℕ) →
+          least_of (unordered (levels_in (take ordering.len levels)) (from + i) (value_rows_of (drop i words)))
+          ≡ least_of (unordered (levels_after 1 (levels_in (take ordering.len levels)) (row_at words i)) (from + (i + 1)) (rows_behind words i))
+      unfolding unordered least_of here
+      unordered_none none_found from =
+          let one : from + (i + 1) ≡ suc (from + i) = omega arith in
+          rw (words_left words i more, own_level, turn_next none_found, one)
+
+      next_below : {next : ℕ} → r ≡ Some next → next < length words
+      unfolding here
+      next_below there =
+          let (out, place) = out_next there in
           omega (
             arith,
+            place,
             some_beyond here (row_at words i) (rows_behind words i) out,
             inside_beyond (depth_from (get_or words i 0)) (rows_behind words i),
             behind_all,
-          ) in
-          let place : suc (from + i) + inside ≡ from + next = omega arith in
-          rw (words_left words i more, own_level, out, one, place, place_there words from next below))
+          )
 
-      next_within : next ≤ length words
-      unfolding here
-      next_within =
-          by_test (in_turn here (row_at words i) (rows_behind words i))
-          (λ turn. let all : next ≡ length words = found ∙ rw turn in omega arith)
-          (λ out.
-          let there : next ≡ i + 1 + length (inside_value (depth_from (get_or words i 0)) (rows_behind words i)) = found ∙ rw out in
-          omega (arith, inside_beyond (depth_from (get_or words i 0)) (rows_behind words i), behind_all))
+      unordered_next : {next : ℕ} → r ≡ Some next → (from : ℕ) →
+          least_of (unordered (levels_in (take ordering.len levels)) (from + i) (value_rows_of (drop i words)))
+          ≡ lesser (row_found words from next)
+          (least_of (unordered (levels_after 1 (levels_in (take ordering.len levels)) (row_at words i)) (from + (i + 1)) (rows_behind words i)))
+      unfolding unordered least_of here
+      unordered_next {next} there from =
+          let (out, same) = out_next there in
+          let one : from + (i + 1) ≡ suc (from + i) = omega arith in
+          let place : suc (from + i) + length (inside_value (depth_from (get_or words i 0)) (rows_behind words i)) ≡ from + next = omega (arith, same) in
+          rw (words_left words i more, own_level, out, one, place, place_there words from next (next_below there))
 
       -- the next row is passed, with the lesser of two places
       module _ {levels' : List ℕ} {len' : ℕ} (opened : Opened levels (row_at words i) levels' len') where
@@ -265,9 +301,9 @@ module _ {words levels : List ℕ} {least i : ℕ} (ordering : Ordering words le
             opened.after ∙ sym (after_taken levels ordering.len (get_or words i 0) below near)
 
         passed_with : (least' : ℕ) → least' ≤ length words →
-            ((from : ℕ) → lesser (place_found words from least) (place_found words from next) ≡ place_found words from least') →
+            ((from : ℕ) → least_of (unordered field_level from (value_rows_of words)) ≡ lesser (row_found words from least') (least_of (unordered (levels_after 1 (levels_in (take ordering.len levels)) (row_at words i)) (from + (i + 1)) (rows_behind words i)))) →
             Ordering words levels' least' (i + 1)
-        passed_with least' within both =
+        passed_with least' within left =
             let (below, near, _) = ordering_depth in
             record {
               inside = omega arith;
@@ -275,15 +311,23 @@ module _ {words levels : List ℕ} {least i : ℕ} (ordering : Ordering words le
               len = len';
               few = omega (arith, opened.few, ordering.few);
               pass = rw after_next next_passes.1;
-              left = λ from.
-                  ordering.left from
-                  ∙ rw (unordered_next from)
-                  (lesser_assoc (place_found words from least) (place_found words from next) _
-                  ∙ rw (both from, after_next));
+              left = λ from. rw after_next (left from);
             }
 
-        pub ordering_lower : next < least → Ordering words levels' next (i + 1)
-        ordering_lower h = passed_with next next_within (λ from. lesser_next words from least next h ordering.within)
+        pub ordering_in_turn : r ≡ None → Ordering words levels' least (i + 1)
+        ordering_in_turn none_found = passed_with least ordering.within (λ from. ordering.left from ∙ rw (unordered_none none_found from))
 
-        pub ordering_kept : least ≤ next → Ordering words levels' least (i + 1)
-        ordering_kept h = passed_with least ordering.within (λ from. lesser_kept words from least next h)
+        module _ {next : ℕ} (there : r ≡ Some next) where
+          passed_two : (least' : ℕ) → least' ≤ length words →
+              ((from : ℕ) → lesser (row_found words from least) (row_found words from next) ≡ row_found words from least') →
+              Ordering words levels' least' (i + 1)
+          passed_two least' within both =
+              passed_with least' within (λ from.
+              ordering.left from
+              ∙ rw (unordered_next there from) (lesser_assoc (row_found words from least) (row_found words from next) _ ∙ rw (both from)))
+
+          pub ordering_lower : next < least → Ordering words levels' next (i + 1)
+          ordering_lower h = passed_two next (le_of_lt (next_below there)) (λ from. lesser_next words from least next h ordering.within)
+
+          pub ordering_kept : least ≤ next → Ordering words levels' least (i + 1)
+          ordering_kept h = passed_two least ordering.within (λ from. lesser_kept words from least next h)

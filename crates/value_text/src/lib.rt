@@ -6,7 +6,7 @@ mod reading;
 mod request;
 mod rows;
 
-pub use line::{ParsedRow, parse};
+pub use line::parse;
 pub use reading::read_value;
-pub use request::{RequestReply, read_request};
+pub use request::{Request, read_request};
 pub use rows::{first_misplaced, may_come};

@@ -5,7 +5,7 @@ ghost use Rattle.rules.specs.ValueTexts.{value_from_lines};
 ghost use Rattle.value_text.specs.Reads.{rows_got, rows_given, row_count};
 ghost use Rattle.value_text.specs.Outcomes.{read_value_in};
 
-use crate::rows::{TookRow, first_misplaced, take_row};
+use crate::rows::{first_misplaced, take_row};
 use text::Line;
 use words::Refusal;
 
@@ -14,15 +14,15 @@ const ROWS: usize = 8_192;
 
 pub const WORDS: usize = 8_193;
 
-// What a text gives: how many rows, or the line of the refusal.
-#[derive(Drop)]
-enum GotRows {
-    Rows(usize),
-    Refused(u64),
-}
-
-// Reads all lines of a text from a place on, the first of a number, into words, from place 1 on. `levels` is scratch, one word a depth.
-fn read_rows(text: &[u8], from: usize, place: u64, words: &mut [u64], levels: &mut [u64]) -> GotRows
+// Reads all lines of a text from a place on, the first of a number, into words, from place 1 on, and answers how many. `levels` is
+// scratch, one word a depth.
+fn read_rows(
+    text: &[u8],
+    from: usize,
+    place: u64,
+    words: &mut [u64],
+    levels: &mut [u64],
+) -> Result<usize, Refusal>
     requires { (from ≤ length text.now) × (place ≤ from) × (length words.old ≡ 8193) × (length levels.old ≡ 8194) }
     ensures words_after { rows_got result words.new ≡ rows_given place (lines_of (drop from text.now)) }
     ensures result_bound { (row_count result < 8193) × (place + row_count result ≤ length text.now) }
@@ -32,45 +32,41 @@ fn read_rows(text: &[u8], from: usize, place: u64, words: &mut [u64], levels: &m
     let mut count: usize = 0;
     let mut at = from;
     while at < text.len() {
+        let refusal = Refusal {
+            number: 1,
+            place: place + count as u64,
+        };
         let Line::Whole(end) = Line::at(text, at) else {
-            return GotRows::Refused(place + count as u64);
+            return Err(refusal);
         };
         if count == ROWS {
-            return GotRows::Refused(place + count as u64);
+            return Err(refusal);
         }
-        let took = take_row(&text[at..end], words, count + 1, levels, len);
-        match took {
-            TookRow::Open(next) => {
-                len = next;
-            }
-            TookRow::Refused => {
-                return GotRows::Refused(place + count as u64);
-            }
-        }
+        let Some(open) = take_row(&text[at..end], words, count + 1, levels, len) else {
+            return Err(refusal);
+        };
+        len = open;
         at = end + 1;
         count += 1;
     }
-    GotRows::Rows(count)
+    Ok(count)
 }
 
 // Reads a value: its lines, and then the order of its elements.
-fn read_ordered(text: &[u8], from: usize, place: u64, words: &mut [u64]) -> GotRows
+fn read_ordered(text: &[u8], from: usize, place: u64, words: &mut [u64]) -> Result<usize, Refusal>
     requires { (from ≤ length text.now) × (place ≤ from) × (length words.old ≡ 8193) }
     ensures words_after { rows_got result words.new ≡ value_from_lines place (lines_of (drop from text.now)) }
     ensures result_bound { row_count result < 8193 }
 {
     let mut levels = [0u64; 8_194];
-    match read_rows(text, from, place, words, &mut levels) {
-        GotRows::Refused(line) => GotRows::Refused(line),
-        GotRows::Rows(count) => {
-            let end = count + 1;
-            let first = first_misplaced(&words[1..end], &mut levels);
-            if first < count {
-                return GotRows::Refused(place + first as u64);
-            }
-            GotRows::Rows(count)
-        }
+    let count = read_rows(text, from, place, words, &mut levels)?;
+    if let Some(first) = first_misplaced(&words[1..count + 1], &mut levels) {
+        return Err(Refusal {
+            number: 1,
+            place: place + first as u64,
+        });
     }
+    Ok(count)
 }
 
 // Reads the lines of a value from a place of a text on, the first of a number, into a state: its count and its rows. A refusal leaves the
@@ -82,13 +78,9 @@ pub fn read_value(text: &[u8], from: usize, place: u64, out: &mut [u64]) -> Resu
     if out.len() < WORDS {
         return Err(Refusal::SHORT);
     }
-    let mut words = [0u64; 8_193];
-    match read_ordered(text, from, place, &mut words) {
-        GotRows::Refused(line) => Err(Refusal { number: 1, place: line }),
-        GotRows::Rows(count) => {
-            words[0] = count as u64;
-            words::copy_rows(&words, out);
-            Ok(())
-        }
-    }
+    let mut words = [0u64; WORDS];
+    let count = read_ordered(text, from, place, &mut words)?;
+    words[0] = count as u64;
+    words::copy_rows(&words, out);
+    Ok(())
 }

@@ -6,15 +6,8 @@ ghost use Rattle.values.specs.ValueWords.{value_row_in, value_rows_of};
 ghost use Rattle.values.specs.Lawful.{level_in, levels_in};
 ghost use Rattle.value_text.specs.Rows.{ValueLineTaken, next_unless, Misplaced};
 
-use crate::line::{ParsedRow, parse};
+use crate::line::parse;
 use values::ValueRow;
-
-// What a line gives: how many levels are open after it, or that it is not of the stated form or may not come.
-#[derive(Drop)]
-pub enum TookRow {
-    Open(usize),
-    Refused,
-}
 
 // Whether a row may come at one of the open levels.
 pub fn may_come(row: ValueRow, levels: &[u64]) -> bool
@@ -36,59 +29,56 @@ pub fn may_come(row: ValueRow, levels: &[u64]) -> bool
     row.key() == least
 }
 
-// Takes one line: its word goes to a place, and the levels that are open after it are kept.
+// Takes one line, if it is of the stated form and may come: its word goes to a place, and the levels that are open after it are kept.
+// Answers how many these are.
 pub fn take_row(
     line: &[u8],
     words: &mut [u64],
     at: usize,
     levels: &mut [u64],
     len: usize,
-) -> TookRow
+) -> Option<usize>
     requires { (at < length words.old) × (len < length levels.old) }
     ensures { ValueLineTaken line.now words.old at words.new (take len levels.old) levels.new result }
 {
-    let ParsedRow::Of(row) = parse(line) else {
-        return TookRow::Refused;
-    };
+    let row = parse(line)?;
     if !may_come(row, &levels[..len]) {
-        return TookRow::Refused;
+        return None;
     }
     words[at] = row.word;
-    TookRow::Open(values::open_levels(levels, row))
+    Some(values::open_levels(levels, row))
 }
 
-// The place of the next element, where the one at a place is of a set and does not come before it; otherwise the count of all rows.
-fn misplaced(words: &[u64], at: usize, level: u64) -> usize
+// The place of the next element, where the one at a place is of a set and does not come before it.
+fn misplaced(words: &[u64], at: usize, level: u64) -> Option<usize>
     requires { at < length words.now }
     ensures { result ≡ next_unless words.now at (level_in level) }
 {
-    if level % 2 == 0 {
-        return words.len();
-    }
-    if values::is_ahead(words, at) {
-        return words.len();
+    if level % 2 == 0 || values::is_ahead(words, at) {
+        return None;
     }
     let row = ValueRow { word: words[at] };
-    values::past(words, at + 1, row.depth())
+    Some(values::past(words, at + 1, row.depth()))
 }
 
-// The first of all rows that is an element not above the one before it, or the count of rows. `levels` is scratch, one word a depth.
-pub fn first_misplaced(words: &[u64], levels: &mut [u64]) -> usize
+// The place of the first row that is an element not above the one before it, if there is one. `levels` is scratch, one word a depth.
+pub fn first_misplaced(words: &[u64], levels: &mut [u64]) -> Option<usize>
     requires { (may_pass field_level (value_rows_of words.now) ≡ true) × (length words.now < length levels.old) }
     ensures { Misplaced words.now result }
 {
     levels[0] = 0;
     let mut least = words.len();
-    let mut i = 0;
-    while i < words.len() {
+    for i in 0..words.len() {
         let row = ValueRow { word: words[i] };
         let own = row.depth() as usize - 1;
-        let next = misplaced(words, i, levels[own]);
-        if next < least {
-            least = next;
+        if let Some(next) = misplaced(words, i, levels[own]) {
+            least = least.min(next);
         }
         values::open_levels(levels, row);
-        i += 1;
     }
-    least
+    if least < words.len() {
+        Some(least)
+    } else {
+        None
+    }
 }

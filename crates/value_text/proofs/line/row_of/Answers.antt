@@ -7,7 +7,6 @@ use Prim.Native.Nat.{ℕ}
 use Rattle.values.specs.ValueWords.{value_row_in}
 use Rattle.value_text.specs.LineLaws.{row_again, row_numbered, row_formed, row_zero}
 use Rattle.value_text.proofs.line.row_of.Goals as goal
-use Rattle.value_text.proofs.line.row_of.Goals.{then-number-ne0+else-kind-ge-SET, else-number-ne0}
 
 pub returns-then-kind-ge-SET : goal.returns-then-kind-ge-SET
 returns-then-kind-ge-SET c =
@@ -21,6 +20,4 @@ returns c =
     ∙ ap some (row_again a.depth a.key a.kind a.number (omega (arith, c.requires)) (omega (arith, c.requires)) (omega (arith, c.requires)))
     ∙ compared a.kind 3
     (λ plain. row_formed a.depth a.key a.kind a.number c.requires.1 c.requires.2 c.requires.3 plain)
-    (λ opens.
-    row_zero a.depth a.key a.kind a.number c.requires.1 c.requires.2 c.requires.3
-    (elim c.if-number-ne0.branch [ then-number-ne0+else-kind-ge-SET w ↦ absurd (omega (arith, w.if-kind-ge-SET.false)) | else-number-ne0 w ↦ w.if-number-ne0.false ]) opens)
+    (λ opens. row_zero a.depth a.key a.kind a.number c.requires.1 c.requires.2 c.requires.3 (omega (arith, c.else-number-ne0.either)) opens)

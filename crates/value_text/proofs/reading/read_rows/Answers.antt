@@ -29,8 +29,8 @@ loop-at-init c =
     let a = c.args in
     rows_none a.text.now a.from a.place a.words.now a.levels.now c.requires.0 c.requires.1 c.requires.2 c.requires.3
 
-pub overflow_add-result : goal.overflow_add-result
-overflow_add-result c = omega (arith, c.loop-at.invariant.came.lines_passed, c.loop-at.invariant.came.inside)
+pub overflow_add-refusal : goal.overflow_add-refusal
+overflow_add-refusal c = omega (arith, c.loop-at.invariant.came.lines_passed, c.loop-at.invariant.came.inside)
 
 pub shape_of-words-in_default : goal.shape_of-words-in_default
 shape_of-words-in_default c = words_kept (goal.at.shape_of-words-in_default c).At-loop-at
@@ -42,10 +42,6 @@ pub returns-in_default : goal.returns-in_default
 returns-in_default c =
     let unended : (end : ℕ) → c.at.result ≡ Whole end → ⊥ = c.in_default.not-Whole in
     record { words_after = rows_cut c.loop-at.invariant c.at.ensures unended c.loop-at-test.true; result_bound = (omega arith, omega (arith, c.requires)) }
-
-pub overflow_add-result-then-count-eq-ROWS : goal.overflow_add-result-then-count-eq-ROWS
-overflow_add-result-then-count-eq-ROWS c =
-    omega (arith, c.loop-at.invariant.came.lines_passed, c.loop-at.invariant.came.inside)
 
 pub shape_of-words-then-count-eq-ROWS : goal.shape_of-words-then-count-eq-ROWS
 shape_of-words-then-count-eq-ROWS c = words_kept (goal.at.shape_of-words-then-count-eq-ROWS c).At-loop-at
@@ -66,25 +62,21 @@ slice_bounds-take_row-start c = omega (arith, within (goal.at.slice_bounds-take_
 pub slice_bounds-take_row-end : goal.slice_bounds-take_row-end
 slice_bounds-take_row-end c = omega (arith, within (goal.at.slice_bounds-take_row-end c).In-Whole)
 
-pub take_row-took-requires : goal.take_row-took-requires
-take_row-took-requires c =
+pub take_row-requires : goal.take_row-requires
+take_row-requires c =
     (omega (arith, c.if-count-eq-ROWS.false, c.loop-at.invariant.most, c.loop-at.invariant.words_length), omega (arith, c.loop-at.invariant.few, c.loop-at.invariant.most, c.loop-at.invariant.levels_length))
 
-pub overflow_add-result-in-Refused : goal.overflow_add-result-in-Refused
-overflow_add-result-in-Refused c =
-    omega (arith, c.loop-at.invariant.came.lines_passed, c.loop-at.invariant.came.inside)
+pub shape_of-words-in_default-take_row : goal.shape_of-words-in_default-take_row
+shape_of-words-in_default-take_row c =
+    c.take_row.auto.words ∙ words_kept (goal.at.shape_of-words-in_default-take_row c).At-loop-at
 
-pub shape_of-words-in-Refused : goal.shape_of-words-in-Refused
-shape_of-words-in-Refused c =
-    c.take_row-took.auto.words ∙ words_kept (goal.at.shape_of-words-in-Refused c).At-loop-at
+pub shape_of-levels-in_default-take_row : goal.shape_of-levels-in_default-take_row
+shape_of-levels-in_default-take_row c =
+    c.take_row.auto.levels ∙ levels-kept (goal.at.shape_of-levels-in_default-take_row c).At-loop-at
 
-pub shape_of-levels-in-Refused : goal.shape_of-levels-in-Refused
-shape_of-levels-in-Refused c =
-    c.take_row-took.auto.levels ∙ levels-kept (goal.at.shape_of-levels-in-Refused c).At-loop-at
-
-pub returns-in-Refused : goal.returns-in-Refused
-returns-in-Refused c =
-    record { words_after = rows_stopped c.loop-at.invariant c.at.ensures c.in-Whole.is (rw c.in-Refused.is at c.take_row-took.ensures); result_bound = (omega arith, omega (arith, c.requires)) }
+pub returns-in_default-take_row : goal.returns-in_default-take_row
+returns-in_default-take_row c =
+    record { words_after = rows_stopped c.loop-at.invariant c.at.ensures c.in-Whole.is (rw c.in_default-take_row.is at c.take_row.ensures); result_bound = (omega arith, omega (arith, c.requires)) }
 
 pub overflow_add-at : goal.overflow_add-at
 overflow_add-at c = omega (arith, within (goal.at.overflow_add-at c).In-Whole)
@@ -95,7 +87,7 @@ loop-at-smaller c = omega (arith, within (goal.at.loop-at-smaller c).In-Whole)
 pub loop-at-preserved : goal.loop-at-preserved
 loop-at-preserved c =
     rows_next c.loop-at.invariant c.at.ensures c.in-Whole.is c.if-count-eq-ROWS.false
-    c.take_row-took.auto.levels (rw c.in-Open.is at c.take_row-took.ensures)
+    c.take_row.auto.levels (rw c.in-Some.is at c.take_row.ensures)
 
 pub shape_of-words : goal.shape_of-words
 shape_of-words c = words_kept (goal.at.shape_of-words c).At-loop-at

@@ -7,15 +7,16 @@ use Rattle.value_text.specs.Asking.{asked_fields}
 use Rattle.value_text.specs.LineLaws.{asked_behind}
 use Rattle.value_text.proofs.request.parse_request.Goals as goal
 
-pub returns-in_default : goal.returns-in_default
-returns-in_default c =
-    sym
+pub returns-in_err-at : goal.returns-in_err-at
+returns-in_err-at c =
+    rw c.from_residual.ensures
+    (sym
     (asked_behind (fields_of c.args.line.now)
-    ∙ ap (λ o. o >>= asked_fields) (sym c.after_letter.ensures ∙ ap (behind_read c.args.line.now) c.in_default.is))
+    ∙ ap (λ o. o >>= asked_fields) (sym c.after_letter.ensures ∙ ap (behind_read c.args.line.now) c.in_err-at.was)))
 
 pub returns : goal.returns
 returns c =
     c.request_at.ensures
     ∙ sym
     (asked_behind (fields_of c.args.line.now)
-    ∙ ap (λ o. o >>= asked_fields) (sym c.after_letter.ensures ∙ ap (behind_read c.args.line.now) c.in-At.is))
+    ∙ ap (λ o. o >>= asked_fields) (sym c.after_letter.ensures ∙ ap (behind_read c.args.line.now) c.in_ok-at.was))

@@ -9,130 +9,135 @@ use Rattle.rules.specs.Tries.{request_of}
 use Rattle.value_text.specs.Asking.{asked, asked_fields, action_fields, resource_type_fields, principal_fields, resource_fields}
 use Rattle.value_text.specs.LineLaws.{number_first, number_none, last_value, last_none}
 use Rattle.value_text.proofs.request.request_at.Goals as goal
-use Rattle.value_text.proofs.request.request_at.Goals.{In-Of, In-Of-at, In-Of-at-2, In-Of-at-3, In-Value}
+use Rattle.value_text.proofs.request.request_at.Goals.{In_ok-p, In_ok-a, In_ok-r, In_ok-principal, In_ok-resource}
 
 -- what is known past each number: it is an id, where it ends, and the fields behind it
-past-p : (c : In-Of) →
+past-p : (c : In_ok-p) →
     let a = c.args in
-    (c.in-Of.p ≤ 65535) × (a.at ≤ c.in-Of.p_end) × (c.in-Of.p_end < length a.line.now)
-    × (asked_fields (fields_of (drop a.at a.line.now)) ≡ action_fields c.in-Of.p (fields_of (drop (c.in-Of.p_end + 1) a.line.now)))
+    (c.in_ok-p.p ≤ 65535) × (a.at ≤ c.in_ok-p.p_end) × (c.in_ok-p.p_end < length a.line.now)
+    × (asked_fields (fields_of (drop a.at a.line.now)) ≡ action_fields c.in_ok-p.p (fields_of (drop (c.in_ok-p.p_end + 1) a.line.now)))
 past-p c =
     let a = c.args in
-    number_first a.line.now a.at action_fields c.at.ensures c.in-Of.is
+    number_first a.line.now a.at action_fields c.number_at.ensures c.in_ok-p.was
 
-past-a : (c : In-Of-at) →
-    (c.in-Of-at.a ≤ 65535) × (c.in-Of.p_end + 1 ≤ c.in-Of-at.a_end) × (c.in-Of-at.a_end < length c.args.line.now)
-    × (action_fields c.in-Of.p (fields_of (drop (c.in-Of.p_end + 1) c.args.line.now))
-    ≡ resource_type_fields c.in-Of.p c.in-Of-at.a (fields_of (drop (c.in-Of-at.a_end + 1) c.args.line.now)))
+past-a : (c : In_ok-a) →
+    (c.in_ok-a.a ≤ 65535) × (c.in_ok-p.p_end + 1 ≤ c.in_ok-a.a_end) × (c.in_ok-a.a_end < length c.args.line.now)
+    × (action_fields c.in_ok-p.p (fields_of (drop (c.in_ok-p.p_end + 1) c.args.line.now))
+    ≡ resource_type_fields c.in_ok-p.p c.in_ok-a.a (fields_of (drop (c.in_ok-a.a_end + 1) c.args.line.now)))
 past-a c =
-    number_first c.args.line.now (c.in-Of.p_end + 1)
-    (resource_type_fields c.in-Of.p) c.at-2.ensures c.in-Of-at.is
+    number_first c.args.line.now (c.in_ok-p.p_end + 1)
+    (resource_type_fields c.in_ok-p.p) c.number_at-2.ensures c.in_ok-a.was
 
-past-r : (c : In-Of-at-2) →
-    (c.in-Of-at-2.r ≤ 65535) × (c.in-Of-at.a_end + 1 ≤ c.in-Of-at-2.r_end) × (c.in-Of-at-2.r_end < length c.args.line.now)
-    × (resource_type_fields c.in-Of.p c.in-Of-at.a (fields_of (drop (c.in-Of-at.a_end + 1) c.args.line.now))
-    ≡ principal_fields c.in-Of.p c.in-Of-at.a c.in-Of-at-2.r (fields_of (drop (c.in-Of-at-2.r_end + 1) c.args.line.now)))
+past-r : (c : In_ok-r) →
+    (c.in_ok-r.r ≤ 65535) × (c.in_ok-a.a_end + 1 ≤ c.in_ok-r.r_end) × (c.in_ok-r.r_end < length c.args.line.now)
+    × (resource_type_fields c.in_ok-p.p c.in_ok-a.a (fields_of (drop (c.in_ok-a.a_end + 1) c.args.line.now))
+    ≡ principal_fields c.in_ok-p.p c.in_ok-a.a c.in_ok-r.r (fields_of (drop (c.in_ok-r.r_end + 1) c.args.line.now)))
 past-r c =
-    number_first c.args.line.now (c.in-Of-at.a_end + 1)
-    (principal_fields c.in-Of.p c.in-Of-at.a) c.at-3.ensures c.in-Of-at-2.is
+    number_first c.args.line.now (c.in_ok-a.a_end + 1)
+    (principal_fields c.in_ok-p.p c.in_ok-a.a) c.number_at-3.ensures c.in_ok-r.was
 
-past-principal : (c : In-Of-at-3) → (let a = c.args in (c.in-Of.p ≤ 65535) × (a.at ≤ c.in-Of.p_end) × (c.in-Of.p_end < length a.line.now) × (asked_fields (fields_of (drop a.at a.line.now)) ≡ action_fields c.in-Of.p (fields_of (drop (c.in-Of.p_end + 1) a.line.now)))) → ((c.in-Of-at.a ≤ 65535) × (c.in-Of.p_end + 1 ≤ c.in-Of-at.a_end) × (c.in-Of-at.a_end < length c.args.line.now) × (action_fields c.in-Of.p (fields_of (drop (c.in-Of.p_end + 1) c.args.line.now)) ≡ resource_type_fields c.in-Of.p c.in-Of-at.a (fields_of (drop (c.in-Of-at.a_end + 1) c.args.line.now)))) → ((c.in-Of-at-2.r ≤ 65535) × (c.in-Of-at.a_end + 1 ≤ c.in-Of-at-2.r_end) × (c.in-Of-at-2.r_end < length c.args.line.now) × (resource_type_fields c.in-Of.p c.in-Of-at.a (fields_of (drop (c.in-Of-at.a_end + 1) c.args.line.now)) ≡ principal_fields c.in-Of.p c.in-Of-at.a c.in-Of-at-2.r (fields_of (drop (c.in-Of-at-2.r_end + 1) c.args.line.now)))) →
+past-principal : (c : In_ok-principal) → (let a = c.args in (c.in_ok-p.p ≤ 65535) × (a.at ≤ c.in_ok-p.p_end) × (c.in_ok-p.p_end < length a.line.now) × (asked_fields (fields_of (drop a.at a.line.now)) ≡ action_fields c.in_ok-p.p (fields_of (drop (c.in_ok-p.p_end + 1) a.line.now)))) → ((c.in_ok-a.a ≤ 65535) × (c.in_ok-p.p_end + 1 ≤ c.in_ok-a.a_end) × (c.in_ok-a.a_end < length c.args.line.now) × (action_fields c.in_ok-p.p (fields_of (drop (c.in_ok-p.p_end + 1) c.args.line.now)) ≡ resource_type_fields c.in_ok-p.p c.in_ok-a.a (fields_of (drop (c.in_ok-a.a_end + 1) c.args.line.now)))) → ((c.in_ok-r.r ≤ 65535) × (c.in_ok-a.a_end + 1 ≤ c.in_ok-r.r_end) × (c.in_ok-r.r_end < length c.args.line.now) × (resource_type_fields c.in_ok-p.p c.in_ok-a.a (fields_of (drop (c.in_ok-a.a_end + 1) c.args.line.now)) ≡ principal_fields c.in_ok-p.p c.in_ok-a.a c.in_ok-r.r (fields_of (drop (c.in_ok-r.r_end + 1) c.args.line.now)))) →
     let a = c.args in
-    (c.in-Of-at-3.principal ≤ 65535) × (c.in-Of-at-2.r_end + 1 ≤ c.in-Of-at-3.principal_end) × (c.in-Of-at-3.principal_end < length a.line.now)
+    (c.in_ok-principal.principal ≤ 65535) × (c.in_ok-r.r_end + 1 ≤ c.in_ok-principal.principal_end) × (c.in_ok-principal.principal_end < length a.line.now)
     × (asked_fields (fields_of (drop a.at a.line.now))
-    ≡ resource_fields c.in-Of.p c.in-Of-at.a c.in-Of-at-2.r c.in-Of-at-3.principal
-    (fields_of (drop (c.in-Of-at-3.principal_end + 1) a.line.now)))
+    ≡ resource_fields c.in_ok-p.p c.in_ok-a.a c.in_ok-r.r c.in_ok-principal.principal
+    (fields_of (drop (c.in_ok-principal.principal_end + 1) a.line.now)))
 past-principal c past-p-here past-a-here past-r-here =
     let (small, from, within, read) =
-    number_first c.args.line.now (c.in-Of-at-2.r_end + 1)
-    (resource_fields c.in-Of.p c.in-Of-at.a c.in-Of-at-2.r) c.at-4.ensures
-    c.in-Of-at-3.is in
+    number_first c.args.line.now (c.in_ok-r.r_end + 1)
+    (resource_fields c.in_ok-p.p c.in_ok-a.a c.in_ok-r.r) c.number_at-4.ensures
+    c.in_ok-principal.was in
     (small, from, within, past-p-here.3 ∙ past-a-here.3 ∙ past-r-here.3 ∙ read)
 
-past-resource : (c : In-Value) → (let a = c.args in (c.in-Of-at-3.principal ≤ 65535) × (c.in-Of-at-2.r_end + 1 ≤ c.in-Of-at-3.principal_end) × (c.in-Of-at-3.principal_end < length a.line.now) × (asked_fields (fields_of (drop a.at a.line.now)) ≡ resource_fields c.in-Of.p c.in-Of-at.a c.in-Of-at-2.r c.in-Of-at-3.principal (fields_of (drop (c.in-Of-at-3.principal_end + 1) a.line.now)))) →
+past-resource : (c : In_ok-resource) → (let a = c.args in (c.in_ok-principal.principal ≤ 65535) × (c.in_ok-r.r_end + 1 ≤ c.in_ok-principal.principal_end) × (c.in_ok-principal.principal_end < length a.line.now) × (asked_fields (fields_of (drop a.at a.line.now)) ≡ resource_fields c.in_ok-p.p c.in_ok-a.a c.in_ok-r.r c.in_ok-principal.principal (fields_of (drop (c.in_ok-principal.principal_end + 1) a.line.now)))) →
     let a = c.args in
     asked_fields (fields_of (drop a.at a.line.now))
     ≡ some
-    (asked (request_of c.in-Of.p c.in-Of-at.a c.in-Of-at-2.r) c.in-Of-at-3.principal
-    c.in-Value.resource)
+    (asked (request_of c.in_ok-p.p c.in_ok-a.a c.in_ok-r.r) c.in_ok-principal.principal
+    c.in_ok-resource.resource)
 past-resource c past-principal-here =
     past-principal-here.3
-    ∙ (last_value c.args.line.now (c.in-Of-at-3.principal_end + 1)
+    ∙ (last_value c.args.line.now (c.in_ok-principal.principal_end + 1)
     (λ resource.
     some
-    (asked (request_of c.in-Of.p c.in-Of-at.a c.in-Of-at-2.r) c.in-Of-at-3.principal
+    (asked (request_of c.in_ok-p.p c.in_ok-a.a c.in_ok-r.r) c.in_ok-principal.principal
     resource))
-    _ c.read.ensures c.in-Value.is
+    _ c.read_decimal.ensures c.in_ok-resource.was
     ).1
 
-pub returns-in_default : goal.returns-in_default
-returns-in_default c =
+pub returns-in_err-p : goal.returns-in_err-p
+returns-in_err-p c =
     let a = c.args in
-    number_none a.line.now a.at action_fields c.at.ensures (λ n. refl) c.in_default.is
+    rw c.from_residual.ensures
+    (number_none a.line.now a.at action_fields c.number_at.ensures (λ n. refl) c.in_err-p.was)
 
 pub overflow_add-p_end : goal.overflow_add-p_end
-overflow_add-p_end c = omega (arith, past-p (goal.at.overflow_add-p_end c).In-Of)
+overflow_add-p_end c = omega (arith, past-p (goal.at.overflow_add-p_end c).In_ok-p)
 
-pub returns-in_default-at : goal.returns-in_default-at
-returns-in_default-at c =
-    number_none c.args.line.now (c.in-Of.p_end + 1)
-    (resource_type_fields c.in-Of.p) c.at-2.ensures (λ n. refl) c.in_default-at.is
-    ∙ sym (past-p (goal.at.returns-in_default-at c).In-Of).3
+pub returns-in_err-a : goal.returns-in_err-a
+returns-in_err-a c =
+    rw c.from_residual-in_err-a.ensures
+    (number_none c.args.line.now (c.in_ok-p.p_end + 1)
+    (resource_type_fields c.in_ok-p.p) c.number_at-2.ensures (λ n. refl) c.in_err-a.was
+    ∙ sym (past-p (goal.at.returns-in_err-a c).In_ok-p).3)
 
 pub overflow_add-a_end : goal.overflow_add-a_end
-overflow_add-a_end c = omega (arith, past-a (goal.at.overflow_add-a_end c).In-Of-at)
+overflow_add-a_end c = omega (arith, past-a (goal.at.overflow_add-a_end c).In_ok-a)
 
-pub returns-in_default-at-2 : goal.returns-in_default-at-2
-returns-in_default-at-2 c =
-    number_none c.args.line.now (c.in-Of-at.a_end + 1)
-    (principal_fields c.in-Of.p c.in-Of-at.a) c.at-3.ensures (λ n. refl) c.in_default-at-2.is
-    ∙ sym ((past-p (goal.at.returns-in_default-at-2 c).In-Of).3 ∙ (past-a (goal.at.returns-in_default-at-2 c).In-Of-at).3)
+pub returns-in_err-r : goal.returns-in_err-r
+returns-in_err-r c =
+    rw c.from_residual-in_err-r.ensures
+    (number_none c.args.line.now (c.in_ok-a.a_end + 1)
+    (principal_fields c.in_ok-p.p c.in_ok-a.a) c.number_at-3.ensures (λ n. refl) c.in_err-r.was
+    ∙ sym ((past-p (goal.at.returns-in_err-r c).In_ok-p).3 ∙ (past-a (goal.at.returns-in_err-r c).In_ok-a).3))
 
 pub overflow_add-r_end : goal.overflow_add-r_end
-overflow_add-r_end c = omega (arith, past-r (goal.at.overflow_add-r_end c).In-Of-at-2)
+overflow_add-r_end c = omega (arith, past-r (goal.at.overflow_add-r_end c).In_ok-r)
 
-pub returns-in_default-at-3 : goal.returns-in_default-at-3
-returns-in_default-at-3 c =
-    number_none c.args.line.now (c.in-Of-at-2.r_end + 1)
-    (resource_fields c.in-Of.p c.in-Of-at.a c.in-Of-at-2.r) c.at-4.ensures
-    (λ n. refl) c.in_default-at-3.is
-    ∙ sym ((past-p (goal.at.returns-in_default-at-3 c).In-Of).3 ∙ (past-a (goal.at.returns-in_default-at-3 c).In-Of-at).3 ∙ (past-r (goal.at.returns-in_default-at-3 c).In-Of-at-2).3)
+pub returns-in_err-principal : goal.returns-in_err-principal
+returns-in_err-principal c =
+    rw c.from_residual-in_err-principal.ensures
+    (number_none c.args.line.now (c.in_ok-r.r_end + 1)
+    (resource_fields c.in_ok-p.p c.in_ok-a.a c.in_ok-r.r) c.number_at-4.ensures
+    (λ n. refl) c.in_err-principal.was
+    ∙ sym ((past-p (goal.at.returns-in_err-principal c).In_ok-p).3 ∙ (past-a (goal.at.returns-in_err-principal c).In_ok-a).3 ∙ (past-r (goal.at.returns-in_err-principal c).In_ok-r).3))
 
-pub overflow_add-last : goal.overflow_add-last
-overflow_add-last c = omega (arith, past-principal (goal.at.overflow_add-last c).In-Of-at-3 (past-p (goal.at.overflow_add-last c).In-Of) (past-a (goal.at.overflow_add-last c).In-Of-at) (past-r (goal.at.overflow_add-last c).In-Of-at-2))
+pub overflow_add-principal_end : goal.overflow_add-principal_end
+overflow_add-principal_end c = omega (arith, past-principal (goal.at.overflow_add-principal_end c).In_ok-principal (past-p (goal.at.overflow_add-principal_end c).In_ok-p) (past-a (goal.at.overflow_add-principal_end c).In_ok-a) (past-r (goal.at.overflow_add-principal_end c).In_ok-r))
 
-pub slice_bounds-read-count : goal.slice_bounds-read-count
-slice_bounds-read-count c = omega (arith, past-principal (goal.at.slice_bounds-read-count c).In-Of-at-3 (past-p (goal.at.slice_bounds-read-count c).In-Of) (past-a (goal.at.slice_bounds-read-count c).In-Of-at) (past-r (goal.at.slice_bounds-read-count c).In-Of-at-2))
+pub slice_bounds-read_decimal-count : goal.slice_bounds-read_decimal-count
+slice_bounds-read_decimal-count c = omega (arith, past-principal (goal.at.slice_bounds-read_decimal-count c).In_ok-principal (past-p (goal.at.slice_bounds-read_decimal-count c).In_ok-p) (past-a (goal.at.slice_bounds-read_decimal-count c).In_ok-a) (past-r (goal.at.slice_bounds-read_decimal-count c).In_ok-r))
 
-pub slice_bounds-read-start : goal.slice_bounds-read-start
-slice_bounds-read-start c = omega (arith, past-principal (goal.at.slice_bounds-read-start c).In-Of-at-3 (past-p (goal.at.slice_bounds-read-start c).In-Of) (past-a (goal.at.slice_bounds-read-start c).In-Of-at) (past-r (goal.at.slice_bounds-read-start c).In-Of-at-2))
+pub slice_bounds-read_decimal-start : goal.slice_bounds-read_decimal-start
+slice_bounds-read_decimal-start c = omega (arith, past-principal (goal.at.slice_bounds-read_decimal-start c).In_ok-principal (past-p (goal.at.slice_bounds-read_decimal-start c).In_ok-p) (past-a (goal.at.slice_bounds-read_decimal-start c).In_ok-a) (past-r (goal.at.slice_bounds-read_decimal-start c).In_ok-r))
 
-pub returns-in_default-read : goal.returns-in_default-read
-returns-in_default-read c =
-    last_none c.args.line.now (c.in-Of-at-3.principal_end + 1)
+pub returns-in_err-resource : goal.returns-in_err-resource
+returns-in_err-resource c =
+    rw c.from_residual-in_err-resource.ensures
+    (last_none c.args.line.now (c.in_ok-principal.principal_end + 1)
     (λ resource.
     some
-    (asked (request_of c.in-Of.p c.in-Of-at.a c.in-Of-at-2.r) c.in-Of-at-3.principal
+    (asked (request_of c.in_ok-p.p c.in_ok-a.a c.in_ok-r.r) c.in_ok-principal.principal
     resource))
-    _ c.read.ensures c.in_default-read.is
-    ∙ sym (past-principal (goal.at.returns-in_default-read c).In-Of-at-3 (past-p (goal.at.returns-in_default-read c).In-Of) (past-a (goal.at.returns-in_default-read c).In-Of-at) (past-r (goal.at.returns-in_default-read c).In-Of-at-2)).3
+    _ c.read_decimal.ensures c.in_err-resource.was
+    ∙ sym (past-principal (goal.at.returns-in_err-resource c).In_ok-principal (past-p (goal.at.returns-in_err-resource c).In_ok-p) (past-a (goal.at.returns-in_err-resource c).In_ok-a) (past-r (goal.at.returns-in_err-resource c).In_ok-r)).3)
 
 -- the request type fits a word
 pub overflow_mul-result : goal.overflow_mul-result
 overflow_mul-result c =
-    omega (arith, past-p (goal.at.overflow_mul-result c).In-Of, past-a (goal.at.overflow_mul-result c).In-Of-at, past-r (goal.at.overflow_mul-result c).In-Of-at-2)
+    omega (arith, past-p (goal.at.overflow_mul-result c).In_ok-p, past-a (goal.at.overflow_mul-result c).In_ok-a, past-r (goal.at.overflow_mul-result c).In_ok-r)
 
 pub overflow_add-result : goal.overflow_add-result
 overflow_add-result c =
-    omega (arith, past-p (goal.at.overflow_add-result c).In-Of, past-a (goal.at.overflow_add-result c).In-Of-at, past-r (goal.at.overflow_add-result c).In-Of-at-2)
+    omega (arith, past-p (goal.at.overflow_add-result c).In_ok-p, past-a (goal.at.overflow_add-result c).In_ok-a, past-r (goal.at.overflow_add-result c).In_ok-r)
 
 pub overflow_mul-result-2 : goal.overflow_mul-result-2
 overflow_mul-result-2 c =
-    omega (arith, past-p (goal.at.overflow_mul-result-2 c).In-Of, past-a (goal.at.overflow_mul-result-2 c).In-Of-at, past-r (goal.at.overflow_mul-result-2 c).In-Of-at-2)
+    omega (arith, past-p (goal.at.overflow_mul-result-2 c).In_ok-p, past-a (goal.at.overflow_mul-result-2 c).In_ok-a, past-r (goal.at.overflow_mul-result-2 c).In_ok-r)
 
 pub overflow_add-result-2 : goal.overflow_add-result-2
 overflow_add-result-2 c =
-    omega (arith, past-p (goal.at.overflow_add-result-2 c).In-Of, past-a (goal.at.overflow_add-result-2 c).In-Of-at, past-r (goal.at.overflow_add-result-2 c).In-Of-at-2)
+    omega (arith, past-p (goal.at.overflow_add-result-2 c).In_ok-p, past-a (goal.at.overflow_add-result-2 c).In_ok-a, past-r (goal.at.overflow_add-result-2 c).In_ok-r)
 
 pub returns : goal.returns
-returns c = sym (past-resource (goal.at.returns c).In-Value (past-principal (goal.at.returns c).In-Of-at-3 (past-p (goal.at.returns c).In-Of) (past-a (goal.at.returns c).In-Of-at) (past-r (goal.at.returns c).In-Of-at-2)))
+returns c = sym (past-resource (goal.at.returns c).In_ok-resource (past-principal (goal.at.returns c).In_ok-principal (past-p (goal.at.returns c).In_ok-p) (past-a (goal.at.returns c).In_ok-a) (past-r (goal.at.returns c).In_ok-r)))

@@ -1,11 +1,12 @@
 -- `value_text::rows::first_misplaced` meets its contract: the least place of the rows that are passed, with those that are left, is that of all.
-use Prim.Native.Nat.{◌<◌, ◌≤◌}
+use Prim.Native.Nat.{◌<◌}
 use native.Mathlib.Omega.{arith}
 use mathlib.Core.Path.{◌≡◌, refl, ◌∙◌}
 use lib.ListN.{length, length-set}
-use Rattle.value_text.specs.RowLaws.{ordering_none, ordering_all, ordering_depth, ordering_lower, ordering_kept}
+use Rattle.rules.specs.Facts.{compared}
+use Rattle.value_text.specs.RowLaws.{ordering_none, ordering_found, ordering_none_found, ordering_in_turn, ordering_depth, ordering_lower, ordering_kept}
 use Rattle.value_text.proofs.rows.first_misplaced.Goals as goal
-use Rattle.value_text.proofs.rows.first_misplaced.Goals.{At-loop-i}
+use Rattle.value_text.proofs.rows.first_misplaced.Goals.{At-loop-i, in-Some, in_default}
 
 pub bounds-levels-0 : goal.bounds-levels-0
 bounds-levels-0 c = omega (arith, c.requires.1)
@@ -46,13 +47,23 @@ open_levels-requires c =
 pub loop-i-preserved : goal.loop-i-preserved
 loop-i-preserved c =
     let fits = room (goal.at.loop-i-preserved c).At-loop-i in
-    let found = rw c.depth.ensures at c.misplaced-next.ensures in
-    let lower = λ (h : c.misplaced-next.result < c.loop-i.least). ordering_lower c.loop-i.invariant.1 c.loop-i-test.true fits found c.open_levels.ensures h in
-    let same = λ (h : c.loop-i.least ≤ c.misplaced-next.result). ordering_kept c.loop-i.invariant.1 c.loop-i-test.true fits found c.open_levels.ensures h in
-    (c.open_levels.auto.levels ∙ c.loop-i.invariant.0, grind (arith, lower, same))
+    let found = rw c.depth.ensures at c.misplaced.ensures in (
+      c.open_levels.auto.levels ∙ c.loop-i.invariant.0,
+      elim c.match-misplaced.branch [
+        | in-Some w ↦
+            compared w.in-Some.next c.loop-i.least
+            (λ h.
+            let same : c.match-misplaced.least ≡ w.in-Some.next = omega (arith, w.least-is, w.min-least.ensures) in
+            rw same (ordering_lower c.loop-i.invariant.1 c.loop-i-test.true fits found c.open_levels.ensures w.in-Some.is h))
+            (λ h.
+            let same : c.match-misplaced.least ≡ c.loop-i.least = omega (arith, w.least-is, w.min-least.ensures) in
+            rw same (ordering_kept c.loop-i.invariant.1 c.loop-i-test.true fits found c.open_levels.ensures w.in-Some.is h))
+        | in_default w ↦ rw w.least-is (ordering_in_turn c.loop-i.invariant.1 c.loop-i-test.true fits found c.open_levels.ensures w.in_default.is)
+      ],
+    )
 
-pub shape_of-levels : goal.shape_of-levels
-shape_of-levels c = kept (goal.at.shape_of-levels c).At-loop-i
+pub returns-then-least-words : goal.returns-then-least-words
+returns-then-least-words c = ordering_found c.loop-i.invariant.1 c.loop-i-test.false c.if-least-words.true
 
-pub returns : goal.returns
-returns c = ordering_all c.loop-i.invariant.1 c.loop-i-test.false
+pub returns-else-least-words : goal.returns-else-least-words
+returns-else-least-words c = ordering_none_found c.loop-i.invariant.1 c.loop-i-test.false c.if-least-words.false

@@ -1,4 +1,3 @@
-use Prim.Native.Nat.{◌-◌}
 use mathlib.Core.Path.{◌≡◌}
 use lib.ListN.{length}
 use Rattle.value_text.specs.RowLaws.{Ordering}
@@ -6,6 +5,3 @@ use Rattle.value_text.proofs.rows.first_misplaced.Given as goal
 
 abbrev pub invariant-loop-i : goal.invariant-loop-i
 invariant-loop-i l = (length l.levels ≡ length l.initial.levels) × Ordering l.words l.levels l.least l.i
-
-abbrev pub decreases-loop-i : goal.decreases-loop-i
-decreases-loop-i l = length l.words - l.i

@@ -12,27 +12,27 @@ use Rattle.values.specs.Lawful.{levels_in}
 use Rattle.value_text.specs.Fields.{row_read}
 use Rattle.value_text.specs.RowLaws.{taken_depth, row_passed}
 use Rattle.value_text.proofs.rows.take_row.Goals as goal
-use Rattle.value_text.proofs.rows.take_row.Goals.{Else-not-may_come, In-Of}
+use Rattle.value_text.proofs.rows.take_row.Goals.{Else-not-may_come, In_ok-row}
 
 -- the row that the line was read as
-row-read : (c : In-Of) →
-    value_row_of (fields_of c.args.line.now) ≡ some (value_row_in c.in-Of.row.word)
-row-read c = sym c.parse.ensures ∙ ap row_read c.in-Of.is
+row-read : (c : In_ok-row) →
+    value_row_of (fields_of c.args.line.now) ≡ some (value_row_in c.in_ok-row.row.word)
+row-read c = sym c.parse.ensures ∙ ap row_read c.in_ok-row.was
 
 -- past the test it may come
 row-comes : (c : Else-not-may_come) →
     let a = c.args in
-    may_come (levels_in (take a.len a.levels.now)) (value_row_in c.in-Of.row.word) ≡ true
+    may_come (levels_in (take a.len a.levels.now)) (value_row_in c.in_ok-row.row.word) ≡ true
 row-comes c = sym c.may_come.ensures ∙ c.if-not-may_come.false
 
-pub returns-in_default : goal.returns-in_default
-returns-in_default c = rw (sym c.parse.ensures ∙ ap row_read c.in_default.is) tt
+pub returns-in_err-row : goal.returns-in_err-row
+returns-in_err-row c = rw (c.from_residual.ensures, sym c.parse.ensures ∙ ap row_read c.in_err-row.was) tt
 
 pub slice_bounds-may_come-end-2 : goal.slice_bounds-may_come-end-2
 slice_bounds-may_come-end-2 c = sym (length-take-le _ _ (omega (arith, c.requires.1)))
 
 pub returns-then-not-may_come : goal.returns-then-not-may_come
-returns-then-not-may_come c = rw (row-read (goal.at.returns-then-not-may_come c).In-Of) (sym c.may_come.ensures ∙ c.if-not-may_come.true)
+returns-then-not-may_come c = rw (row-read (goal.at.returns-then-not-may_come c).In_ok-row) (sym c.may_come.ensures ∙ c.if-not-may_come.true)
 
 pub open_levels-requires : goal.open_levels-requires
 open_levels-requires c =
@@ -43,5 +43,5 @@ open_levels-requires c =
 pub returns : goal.returns
 returns c =
     let a = c.args in
-    row_passed a.line.now a.words.now a.levels.now a.at a.len _ c.requires.1 (row-comes (goal.at.returns c).Else-not-may_come) (row-read (goal.at.returns c).In-Of)
+    row_passed a.line.now a.words.now a.levels.now a.at a.len _ c.requires.1 (row-comes (goal.at.returns c).Else-not-may_come) (row-read (goal.at.returns c).In_ok-row)
     c.open_levels.ensures
