@@ -1,23 +1,16 @@
 -- What the fields of a schema's line are read as, for the contracts of `line`.
-use Rattle.std.specs.Prelude.{ℕ, ◌≤◌, ◌≡◌, List, [], ◌∷◌, length, take, drop}
+use Rattle.std.specs.Prelude.{ℕ, ◌≤◌, ◌≡◌, List, [], ◌∷◌, length, take, drop, Option as Maybe, Some, None}
 use Rattle.std.proofs.Math.Option.{Option, none, some}
 use Rattle.rules.specs.Text.{fields_of}
 use Rattle.rules.specs.Listing.{◌>>=◌}
 use Rattle.rules.specs.Schema.{Item, ascending, names_of, type_of}
 use Rattle.schema.specs.Items.{item_for}
-use Rattle.schema_text.specs.declared.line.ParsedItem.{ParsedItem}
-use Rattle.schema_text.specs.declared.line.ParsedItem.TheVariants.{Of, Bad}
-use Rattle.schema_text.specs.declared.line.Tag.{Tag}
-use Rattle.schema_text.specs.declared.line.Tag.TheVariants.{Of as OfTag, Other}
+use Rattle.schema.specs.declared.item.Item.{Item as ItemRead}
 
 -- what a line was read as
-abbrev pub item_read : ParsedItem → Option Item
-item_read (Of it) = some (item_for it)
-item_read Bad = none
-
-abbrev pub tag_read : Tag → Option ℕ
-tag_read (OfTag place) = some place
-tag_read Other = none
+abbrev pub item_read : Maybe ItemRead → Option Item
+item_read (Some it) = some (item_for it)
+item_read None = none
 
 -- what the names of an entity type give
 abbrev pub named_by : List (List ℕ) → Option ℕ

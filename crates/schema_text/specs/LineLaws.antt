@@ -1,15 +1,20 @@
 -- Laws of the fields of a schema's lines. No contract cites this file.
-use Rattle.std.specs.Prelude.{ℕ, ◌+◌, ◌≤◌, ◌<◌, true, List, [], ◌∷◌, ◌≢◌, ◌≡◌, refl, length, drop}
-use Rattle.std.proofs.Common.{add-one, arith, sym, ap, ◌∙◌, ne_eqb, le-leb, drop-cons}
+use Rattle.std.specs.Prelude.{ℕ, ◌+◌, ◌≤◌, ◌<◌, true, List, [], ◌∷◌, ◌≢◌, ◌≡◌, refl, length, drop, false, Option as Maybe, Some, None}
+use Rattle.std.proofs.Common.{add-one, arith, sym, ap, ◌∙◌, ne_eqb, le-leb, drop-cons, length-drop, take_all}
 use Rattle.std.proofs.Math.Option.{none, some, some-injective}
 use Rattle.rules.specs.Facts.{by_option}
-use Rattle.rules.specs.Text.{decimal_of, fields_of}
-use Rattle.rules.proofs.TextLaws.{decimal_written}
+use Rattle.rules.specs.Text.{decimal_of, fields_of, TAB}
+use Rattle.rules.proofs.TextLaws.{decimal_written, parted_some}
 use Rattle.rules.specs.Listing.{is_letter}
 use Rattle.rules.proofs.ListingLaws.{bind_some}
 use Rattle.text.proofs.NameLaws.{ascending_first}
 use Rattle.rules.specs.Schema.{ascending, names_of, value_of, type_of, item_of}
-use Rattle.schema_text.specs.Fields.{named_by, fields_after_kind}
+use Rattle.schema_text.specs.Fields.{named_by, fields_after_kind, KindEnds}
+use Rattle.std.specs.Option.{unwrap_or, is_some}
+use Rattle.std.proofs.lemmas.Bool.{false≢true}
+use Rattle.std.proofs.Math.Nat.{sub-zero}
+use Rattle.text.specs.Answers.{field_at}
+use Rattle.text.proofs.FieldLaws.{field_ends, fields_whole}
 
 -- ---- the names of an entity type
 
@@ -56,22 +61,47 @@ behind_none (tab ∷ more) none_left = absurd (omega arith)
 pub behind_tab : (line : List ℕ) (at : ℕ) → at < length line → fields_after_kind (drop at line) ≡ fields_of (drop (at + 1) line)
 behind_tab line at h = rw (drop-cons line at 0 h, add-one)
 
+-- where the kind ends
+pub kind_ends : (rest : List ℕ) (r : Maybe ℕ) → r ≡ field_at rest 0 → KindEnds rest (unwrap_or r (length rest))
+kind_ends rest None e = (
+  omega arith,
+  fields_whole rest None e refl
+      ∙ rw (take_all (length rest) rest (omega arith), behind_none (drop (length rest) rest) (omega (arith, length-drop (length rest) rest))),
+)
+kind_ends rest (Some end) e =
+    let ends = field_ends rest 0 end (Some end) e refl in
+    (omega (arith, ends.1), ends.2 ∙ rw (sub-zero, behind_tab rest end ends.1))
+
 -- an entity type has its names
 pub value_names : (kind : ℕ) (field : List ℕ) (fields : List (List ℕ)) → kind ≡ 9 → value_of kind (field ∷ fields) ≡ named_by (field ∷ fields)
 value_names kind field [] e = rw e (sym (named_one field))
 value_names kind field (next ∷ fields) e = rw e
 
 -- a set has one element type
-pub value_one : (kind : ℕ) (field : List ℕ) → kind ≡ 6 → value_of kind (field ∷ []) ≡ decimal_of field
-value_one kind field e = rw e
+pub value_one : (kind : ℕ) (more : List ℕ) (r : Maybe ℕ) → r ≡ field_at more 0 → is_some r ≡ false → kind ≡ 6 → value_of kind (fields_of more) ≡ decimal_of more
+value_one kind more None e alone k = rw (fields_whole more None e refl, k)
+value_one kind more (Some end) e alone k = absurd (false≢true (sym alone))
 
-pub value_more : (kind : ℕ) (field next : List ℕ) (fields : List (List ℕ)) → kind ≢ 9 → value_of kind (field ∷ next ∷ fields) ≡ none
-value_more kind field next fields h = rw (ne_eqb kind 9 h)
+pub value_more : (kind : ℕ) (more : List ℕ) (r : Maybe ℕ) → r ≡ field_at more 0 → is_some r ≡ true → kind ≢ 9 → value_of kind (fields_of more) ≡ none
+value_more kind more None e others k = absurd (false≢true others)
+value_more kind more (Some end) e others k =
+    let rest = parted_some TAB (drop (end + 1) more) in
+    rw ((field_ends more 0 end (Some end) e refl).2, rest.2, ne_eqb kind 9 k)
 
 -- any other kind has nothing more
 pub value_none : (kind : ℕ) (field : List ℕ) (fields : List (List ℕ)) → kind ≢ 9 → kind ≢ 6 → value_of kind (field ∷ fields) ≡ none
 value_none kind field [] h k = rw (ne_eqb kind 6 k, ne_eqb kind 9 h)
 value_none kind field (next ∷ fields) h k = rw (ne_eqb kind 9 h)
+
+-- ---- whether a field is the last
+
+pub last_field : (r : Maybe ℕ) → is_some r ≡ false → r ≡ None
+last_field None e = refl
+last_field (Some end) e = absurd (false≢true (sym e))
+
+pub field_before : (r : Maybe ℕ) → is_some r ≡ true → (end : ℕ) × (r ≡ Some end)
+field_before None e = absurd (false≢true e)
+field_before (Some end) e = (end, refl)
 
 -- ---- a type's line
 

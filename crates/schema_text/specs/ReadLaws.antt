@@ -1,5 +1,5 @@
 -- Laws of the lines that a schema's text is read as. No contract cites this file.
-use Rattle.std.specs.Prelude.{ℕ, ◌+◌, ◌-◌, ◌≤◌, ◌<◌, Bool, true, false, cond, List, [], ◌∷◌, ◌++◌, map, ◌≡◌, refl, eqb, leb, length, take, drop, set}
+use Rattle.std.specs.Prelude.{ℕ, ◌+◌, ◌-◌, ◌≤◌, ◌<◌, Bool, true, false, cond, List, [], ◌∷◌, ◌++◌, map, ◌≡◌, refl, eqb, leb, length, take, drop, set, Ok}
 use Rattle.std.proofs.Common.{add_comm, arith, ap, ◌∙◌, length-set, length-append}
 use Rattle.std.proofs.lemmas.List.{map-append, length-map}
 use Rattle.std.proofs.Math.Option.{Option, none, some, none-ne-some, some-injective}
@@ -20,7 +20,7 @@ use Rattle.text.proofs.FoldLaws.{CameTo, came_start, came_end, came_cut, came_re
 use Rattle.text.specs.declared.Line.{Line}
 use Rattle.text.specs.declared.Line.TheVariants.{Whole}
 use Rattle.words.specs.Runs.{refusing}
-use Rattle.words.specs.Replies.{Done}
+use Rattle.words.specs.Replies.{Done, Refused}
 use Rattle.text.proofs.FieldLaws.{place_within}
 use Rattle.words.specs.SeqLaws.{sets_snoc, set_before}
 use Rattle.schema.specs.declared.known.Known.{Known as Kept}
@@ -28,7 +28,6 @@ use Rattle.schema.specs.Items.{item_word}
 use Rattle.schema_text.specs.Outcomes.{storing_items, read_schema_in}
 use Rattle.schema.specs.Bounds.{known_for, Bounded}
 use Rattle.schema_text.specs.Reads.{kept_at, kept_from, ItemRoom, LinePassed, RefusedLine, how_many, ItemsRead}
-use Rattle.schema_text.specs.declared.reading.GotItems.TheVariants.{Items, Refused}
 use Rattle.schema.specs.KnownLaws.{most-lines, bounded_beyond, counted_beyond}
 use Rattle.schema_text.specs.LineLaws.{named_most}
 
@@ -191,7 +190,7 @@ module _ {text : List ℕ} {stores : Bool} {start : List ℕ} {kept : Kept} {out
   unchanged e = reading.in_out ∙ rw e
 
   -- no line is left
-  pub items_all : length text ≤ at → ItemsRead text stores start out (Items count)
+  pub items_all : length text ≤ at → ItemsRead text stores start out (Ok count)
   items_all h =
       let all : read_schema text ≡ accepted reading.passed = text_given (came_end reading.came h) in
       record {
@@ -202,7 +201,7 @@ module _ {text : List ℕ} {stores : Bool} {start : List ℕ} {kept : Kept} {out
       }
 
   -- the text is refused
-  refused_here : read_schema text ≡ refused 1 count → {out' : List ℕ} → out' ≡ out → ItemsRead text stores start out' (Refused count)
+  refused_here : read_schema text ≡ refused 1 count → {out' : List ℕ} → out' ≡ out → ItemsRead text stores start out' (Refused 1 count)
   refused_here r same = record {
     answered = rw r;
     few = λ counted e. absurd (let z : ◌≡◌ {A = ℕ} 0 1 = cc in omega arith);
@@ -211,13 +210,13 @@ module _ {text : List ℕ} {stores : Bool} {start : List ℕ} {kept : Kept} {out
   }
 
   -- the next line has no LF
-  pub reading_cut : {r : Line} → r ≡ line_at text at → ((end : ℕ) → r ≡ Whole end → ⊥) → at < length text → ItemsRead text stores start out (Refused count)
+  pub reading_cut : {r : Line} → r ≡ line_at text at → ((end : ℕ) → r ≡ Whole end → ⊥) → at < length text → ItemsRead text stores start out (Refused 1 count)
   reading_cut {r} ensured unended more = refused_here (text_given (came_cut reading.came more (cut_line text at r ensured unended))) refl
 
   module _ {end : ℕ} {r : Line} (ensured : r ≡ line_at text at) (e : r ≡ Whole end) where
     -- the next line is refused
     pub items_stopped : {out' : List ℕ} → RefusedLine (known_for kept) (item_of (fields_of (take (end - at) (drop at text)))) × (out' ≡ out) →
-        ItemsRead text stores start out' (Refused count)
+        ItemsRead text stores start out' (Refused 1 count)
     items_stopped (stopped, same) =
         refused_here
         (text_given (came_refused reading.came (whole_line text at end r ensured e) (rw (line_refused count (known_for kept) _ stopped))))

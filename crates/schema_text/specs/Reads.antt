@@ -1,5 +1,5 @@
 -- What reading a schema keeps from line to line, for the contracts of `reading`.
-use Rattle.std.specs.Prelude.{ℕ, ◌+◌, ◌≤◌, Bool, true, false, cond, List, map, ◌≡◌, length, set}
+use Rattle.std.specs.Prelude.{ℕ, ◌+◌, ◌≤◌, Bool, true, false, cond, List, map, ◌≡◌, length, set, Option as Maybe, Some, None, Result, Ok, Err}
 use Rattle.std.proofs.Math.Option.{Option, none, some}
 use Rattle.std.proofs.lemmas.List.Edits.{sets}
 use Rattle.rules.specs.Numbers.{Answer, accepted, refused}
@@ -8,10 +8,7 @@ use Rattle.rules.specs.Schema.{Item, Known, item_of, fits, beyond, read_schema}
 use Rattle.schema.specs.Items.{item_word}
 use Rattle.schema.specs.Bounds.{known_for, most_lines, Bounded}
 use Rattle.schema.specs.declared.known.Known.{Known as Kept}
-use Rattle.schema_text.specs.declared.reading.TookItem.{TookItem}
-use Rattle.schema_text.specs.declared.reading.TookItem.TheVariants.{Next, Refused as Stopped}
-use Rattle.schema_text.specs.declared.reading.GotItems.{GotItems}
-use Rattle.schema_text.specs.declared.reading.GotItems.TheVariants.{Items, Refused}
+use Rattle.words.specs.declared.Refusal.{Refusal}
 
 -- a buffer with a word at a place, where words are stored at all
 abbrev pub kept_at : Bool → List ℕ → ℕ → ℕ → List ℕ
@@ -41,22 +38,22 @@ abbrev pub RefusedLine : Known → Option Item → Type 0
 RefusedLine known none = Unit
 RefusedLine known (some it) = fits known it ≡ false
 
-abbrev pub ItemTaken : ℕ → Kept → List ℕ → Bool → List ℕ → List ℕ → TookItem → Type 0
-ItemTaken count kept line stores out out' (Next next) = LinePassed count kept line stores out out' next
-ItemTaken count kept line stores out out' Stopped = RefusedLine (known_for kept) (item_of (fields_of line)) × (out' ≡ out)
+abbrev pub ItemTaken : ℕ → Kept → List ℕ → Bool → List ℕ → List ℕ → Maybe Kept → Type 0
+ItemTaken count kept line stores out out' (Some next) = LinePassed count kept line stores out out' next
+ItemTaken count kept line stores out out' None = RefusedLine (known_for kept) (item_of (fields_of line)) × (out' ≡ out)
 
 -- how many items a text has, or its refusal
 abbrev pub how_many : Answer (List Item) → Answer ℕ
 how_many (accepted items) = accepted (length items)
 how_many (refused number place) = refused number place
 
-abbrev pub items_got : GotItems → Answer ℕ
-items_got (Items count) = accepted count
-items_got (Refused place) = refused 1 place
+abbrev pub items_got : Result ℕ Refusal → Answer ℕ
+items_got (Ok count) = accepted count
+items_got (Err why) = refused why.number why.place
 
 -- What reading a text answers and leaves: where nothing is stored the buffer stays, and otherwise the words of an accepted text stand in it.
-pub record ItemsRead (text : List ℕ) (stores : Bool) (out out' : List ℕ) (r : GotItems) : Type 0 where
+pub record ItemsRead (text : List ℕ) (stores : Bool) (out out' : List ℕ) (r : Result ℕ Refusal) : Type 0 where
   pub answered : items_got r ≡ how_many (read_schema text)
-  pub few : (count : ℕ) → r ≡ Items count → count + 1 ≤ 142337
+  pub few : (count : ℕ) → r ≡ Ok count → count + 1 ≤ 142337
   pub judged : stores ≡ false → out' ≡ out
   pub left : (items : List Item) → read_schema text ≡ accepted items → out' ≡ kept_from stores out (map item_word items)

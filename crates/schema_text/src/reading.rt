@@ -3,53 +3,38 @@ ghost use Rattle.std.specs.Prelude.{◌≡◌, ◌+◌, ◌≤◌, ◌<◌, leng
 ghost use Rattle.schema_text.specs.Outcomes.{read_schema_in};
 ghost use Rattle.schema_text.specs.Reads.{ItemRoom, ItemTaken, ItemsRead, kept_at};
 
-use crate::line::{ParsedItem, parse};
+use crate::line::parse;
 use schema::{Known, Schema};
 use text::Line;
 use words::Refusal;
-
-// What a line gives: where the schema has come to, or that it is not of the stated form or may not stand there.
-#[derive(Drop)]
-enum TookItem {
-    Next(Known),
-    Refused,
-}
-
-// What a text gives: how many items, or the line of the refusal.
-#[derive(Drop)]
-enum GotItems {
-    Items(u64),
-    Refused(u64),
-}
 
 // Stores a word, where words are stored at all.
 fn keep_word(out: &mut [u64], at: usize, word: u64, stores: bool)
     requires { at < length out.old }
     ensures { out.new ≡ kept_at stores out.old at word }
 {
-    if !stores {
-        return;
+    if stores {
+        out[at] = word;
     }
-    out[at] = word;
 }
 
-// Takes one line: its word goes behind the others, where words are stored.
-fn take_line(line: &[u8], out: &mut [u64], count: u64, known: Known, stores: bool) -> TookItem
+// Takes one line: its word goes behind the others, where words are stored. Answers where the schema has come to, if the line is of the stated
+// form and may stand there.
+fn take_line(line: &[u8], out: &mut [u64], count: u64, known: Known, stores: bool) -> Option<Known>
     requires { ItemRoom count known out.old }
     ensures { ItemTaken count known line.now stores out.old out.new result }
 {
-    let ParsedItem::Of(item) = parse(line) else {
-        return TookItem::Refused;
-    };
+    let item = parse(line)?;
     if !known.fits(item) {
-        return TookItem::Refused;
+        return None;
     }
     keep_word(out, count as usize + 1, item.word(), stores);
-    TookItem::Next(known.beyond(item))
+    Some(known.beyond(item))
 }
 
-// Reads all lines of a text: judges them, and stores their words from place 1 on only where that is asked for.
-fn read_items(text: &[u8], out: &mut [u64], stores: bool) -> GotItems
+// Reads all lines of a text: judges them, and stores their words from place 1 on only where that is asked for. Answers how many items there
+// are, or the refusal of a line.
+fn read_items(text: &[u8], out: &mut [u64], stores: bool) -> Result<u64, Refusal>
     requires { 142337 ≤ length out.old }
     ensures { ItemsRead text.now stores out.old out.new result }
 {
@@ -57,22 +42,18 @@ fn read_items(text: &[u8], out: &mut [u64], stores: bool) -> GotItems
     let mut count: u64 = 0;
     let mut at = 0;
     while at < text.len() {
-        let Line::Whole(end) = Line::at(text, at) else {
-            return GotItems::Refused(count);
+        let refusal = Refusal {
+            number: 1,
+            place: count,
         };
-        let took = take_line(&text[at..end], out, count, known, stores);
-        match took {
-            TookItem::Next(next) => {
-                known = next;
-            }
-            TookItem::Refused => {
-                return GotItems::Refused(count);
-            }
-        }
+        let Line::Whole(end) = Line::at(text, at) else {
+            return Err(refusal);
+        };
+        known = take_line(&text[at..end], out, count, known, stores).ok_or(refusal)?;
         at = end + 1;
         count += 1;
     }
-    GotItems::Items(count)
+    Ok(count)
 }
 
 // Reads a schema's text into a state: judges it in a first pass and stores it in a second, so that a refusal leaves the state as it was.
@@ -82,12 +63,8 @@ pub fn read_schema(text: &[u8], out: &mut [u64]) -> Result<(), Refusal>
     if out.len() < Schema::WORDS {
         return Err(Refusal::SHORT);
     }
-    match read_items(text, out, false) {
-        GotItems::Refused(line) => Err(Refusal { number: 1, place: line }),
-        GotItems::Items(count) => {
-            read_items(text, out, true);
-            out[0] = count;
-            Ok(())
-        }
-    }
+    let count = read_items(text, out, false)?;
+    read_items(text, out, true)?;
+    out[0] = count;
+    Ok(())
 }

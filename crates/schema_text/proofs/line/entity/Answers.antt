@@ -15,10 +15,10 @@ returns-then-not-is_letter c = rw (sym c.is_letter.ensures ∙ c.if-not-is_lette
 an-e : (c : Else-not-is_letter) → is_letter 69 c.args.word.now ≡ true
 an-e c = sym c.is_letter.ensures ∙ c.if-not-is_letter.false
 
-pub returns-in_default : goal.returns-in_default
+pub returns-in_err-key : goal.returns-in_err-key
 unfolding item_of
-returns-in_default c = rw (an-e (goal.at.returns-in_default c).Else-not-is_letter, sym c.read.ensures ∙ ap number_of c.in_default.is)
+returns-in_err-key c = rw (c.from_residual.ensures, an-e (goal.at.returns-in_err-key c).Else-not-is_letter, sym c.read_decimal.ensures ∙ ap number_of c.in_err-key.was)
 
 pub returns : goal.returns
 unfolding item_of
-returns c = rw (an-e (goal.at.returns c).Else-not-is_letter, sym c.read.ensures ∙ ap number_of c.in-Value.is)
+returns c = rw (an-e (goal.at.returns c).Else-not-is_letter, sym c.read_decimal.ensures ∙ ap number_of c.in_ok-key.was)
