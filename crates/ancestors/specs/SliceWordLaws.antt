@@ -1,10 +1,10 @@
 -- Laws of looking an entity up in words. No contract cites this file.
-use Prim.Native.Nat.{ℕ, zero, suc, ◌+◌, ◌-◌, ◌≤◌, ◌<◌}
+use Prim.Native.Nat.{ℕ, zero, suc, ◌+◌, ◌-◌, ◌≤◌, ◌<◌, min}
 use Rattle.std.proofs.Common.{arith, sym, ap, ◌∙◌, length-drop, drop-cons, drop-drop, take_all, eq-eqb, ne_eqb}
 use Rattle.std.specs.Prelude.{◌≡◌, cond, List, [], eqb, length, take, drop, get_or}
 use Rattle.std.proofs.Math.Option.{Option, some}
 use Rattle.std.proofs.Math.ListN.{drop_of_length-le}
-use Rattle.rules.specs.Facts.{capped, capped_min, compared}
+use Rattle.rules.specs.Facts.{compared}
 use Rattle.rules.specs.Values.{Entity}
 use Rattle.rules.specs.Loading.{loaded_as}
 use Rattle.answers.specs.Answers.{head_in, entity_in}
@@ -13,12 +13,12 @@ use Rattle.std.specs.Prelude.{Some, None}
 use denote.Ref.{Bor}
 
 -- what is behind the end is nothing, from wherever it is looked at
-drop_capped : (words : List ℕ) (n : ℕ) → drop n words ≡ drop (capped (length words) n) words
-drop_capped words n =
+drop_short : (words : List ℕ) (n : ℕ) → drop n words ≡ drop (min n (length words)) words
+drop_short words n =
     compared n (length words)
-    (λ h. let e : capped (length words) n ≡ n = omega (arith, capped_min (length words) n) in rw e)
+    (λ h. let e : min n (length words) ≡ n = omega arith in rw e)
     (λ h.
-    let e : capped (length words) n ≡ length words = omega (arith, capped_min (length words) n) in
+    let e : min n (length words) ≡ length words = omega arith in
     let here : length words ≤ length words = omega arith in
     rw (e, drop_of_length-le words h) (sym (drop_of_length-le words here)))
 
@@ -39,24 +39,21 @@ module _ {words : List ℕ} {id at : ℕ} (passing : Passing words id at) where
       go (suc most) = tt
 
   module _ (more : at < length words) (start end : ℕ)
-      (is-start : start ≡ capped (length words) (at + 1 + (head_in (get_or words at 0)).parents))
-      (is-end : end ≡ capped (length words) (start + (head_in (get_or words at 0)).rows)) where
+      (is-start : start ≡ min (at + 1 + (head_in (get_or words at 0)).parents) (length words))
+      (is-end : end ≡ min (start + (head_in (get_or words at 0)).rows) (length words)) where
     -- the place after it
     pub past_entity : (at < end) × (end ≤ length words) × (start ≤ end)
     past_entity =
-        let first = capped_min (length words) (at + 1 + (head_in (get_or words at 0)).parents) in
-        let second = capped_min (length words) (start + (head_in (get_or words at 0)).rows) in
         (omega arith, omega arith, omega arith)
 
     -- its rows, and what is behind them
     starts : drop (head_in (get_or words at 0)).parents (drop (suc at) words) ≡ drop start words
     starts =
         let place : suc at + (head_in (get_or words at 0)).parents ≡ at + 1 + (head_in (get_or words at 0)).parents = omega arith in
-        drop-drop (head_in (get_or words at 0)).parents (suc at) words ∙ rw (place, is-start) (drop_capped words _)
+        drop-drop (head_in (get_or words at 0)).parents (suc at) words ∙ rw (place, is-start) (drop_short words _)
 
     rows_there : take (head_in (get_or words at 0)).rows (drop start words) ≡ take (end - start) (drop start words)
     rows_there =
-        let second = capped_min (length words) (start + (head_in (get_or words at 0)).rows) in
         compared (start + (head_in (get_or words at 0)).rows) (length words)
         (λ h. let e : end - start ≡ (head_in (get_or words at 0)).rows = omega arith in rw e)
         (λ h.
@@ -70,7 +67,7 @@ module _ {words : List ℕ} {id at : ℕ} (passing : Passing words id at) where
         sym (drop-drop (head_in (get_or words at 0)).rows (head_in (get_or words at 0)).parents (drop (suc at) words))
         ∙ ap (drop (head_in (get_or words at 0)).rows) starts
         ∙ drop-drop (head_in (get_or words at 0)).rows start words
-        ∙ rw is-end (drop_capped words (start + (head_in (get_or words at 0)).rows))
+        ∙ rw is-end (drop_short words (start + (head_in (get_or words at 0)).rows))
 
     -- the entities from here on
     abbrev from_here : ℕ → Option Entity

@@ -3,7 +3,6 @@ ghost use Rattle.rules.specs.Loading.{loaded_as};
 ghost use Rattle.ancestors.specs.SliceWords.{slice_in, FoundAs};
 
 use answers::Head;
-use words::at_most;
 
 // The rows of an entity's attributes, if it is loaded.
 pub fn find_loaded(slice: &[u64], id: u64) -> Option<&[u64]>
@@ -13,8 +12,8 @@ pub fn find_loaded(slice: &[u64], id: u64) -> Option<&[u64]>
     let mut at = 0;
     while at < slice.len() {
         let head = Head::of(slice[at]);
-        let start = at_most(at as u64 + 1 + head.parents as u64, room);
-        let end = at_most(start + head.rows as u64, room);
+        let start = (at as u64 + 1 + head.parents as u64).min(room);
+        let end = (start + head.rows as u64).min(room);
         if head.flag == id {
             return Some(&slice[start as usize..end as usize]);
         }

@@ -1,8 +1,8 @@
 -- Laws of lent sets of ancestor ids, of which the first are kept. No contract cites this file.
-use Rattle.std.specs.Prelude.{Ok, Err, ℕ, zero, suc, ◌+◌, ◌≤◌, ◌≡◌, refl, List, [], ◌∷◌, ltb, length, take, drop, get_or}
+use Rattle.std.specs.Prelude.{Ok, Err, ℕ, zero, suc, ◌+◌, ◌≤◌, min, ◌≡◌, refl, List, [], ◌∷◌, ltb, length, take, drop, get_or}
 use Rattle.std.proofs.Common.{arith, ap, ◌∙◌, length-take}
 use Rattle.std.proofs.Math.Option.{Option}
-use Rattle.rules.specs.Facts.{by_test, capped, capped_min}
+use Rattle.rules.specs.Facts.{by_test}
 use Rattle.rules.specs.Numbers.{Answer, accepted, refused}
 use Rattle.rules.specs.Loading.{done, refused_at, summed, Load}
 use Rattle.rules.specs.LoadCalls.{ended}
@@ -61,13 +61,13 @@ front_summed size place sum (suc k) (x ∷ items) e =
 
 module _ (words : List ℕ) (count asked : ℕ) (read : AllRead (lent_from Sets 0 count words)) where
   -- as many are kept as rows were asked, or all
-  pub kept_counted : capped asked count ≡ length (take asked (lent_items Sets count words))
-  kept_counted = omega (arith, capped_min asked count, length-take asked (lent_items Sets count words), items_counted Sets count words read)
+  pub kept_counted : min count asked ≡ length (take asked (lent_items Sets count words))
+  kept_counted = omega (arith, length-take asked (lent_items Sets count words), items_counted Sets count words read)
 
-  pub kept_read : AllRead (lent_from Sets 0 (capped asked count) words)
+  pub kept_read : AllRead (lent_from Sets 0 (min count asked) words)
   kept_read =
       let (all, e) = all_read (lent_from Sets 0 count words) read in
-      let (size, front) = front_read (item_at Sets) 0 (capped asked count) count words (omega (arith, capped_min asked count)) e in
+      let (size, front) = front_read (item_at Sets) 0 (min count asked) count words (omega arith) e in
       rw front tt
 
   -- and take no more words than there is room for
@@ -76,19 +76,18 @@ module _ (words : List ℕ) (count asked : ℕ) (read : AllRead (lent_from Sets 
       → asked ≤ 4096
       → sum ≤ 8192
       → summed length 0 sum (lent_items Sets count words) ≡ done total
-      → (words_of Sets (capped asked count) words ≤ 12288) × (words_of Sets (capped asked count) words ≤ length words)
+      → (words_of Sets (min count asked) words ≤ 12288) × (words_of Sets (min count asked) words ≤ length words)
   kept_few sum total few small sums =
       let (all, e) = all_read (lent_from Sets 0 count words) read in
-      let (size, front) = front_read (item_at Sets) 0 (capped asked count) count words (omega (arith, capped_min asked count)) e in
-      let (t, kept) = front_summed length 0 sum (capped asked count) all.item (rw e at sums) in
+      let (size, front) = front_read (item_at Sets) 0 (min count asked) count words (omega arith) e in
+      let (t, kept) = front_summed length 0 sum (min count asked) all.item (rw e at sums) in
       rw front (
         omega (
           arith,
-          all_summed Sets 0 (capped asked count) words front 0 sum t kept,
-          sum_few length 0 sum (take (capped asked count) all.item) t small kept,
-          capped_min asked count,
+          all_summed Sets 0 (min count asked) words front 0 sum t kept,
+          sum_few length 0 sum (take (min count asked) all.item) t small kept,
         ),
-        all_within Sets 0 (capped asked count) words front,
+        all_within Sets 0 (min count asked) words front,
       )
 
 -- ---- what taking them comes to

@@ -30,7 +30,7 @@ fn keep_sets(state: &mut [u64], words: &[u64], count: u64, asked: usize) -> u64
     requires by_index { (sum : ℕ) × (total : ℕ) × (sum ≤ 8192) × (summed length 0 sum (lent_items Sets count words.now) ≡ done total) }
     ensures { (result ≡ length (take asked (lent_items Sets count words.now))) × (state.new ≡ sets_stored state.old words.now ended result) }
 {
-    let kept = words::at_most(count, asked as u64);
+    let kept = count.min(asked as u64);
     let mut levels = [0u64; 1];
     // the first of sets that are all of their form are of it too, so the test never fails
     let Ok(size) = answers::check(Lending::Sets, words, kept, &mut levels) else {

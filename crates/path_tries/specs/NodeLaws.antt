@@ -1,6 +1,6 @@
 -- Laws of tries in words (Nodes): nodes and their words, the chain of a path and what is below it, and merging them into a state.
 -- No contract cites this file.
-use Prim.Native.Nat.{ℕ, zero, suc, ◌+◌, ◌*◌, ◌/◌, ◌%◌, ◌^◌, ◌≤◌, ◌<◌}
+use Prim.Native.Nat.{ℕ, zero, suc, ◌+◌, ◌*◌, ◌/◌, ◌%◌, ◌^◌, ◌≤◌, ◌<◌, max}
 use Rattle.std.proofs.Common.{add-zero, add-suc, ap₂, ◌∙◌, ⊎_elim, ltb-true, leb-true, leb-false, eqb-true, lt-ltb, le-ltb, le-leb, ne_eqb, length-append, length-take, length-drop, get_or-drop, get_or-take, take_at, take_all, take-suc, take-suc-set, length-take-le}
 use Rattle.std.proofs.Math.Numerals.{add-one}
 use native.Mathlib.Omega.{arith}
@@ -638,9 +638,9 @@ module _ {code places : List ℕ} {most i : ℕ} (so_far : Longest code places m
     pub longest_within : get_or places i 0 + 1 + get_or code (get_or places i 0) 0 / 64 ≤ length code
     longest_within = (next_within code places i h so_far.within).0
 
-    pub longest_next : Longest code places (larger most (get_or code (get_or places i 0) 0 / 64)) (i + 1)
+    pub longest_next : Longest code places (max most (get_or code (get_or places i 0) 0 / 64)) (i + 1)
     unfolding longest
-    longest_next = record {
+    longest_next = rw (← larger_max most (get_or code (get_or places i 0) 0 / 64)) record {
       within = rw add-one (next_within code places i h so_far.within).1;
       left = rw add-one (regroup _ _ _ ∙ (rw (next_paths code places i h, path_steps code (get_or places i 0) longest_within) at so_far.left));
     }

@@ -14,7 +14,7 @@ ghost use Rattle.wrapped_paths.specs.Code.{path_at, paths_at, AllWithin};
 ghost use Rattle.path_tries.specs.Nodes.{all_nodes, all_below, IsState, Became, PathsToAdd, leaf_of, any_deep, AllFit, chain_words, deeper_words, RunOf};
 
 use rows::{Kind, Row};
-use words::{larger, wide};
+use words::wide;
 use wrapped_paths::steps_at;
 
 // The words of a trie: its count and at most as many nodes as a contribution has. A path with its leaf has at most 24 more.
@@ -224,11 +224,11 @@ pub fn longest(code: &[u16], places: &[u64]) -> u64
     requires { AllWithin code.now places.now }
     ensures { result ≡ longest_of (paths_at code.now places.now) }
 {
-    let mut most = 0;
+    let mut most: u64 = 0;
     let mut i = 0;
     while i < places.len() {
         let at = places[i] as usize;
-        most = larger(most, steps_at(code, at));
+        most = most.max(steps_at(code, at));
         i += 1;
     }
     most

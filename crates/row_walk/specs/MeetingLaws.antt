@@ -1,10 +1,10 @@
 -- Laws of the walk over words. No contract cites this file.
-use Rattle.std.specs.Prelude.{ℕ, zero, suc, ◌+◌, ◌-◌, ◌≤◌, ◌<◌, ◌≡◌, refl, List, [], ◌∷◌, ◌++◌, map, length, take, drop, get_or, set}
+use Rattle.std.specs.Prelude.{ℕ, zero, suc, ◌+◌, ◌-◌, ◌≤◌, ◌<◌, min, ◌≡◌, refl, List, [], ◌∷◌, ◌++◌, map, length, take, drop, get_or, set}
 use Rattle.std.proofs.Common.{add-one, arith, ap, ◌∙◌, length-set, length-take, drop_of_length-le, take-take, take_all, take-suc-set}
 use Rattle.std.proofs.lemmas.List.{map-append}
 use Rattle.std.proofs.Math.Option.{Option}
 use borrow.Author.Tests.{le-leb, lt-leb}
-use Rattle.rules.specs.Facts.{compared, capped, capped_min}
+use Rattle.rules.specs.Facts.{compared}
 use Rattle.rules.specs.Tries.{Row as TrieRow}
 use Rattle.rules.proofs.WalkLaws.{take-map}
 use Rattle.rules.specs.ValueRows.{ValueRow}
@@ -36,14 +36,14 @@ kept_met values node BadRule = refl
 kept_more :
     (values kept : List ℕ) (len at k : ℕ)
     → len ≤ length kept
-    → capped len at < length kept
-    → take at (kept_for values kept len) ++ (kept_in values k ∷ []) ≡ kept_for values (set kept (capped len at) k) (capped len at + 1)
+    → min at len < length kept
+    → take at (kept_for values kept len) ++ (kept_in values k ∷ []) ≡ kept_for values (set kept (min at len) k) (min at len + 1)
 kept_more values kept len at k fits room =
-    let front : take at (take len kept) ≡ take (capped len at) kept =
+    let front : take at (take len kept) ≡ take (min at len) kept =
     compared at len
-    (λ h. let e : capped len at ≡ at = omega (arith, capped_min len at) in rw e (take-take at len kept (omega arith)))
-    (λ h. let e : capped len at ≡ len = omega (arith, capped_min len at) in rw e (take_all at (take len kept) (omega (arith, length-take len kept)))) in
-    rw (add-one, take-suc-set kept (capped len at) k room, map-append, take-map, front)
+    (λ h. let e : min at len ≡ at = omega arith in rw e (take-take at len kept (omega arith)))
+    (λ h. let e : min at len ≡ len = omega arith in rw e (take_all at (take len kept) (omega (arith, length-take len kept)))) in
+    rw (add-one, take-suc-set kept (min at len) k room, map-append, take-map, front)
 
 -- one row of the walk
 walk_row :
@@ -65,7 +65,7 @@ module _ (nodes values : List ℕ) (depth : ℕ) (kept : List ℕ) (len node : �
       → below ≡ depth_in (get_or nodes node 0) - depth
       → above ≡ get_or (take len kept) (below - 1) 0
       → MeansRule values node rule (at_node_rows below (kept_in values above) (row_in (get_or nodes node 0)) (rows_of (drop (node + 1) nodes)) node)
-      → Visited nodes values depth kept len node (set kept (capped len below) (kept_by rule)) (capped len below + 1) rule
+      → Visited nodes values depth kept len node (set kept (min below len) (kept_by rule)) (min below len + 1) rule
   visited below above rule deeper fits room is_below is-above means =
       let row : TrieRow = row_in (get_or nodes node 0) in
       let rows : List TrieRow = rows_of (drop (node + 1) nodes) in
@@ -74,14 +74,14 @@ module _ (nodes values : List ℕ) (depth : ℕ) (kept : List ℕ) (len node : �
       rw (place, is-above) (kept_place values (take len kept) (below - 1)) in
       let here : met_by values node rule ≡ at_node_rows (row.depth - depth) (kept_rows_at (kept_for values kept len) (row.depth - suc depth)) row rows node =
       rw (there, ← is_below) means.means in
-      let stored = kept_more values kept len below (kept_by rule) fits (omega (arith, capped_min len below)) in
+      let stored = kept_more values kept len below (kept_by rule) fits (omega arith) in
       record {
         comes =
             ap (walk_rows depth (kept_for values kept len) node) (rows_left row_in nodes node inside)
             ∙ walk_row depth (kept_for values kept len) node row rows deeper here
             ∙ rw (kept_met values node rule, ← is_below, stored, add-one node);
         small = means.small;
-        counts = simp length-set (omega (arith, capped_min len below));
+        counts = simp length-set (omega arith);
       }
 
 -- Nothing is met up to a node: the rest of the walk is all of it.

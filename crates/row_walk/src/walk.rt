@@ -6,7 +6,6 @@ ghost use Rattle.row_walk.specs.Meetings.{Visited, Meets};
 
 use crate::rule::{Rule, find_remaining_entities_value};
 use rows::Row;
-use words::at_most;
 
 // What a walk meets: an entity to ask for, by its id; the ids in a marked set, by the place behind its row and their depth; 14; or nothing
 // more.
@@ -75,7 +74,7 @@ fn visit(
     let place = below as usize - 1;
     let above = kept_at(&kept[..], len, place);
     let rule = find_remaining_entities_value(nodes, node, values, above, below);
-    let to = at_most(below, len as u64) as usize;
+    let to = below.min(len as u64) as usize;
     kept[to] = kept_by(rule);
     Visits { len: to + 1, rule }
 }

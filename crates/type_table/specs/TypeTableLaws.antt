@@ -1,6 +1,6 @@
 -- Laws of the table of types and of the trie of a type (Tables): a type's attributes are passed one after the other. No contract cites this
 -- file.
-use Rattle.std.specs.Prelude.{ℕ, zero, suc, ◌+◌, ◌*◌, ◌/◌, ◌%◌, ◌^◌, ◌≤◌, ◌<◌, true, false, List, [], ◌∷◌, ◌++◌, map, ◌≡◌, refl, ltb, leb, length, take, drop, get_or, set}
+use Rattle.std.specs.Prelude.{ℕ, zero, suc, ◌+◌, ◌*◌, ◌/◌, ◌%◌, ◌^◌, ◌≤◌, ◌<◌, min, max, true, false, List, [], ◌∷◌, ◌++◌, map, ◌≡◌, refl, ltb, leb, length, take, drop, get_or, set}
 use Rattle.std.proofs.Common.{add-one, arith, append_assoc, append-nil, sym, ap, ◌∙◌, length-set, length-append, take-append-drop, drop_of_length-le, drop-cons, take-suc, take_all, get_or-set_same, get_or-set_other}
 use Rattle.std.proofs.Math.Bool.{and-eq-true_iff}
 use Rattle.std.proofs.lemmas.List.{map-append, length-map}
@@ -186,17 +186,21 @@ module _ {words : List ℕ} {first at depth nodes : ℕ} (sizing : Sizing words 
       → {v w : ℕ}
       → v ≡ get_or words at 0 / 16 % 2 ^ 36
       → TypeMeasured words v w
-      → Sizing words first (at + 1) (larger depth (capped 25 (1 + type_depth w))) (capped 1025 (nodes + 1 + type_nodes w))
+      → Sizing words first (at + 1) (max depth (min (1 + type_depth w) 25)) (min (nodes + 1 + type_nodes w) 1025)
   unfolding passing_next
-  sizing_next here e sized = record {
-    passing = passing_next sizing.passing here;
-    deep =
-        rw (sizing.deep, sized.depth, e)
-        (sym (children_deepest_capped (type_rows words) (item_in (get_or words at 0)) sizing.passing.passed));
-    many =
-        rw (sizing.many, sized.nodes, e)
-        (sym (children_length_capped (type_rows words) (item_in (get_or words at 0)) sizing.passing.passed));
-  }
+  sizing_next here {v} {w} e sized =
+      let deep : max depth (min (1 + type_depth w) 25) ≡ larger depth (capped 25 (1 + type_depth w)) =
+      omega (arith, larger_max depth (capped 25 (1 + type_depth w)), capped_min 25 (1 + type_depth w)) in
+      let many : min (nodes + 1 + type_nodes w) 1025 ≡ capped 1025 (nodes + 1 + type_nodes w) = omega (arith, capped_min 1025 (nodes + 1 + type_nodes w)) in
+      rw (deep, many) record {
+        passing = passing_next sizing.passing here;
+        deep =
+            rw (sizing.deep, sized.depth, e)
+            (sym (children_deepest_capped (type_rows words) (item_in (get_or words at 0)) sizing.passing.passed));
+        many =
+            rw (sizing.many, sized.nodes, e)
+            (sym (children_length_capped (type_rows words) (item_in (get_or words at 0)) sizing.passing.passed));
+      }
 
 -- the size of the type at a place, once no attribute is left
 pub sizing_all :

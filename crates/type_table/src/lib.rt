@@ -12,7 +12,7 @@ ghost use Rattle.type_table.specs.Tables.{size_word, type_place, type_depth, typ
 
 use rows::{Kind, Row};
 use schema::Item;
-use words::{at_most, larger, search_key};
+use words::search_key;
 
 // A type's place among the schema's words, and the depth and nodes of its trie, both stopping one past their limit.
 #[derive(Drop)]
@@ -93,13 +93,13 @@ fn type_size(words: &[u64], place: usize, table: &[u64]) -> TypeSize
     ensures type_measured { TypeMeasured words.now (types_in (items_of (take place words.now))) (size_word result) }
     ensures place_bound { (result.place < 262144) × ((result.depth < 256) × (result.nodes < 4096)) }
 {
-    let mut depth = 0;
-    let mut nodes = 0;
+    let mut depth: u64 = 0;
+    let mut nodes: u64 = 0;
     let mut at = place + 1;
     while is_attribute(words, at) {
         let below = size_at(table, Item::of(words[at]).value);
-        depth = larger(depth, at_most(1 + below.depth, Kind::STEPS + 1));
-        nodes = at_most(nodes + 1 + below.nodes, Kind::CONTRIBUTION_NODES + 1);
+        depth = depth.max((1 + below.depth).min(Kind::STEPS + 1));
+        nodes = (nodes + 1 + below.nodes).min(Kind::CONTRIBUTION_NODES + 1);
         at += 1;
     }
     TypeSize {

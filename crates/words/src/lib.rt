@@ -3,7 +3,6 @@
 
 ghost use Rattle.std.specs.Prelude.{◌≡◌, ◌+◌, ◌≤◌, ◌<◌, length, take, get_or};
 ghost use Rattle.std.proofs.lemmas.List.Edits.{sets};
-ghost use Rattle.rules.specs.Facts.{capped, larger as larger_of};
 ghost use Rattle.words.specs.Keys.{key_in, searched};
 ghost use Rattle.words.specs.Runs.{Wrote};
 
@@ -26,20 +25,6 @@ impl Refusal {
         number: 1,
         place: 0,
     };
-}
-
-// The smaller of two numbers, the second a limit.
-pub fn at_most(n: u64, most: u64) -> u64
-    ensures { result ≡ capped most n }
-{
-    if n < most { n } else { most }
-}
-
-// The larger of two numbers.
-pub fn larger(a: u64, b: u64) -> u64
-    ensures { result ≡ larger_of a b }
-{
-    if a < b { b } else { a }
 }
 
 // Copies words to a place, and answers the place after them.

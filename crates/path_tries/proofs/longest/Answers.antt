@@ -10,7 +10,7 @@ pub steps_at-requires : goal.steps_at-requires
 steps_at-requires c = omega (arith, longest_within c.loop-i.invariant.1 c.loop-i-test.true)
 
 pub loop-i-preserved : goal.loop-i-preserved
-loop-i-preserved c = (omega arith, rw (c.larger-most.ensures, c.steps_at.ensures) (longest_next c.loop-i.invariant.1 c.loop-i-test.true))
+loop-i-preserved c = (omega arith, rw (c.max-most.ensures, c.steps_at.ensures) (longest_next c.loop-i.invariant.1 c.loop-i-test.true))
 
 pub returns : goal.returns
 returns c = longest_all c.loop-i.invariant.1 (omega arith)

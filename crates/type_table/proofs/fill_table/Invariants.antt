@@ -1,5 +1,3 @@
-use Prim.Native.Nat.{◌-◌}
-use lib.ListN.{length}
 use Rattle.type_table.specs.TypeTableLaws.{Filling}
 use Rattle.type_table.proofs.fill_table.Given as goal
 

@@ -49,7 +49,7 @@ pub loop-below-smaller : goal.loop-below-smaller
 loop-below-smaller c = omega (arith, attribute_inside _ _ (here (goal.at.loop-below-smaller c).In-loop-below))
 
 pub loop-below-preserved : goal.loop-below-preserved
-loop-below-preserved c = rw (c.larger-depth.ensures, c.at_most.ensures, c.at_most-nodes.ensures, c.size_at-below.ensures.1.0, c.size_at-below.ensures.1.1)
+loop-below-preserved c = rw (c.max-depth.ensures, c.min.ensures, c.min-nodes.ensures, c.size_at-below.ensures.1.0, c.size_at-below.ensures.1.1)
     (sizing_next c.loop-below.invariant (here (goal.at.loop-below-preserved c).In-loop-below) (value (goal.at.loop-below-preserved c).After-of) (sized (goal.at.loop-below-preserved c).After-of (there (goal.at.loop-below-preserved c).Start) (here (goal.at.loop-below-preserved c).In-loop-below)))
 
 pub returns : goal.returns

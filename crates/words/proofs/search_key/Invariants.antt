@@ -1,6 +1,4 @@
-use Prim.Native.Nat.{◌-◌}
 use Rattle.words.specs.KeyLaws.{KeySought}
-use lib.ListN.{length}
 use Rattle.words.proofs.search_key.Given as goal
 
 abbrev pub invariant-loop-i : goal.invariant-loop-i

@@ -16,24 +16,24 @@ kept :
     (c : In-Ok) →
     let a = c.args in
     let words = a.words.now in
-    (words_of Sets c.at_most-kept.result words ≡ c.in-Ok.size)
+    (words_of Sets c.min-kept.result words ≡ c.in-Ok.size)
     × (c.in-Ok.size ≤ 12288)
     × (c.in-Ok.size ≤ length words)
 kept c =
     let a = c.args in
     let words = a.words.now in
-    let sized = fine_sized (lent_from Sets 0 c.at_most-kept.result words) (sym c.check.ensures ∙ c.in-Ok.is) in
+    let sized = fine_sized (lent_from Sets 0 c.min-kept.result words) (sym c.check.ensures ∙ c.in-Ok.is) in
     let few = kept_few words a.count a.asked c.requires.in_bounds.1.1 c.requires.by_index.0 c.requires.by_index.1 c.requires.in_bounds.1.0 c.requires.by_index.2 c.requires.by_index.3 in
-    let room = rw (← c.at_most-kept.ensures) at few in
+    let room = rw (← c.min-kept.ensures) at few in
     (sized, rw sized at room.0, rw sized at room.1)
 
 pub returns-in_default : goal.returns-in_default
 returns-in_default c =
     let a = c.args in
     let words = a.words.now in
-    let read : AllRead (lent_from Sets 0 c.at_most-kept.result words) =
-    rw c.at_most-kept.ensures (kept_read words a.count a.asked c.requires.in_bounds.1.1) in
-    absurd (never_wrong (lent_from Sets 0 c.at_most-kept.result words) (sym c.check.ensures ∙ c.in_default.is) read)
+    let read : AllRead (lent_from Sets 0 c.min-kept.result words) =
+    rw c.min-kept.ensures (kept_read words a.count a.asked c.requires.in_bounds.1.1) in
+    absurd (never_wrong (lent_from Sets 0 c.min-kept.result words) (sym c.check.ensures ∙ c.in_default.is) read)
 
 pub slice_bounds-store_sets-end : goal.slice_bounds-store_sets-end
 slice_bounds-store_sets-end c = sym (length-take-le _ _ (kept (goal.at.slice_bounds-store_sets-end c).In-Ok).2)
@@ -48,6 +48,6 @@ returns c =
     let a = c.args in
     let words = a.words.now in
     let (sized, room, inside) = kept (goal.at.returns c).In-Ok in (
-      c.at_most-kept.ensures ∙ kept_counted words a.count a.asked c.requires.in_bounds.1.1,
+      c.min-kept.ensures ∙ kept_counted words a.count a.asked c.requires.in_bounds.1.1,
       rw sized c.store_sets.ensures,
     )
