@@ -5,7 +5,6 @@
 ghost use Rattle.std.specs.Prelude.{◌≡◌, ◌+◌, ◌<◌, ◌≤◌, length};
 
 use load_log::{BATCH, RequestPlace, count_of};
-use store_text::Put;
 use values::EntityRequest;
 
 // How many stores may answer, the words of one, and those of all with their number.
@@ -72,11 +71,11 @@ fn put_nothing(out: &mut [u64], at: usize) -> usize
 }
 
 // The place behind what was put at a place, or else behind nothing that is put there.
-fn behind(put: Put, out: &mut [u64], at: usize) -> usize
+fn behind(put: Option<usize>, out: &mut [u64], at: usize) -> usize
     requires { at ≤ length out.old }
     ensures { result ≤ length out.new }
 {
-    let Put::To(next) = put else {
+    let Some(next) = put else {
         return put_nothing(out, at);
     };
     if out.len() < next {

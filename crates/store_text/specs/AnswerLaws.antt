@@ -3,13 +3,14 @@ use Prim.Native.Nat.{ℕ, suc, ◌+◌, ◌-◌, ◌*◌, ◌%◌, ◌^◌, ◌�
 use Rattle.std.proofs.Math.Nat.{add-zero, sub-zero}
 use Rattle.std.proofs.Common.{add-one, sym, ap, ◌∙◌, drop_of_length-le}
 use native.Mathlib.Omega.{arith}
-use Rattle.std.specs.Prelude.{false, cond, ◌≢◌, ◌≡◌, eqb, take, get_or, set}
+use Rattle.std.specs.Prelude.{false, cond, ◌≡◌, eqb, take, get_or, set, Option as Maybe, Some, None}
 use mathlib.Core.List.{List, [], ◌∷◌, ◌++◌, map, append_assoc, append-nil}
 use Rattle.std.proofs.Math.Option.{Option, none, some, none-ne-some, some-injective}
 use Rattle.std.proofs.Math.Path.{refl}
 use borrow.Author.Tests.{eq-eqb, ne_eqb}
 use Rattle.std.proofs.Math.ListN.{length, drop, length-append, get_or-map}
 use Rattle.std.proofs.lemmas.List.{length-map}
+use Rattle.std.specs.List.{position_from}
 use Rattle.std.proofs.lemmas.List.Edits.{sets}
 use Rattle.std.proofs.Math.Seq.{drop-cons, drop-append-add}
 use Rattle.rules.specs.Facts.{by_test}
@@ -25,7 +26,6 @@ use Rattle.store_text.specs.Runs.{run_of}
 use Rattle.store_text.specs.RunLaws.{all_map, EntityAt, entity-at}
 use Rattle.store_text.specs.OrderLaws.{Parts}
 use Rattle.store_text.specs.Answering.{entity_of, answer_head, answer_of, is_one_of, among_of, set_words, id_in, EntityHere, EntityFoundAt, FoundEntity}
-use Rattle.store_text.specs.declared.answering.Found.TheVariants.{At, Absent}
 
 -- ---- where an entity stands
 
@@ -34,19 +34,24 @@ unfoldable pub place_from : ℕ → ℕ → List ℕ → Option ℕ
 place_from i id [] = none
 place_from i id (w ∷ ws) = let rest : Option ℕ = place_from (suc i) id ws in cond (eqb w id) (some i) rest
 
-module _ (id : ℕ) (words : List ℕ) (i : ℕ) where
-  pub place_end : length words ≤ i → place_from i id (drop i words) ≡ none
-  unfolding place_from
-  place_end h = rw (drop_of_length-le words h)
+-- it is one of theirs, and the first at which the id stands
+place_inside : (id k : ℕ) (words : List ℕ) (at : ℕ) → place_from k id words ≡ some at → at < k + length words
+unfolding place_from
+place_inside id k [] at e = absurd (none-ne-some at e)
+place_inside id k (w ∷ words) at e =
+    by_test (eqb w id)
+    (λ t. let same : k ≡ at = some-injective k at (rw t at e) in omega arith)
+    (λ t. omega (arith, place_inside id (suc k) words at (rw t at e)))
 
-  module _ (more : i < length words) where
-    pub place_here : get_or words i 0 ≡ id → place_from i id (drop i words) ≡ some i
-    unfolding place_from
-    place_here same = rw (drop-cons words i 0 more, eq-eqb (get_or words i 0) id same)
+-- as the code has it
+abbrev maybe : Option ℕ → Maybe ℕ
+maybe none = None
+maybe (some at) = Some at
 
-    pub place_next : get_or words i 0 ≢ id → place_from i id (drop i words) ≡ place_from (i + 1) id (drop (i + 1) words)
-    unfolding place_from
-    place_next other = rw (drop-cons words i 0 more, ne_eqb (get_or words i 0) id other, add-one)
+pub place_position : (id k : ℕ) (words : List ℕ) → position_from (λ w. eqb w id) k words ≡ maybe (place_from k id words)
+unfolding place_from
+place_position id k [] = refl
+place_position id k (w ∷ words) = by_test (eqb w id) (λ t. rw t refl) (λ t. rw (t, add-one) (place_position id (suc k) words))
 
 -- the words of an entity's lines but its own are no ids
 all_append : (P : ℕ → Type 0) (xs ys : List ℕ) → All P xs → All P ys → All P (xs ++ ys)
@@ -114,18 +119,18 @@ module _ (id : ℕ) (small : IsId id) where
       (λ t. absurd (none-ne-some k (sym (rw t at found))))
       (λ t. rw t (place_absent (k + length (e.id ∷ lines_behind e)) es all (sym (place_other k e es kept t) ∙ found)))
 
-  module _ (words : List ℕ) where
-    pub found_at : (at : ℕ) → at < length words → place_from 0 id words ≡ some at → FoundEntity words id (At at)
-    found_at at inside found = record {
-      inside = λ there e. let same : at ≡ there = cc in omega arith;
-      there = λ es holds. rw holds.same (rw sub-zero at (place_stands 0 at es holds.kept (rw holds.same at found)).1);
-    }
-
-    pub found_none : place_from 0 id words ≡ none → FoundEntity words id Absent
-    found_none found = record {
-      inside = λ there e. absurd (let z : ◌≡◌ {A = ℕ} 0 1 = cc in omega arith);
-      there = λ es holds. place_absent 0 es holds.kept (rw holds.same at found);
-    }
+  pub found_place : (words : List ℕ) {r : Maybe ℕ} → r ≡ maybe (place_from 0 id words) → FoundEntity words id r
+  found_place words {r} found = go (place_from 0 id words) refl found
+    where
+      go : (o : Option ℕ) → place_from 0 id words ≡ o → r ≡ maybe o → FoundEntity words id r
+      go none e q = rw q (record {
+        inside = λ there h. absurd (let z : ◌≡◌ {A = ℕ} 0 1 = cc in omega arith);
+        there = λ es holds. place_absent 0 es holds.kept (rw holds.same at e);
+      })
+      go (some at) e q = rw q (record {
+        inside = λ there h. let same : at ≡ there = cc in omega (arith, place_inside id 0 words at e);
+        there = λ es holds. rw holds.same (rw sub-zero at (place_stands 0 at es holds.kept (rw holds.same at e)).1);
+      })
 
 -- ---- ids of words
 

@@ -1,5 +1,5 @@
 -- What a store answers (docs/FORMS.md, 'Store', 'Answers in' and 'Ancestors answers in').
-use Rattle.std.specs.Prelude.{ℕ, ◌+◌, ◌*◌, ◌%◌, ◌^◌, ◌≤◌, ◌<◌, ◌≡◌, Bool, true, false, cond, List, [], ◌∷◌, ◌++◌, map, eqb, length, drop}
+use Rattle.std.specs.Prelude.{ℕ, ◌+◌, ◌*◌, ◌%◌, ◌^◌, ◌≤◌, ◌<◌, ◌≡◌, Bool, true, false, cond, List, [], ◌∷◌, ◌++◌, map, eqb, length, drop, Option as Maybe, Some, None}
 use Rattle.std.proofs.Math.Option.{Option, none, some}
 use Rattle.rules.proofs.MergeLaws.{IdsFrom}
 use Rattle.rules.specs.ValueTexts.{EntityRead}
@@ -7,10 +7,6 @@ use Rattle.words.specs.Runs.{Wrote}
 use Rattle.values.specs.ValueWords.{value_word}
 use Rattle.store_text.specs.Words.{store_words}
 use Rattle.store_text.specs.Entities.{All, EntityKept, HoldsEntities}
-use Rattle.store_text.specs.declared.answering.Found.{Found}
-use Rattle.store_text.specs.declared.answering.Found.TheVariants.{At, Absent}
-use Rattle.store_text.specs.declared.answering.Put.{Put}
-use Rattle.store_text.specs.declared.answering.Put.TheVariants.{To, Full}
 
 -- ---- what is answered
 
@@ -65,31 +61,31 @@ pub record EntityFoundAt (words : List ℕ) (id at : ℕ) (es : List EntityRead)
   pub found : entity_of id es ≡ some e
   pub here : EntityHere words at e more
 
-abbrev pub EntitySought : List ℕ → ℕ → List EntityRead → Found → Type 0
-EntitySought words id es (At at) = EntityFoundAt words id at es
-EntitySought words id es Absent = entity_of id es ≡ none
+abbrev pub EntitySought : List ℕ → ℕ → List EntityRead → Maybe ℕ → Type 0
+EntitySought words id es (Some at) = EntityFoundAt words id at es
+EntitySought words id es None = entity_of id es ≡ none
 
 -- where the entity of an id stands, whatever entities the words are those of
-pub record FoundEntity (words : List ℕ) (id : ℕ) (r : Found) : Type 0 where
-  pub inside : (at : ℕ) → r ≡ At at → at < length words
+pub record FoundEntity (words : List ℕ) (id : ℕ) (r : Maybe ℕ) : Type 0 where
+  pub inside : (at : ℕ) → r ≡ Some at → at < length words
   pub there : (es : List EntityRead) → HoldsEntities words es → EntitySought words id es r
 
 -- words are written from a place on, or there is no room for them
-abbrev pub PutIn : List ℕ → List ℕ → ℕ → List ℕ → Put → Type 0
-PutIn xs out to out' (To next) = Wrote out to xs out' next
-PutIn xs out to out' Full = (length out < to + length xs) × (out' ≡ out)
+abbrev pub PutIn : List ℕ → List ℕ → ℕ → List ℕ → Maybe ℕ → Type 0
+PutIn xs out to out' (Some next) = Wrote out to xs out' next
+PutIn xs out to out' None = (length out < to + length xs) × (out' ≡ out)
 
-abbrev pub EntityAnswered : List ℕ → ℕ → List ℕ → ℕ → List ℕ → Put → Type 0
+abbrev pub EntityAnswered : List ℕ → ℕ → List ℕ → ℕ → List ℕ → Maybe ℕ → Type 0
 EntityAnswered words at out to out' r = (e : EntityRead) (more : List EntityRead) → EntityHere words at e more → PutIn (answer_of (some e)) out to out' r
 
-abbrev pub AnsweredRow : List ℕ → ℕ → List ℕ → ℕ → List ℕ → Put → Type 0
+abbrev pub AnsweredRow : List ℕ → ℕ → List ℕ → ℕ → List ℕ → Maybe ℕ → Type 0
 AnsweredRow words id out to out' r = (es : List EntityRead) → HoldsEntities words es → PutIn (answer_of (entity_of id es)) out to out' r
 
 -- of a set it is enough to be refused that not all ids asked for have room
-abbrev pub SetPut : List ℕ → List ℕ → List ℕ → ℕ → List ℕ → Put → Type 0
-SetPut ancestors asked out to out' (To next) = Wrote out to (set_words (among_of ancestors asked)) out' next
-SetPut ancestors asked out to out' Full = (length out ≤ to + length asked) × (out' ≡ out)
+abbrev pub SetPut : List ℕ → List ℕ → List ℕ → ℕ → List ℕ → Maybe ℕ → Type 0
+SetPut ancestors asked out to out' (Some next) = Wrote out to (set_words (among_of ancestors asked)) out' next
+SetPut ancestors asked out to out' None = (length out ≤ to + length asked) × (out' ≡ out)
 
-abbrev pub AnsweredAncestors : List ℕ → ℕ → List ℕ → List ℕ → ℕ → List ℕ → Put → Type 0
+abbrev pub AnsweredAncestors : List ℕ → ℕ → List ℕ → List ℕ → ℕ → List ℕ → Maybe ℕ → Type 0
 AnsweredAncestors words id asked out to out' r =
     (es : List EntityRead) → HoldsEntities words es → IdsFrom 0 asked → SetPut (ancestors_of (entity_of id es)) asked out to out' r

@@ -1,11 +1,11 @@
 -- What holds of the entities of a store whose lines have passed, and of the order of their elements.
-use Rattle.std.specs.Prelude.{ℕ, ◌≤◌, ◌≡◌, true, cond, List, [], ◌∷◌, ltb, length}
-use Rattle.std.proofs.Math.Option.{none, some}
+use Rattle.std.specs.Prelude.{ℕ, ◌≤◌, ◌<◌, ◌≡◌, true, List, [], ◌∷◌, length, Option as Maybe, Some}
 use Rattle.rules.proofs.MergeLaws.{IdsFrom}
 use Rattle.rules.specs.ValueRows.{ValueRow}
 use Rattle.rules.specs.ValueRowTests.{is_value_row}
 use Rattle.rules.specs.ValueTexts.{EntityRead, unordered_in, least_of}
 use Rattle.rules.proofs.ValueTextLaws.{Came}
+use Rattle.value_text.specs.Rows.{place_found}
 use Rattle.store_text.specs.Words.{store_words}
 
 -- what holds of each of some
@@ -37,7 +37,7 @@ pub record HoldsEntities (words : List ℕ) (es : List EntityRead) : Type 0 wher
 abbrev pub Entities : List ℕ → Type 0
 Entities words = (es : List EntityRead) × HoldsEntities words es
 
--- the place of the first element that is not above the one before it, or the count of words
-pub record OrderFound (words : List ℕ) (n : ℕ) : Type 0 where
-  pub within : n ≤ length words
-  pub least : (es : List EntityRead) → HoldsEntities words es → least_of (unordered_in 0 es) ≡ cond (ltb n (length words)) (some n) none
+-- the place of the first element that is not above the one before it, if there is one
+pub record OrderFound (words : List ℕ) (r : Maybe ℕ) : Type 0 where
+  pub within : (n : ℕ) → r ≡ Some n → n < length words
+  pub least : (es : List EntityRead) → HoldsEntities words es → least_of (unordered_in 0 es) ≡ place_found 0 r

@@ -1,11 +1,11 @@
 -- Laws of the order of elements in a store (Entities). No contract cites this file.
 use Prim.Native.Nat.{ℕ, suc, ◌+◌, ◌-◌, ◌≤◌, ◌<◌}
-use Rattle.std.proofs.Common.{arith, sym, ◌∙◌, leb-true, ltb-true, eqb-true, lt-ltb, le-ltb, drop_of_length-le}
-use Rattle.std.specs.Prelude.{true, ◌≡◌, refl, leb, ltb, take}
-use Rattle.std.proofs.Math.Bool.{cond}
+use Rattle.std.proofs.Common.{arith, sym, ◌∙◌, leb-true, ltb-true, eqb-true, lt-ltb, drop_of_length-le}
+use Rattle.std.specs.Prelude.{true, ◌≡◌, refl, leb, ltb, take, Option as Maybe, Some, None}
 use mathlib.Core.List.{List, [], ◌∷◌, ◌++◌, map}
 use Rattle.std.proofs.Math.Option.{Option, none, some}
 use Rattle.std.proofs.Math.Path.{ap}
+use Rattle.std.proofs.Math.Nat.{zero-add}
 use Rattle.std.proofs.Math.ListN.{length, drop, length-drop, length-map}
 use Rattle.rules.specs.Facts.{by_test, both_true}
 use Rattle.rules.specs.ValueRows.{ValueRow}
@@ -13,7 +13,7 @@ use Rattle.rules.specs.ValueRowTests.{Level, is_value_row, in_turn, inside_value
 use Rattle.rules.specs.ValueTexts.{EntityRead, field_level, unordered, unordered_in, lesser, least_of}
 use Rattle.rules.proofs.ValueTextLaws.{may_pass}
 use Rattle.values.specs.ValueWords.{value_row_in, value_rows_of, value_word}
-use Rattle.value_text.specs.Rows.{Misplaced}
+use Rattle.value_text.specs.Rows.{place_found, Misplaced}
 use Rattle.value_text.specs.LineLaws.{row_again}
 use Rattle.value_text.specs.RowLaws.{lesser_assoc}
 use Rattle.store_text.specs.Words.{parent_word, ancestor_word, store_words}
@@ -100,12 +100,12 @@ pub passing_none : (words : List ℕ) (es : List EntityRead) → HoldsEntities w
 passing_none words es holds = record { rest = es; left = holds.same; kept = holds.kept; least = refl }
 
 -- no word is left
-pub passing_all : (words : List ℕ) (i : ℕ) → i ≤ length words → length words ≤ i → ((es : List EntityRead) → HoldsEntities words es → EntitiesPassed words es i) →
-    OrderFound words i
+pub passing_all : (words : List ℕ) (i : ℕ) → length words ≤ i → ((es : List EntityRead) → HoldsEntities words es → EntitiesPassed words es i) →
+    OrderFound words None
 unfolding store_words unordered_in least_of
-passing_all words i inside all passing = record {
-  within = inside;
-  least = λ es holds. let here = passing es holds in here.least ∙ rw (le-ltb i (length words) all) (go here.rest (sym (drop_of_length-le words all) ∙ here.left));
+passing_all words i all passing = record {
+  within = λ n e. absurd (let z : ◌≡◌ {A = ℕ} 0 1 = cc in omega arith);
+  least = λ es holds. let here = passing es holds in here.least ∙ go here.rest (sym (drop_of_length-le words all) ∙ here.left);
 }
   where
     go : (rest : List EntityRead) → [] ≡ store_words rest → least_of (unordered_in i rest) ≡ none
@@ -151,10 +151,10 @@ module _ {words : List ℕ} {i parents_end start end : ℕ} (parts : Parts words
       let next = next_entity passing in
       rw (next.there.rows.run, rows_again next.e.value.rows next.kept.rows) next.kept.came.0
 
-  module _ {n : ℕ} (found : Misplaced (take (end - start) (drop start words)) n) where
+  module _ {r : Maybe ℕ} (found : Misplaced (take (end - start) (drop start words)) r) where
     least_next : {es : List EntityRead} (passing : EntitiesPassed words es i) →
         let next = next_entity passing in
-        (least_of (unordered_in 0 es) ≡ lesser (cond (ltb n (end - start)) (some (start + n)) none) (least_of (unordered_in end next.others)))
+        (least_of (unordered_in 0 es) ≡ lesser (place_found start r) (least_of (unordered_in end next.others)))
     unfolding unordered_in
     least_next passing =
         let next = next_entity passing in
@@ -163,29 +163,29 @@ module _ {words : List ℕ} {i parents_end start end : ℕ} (parts : Parts words
         omega (arith, next.there.parents.after, next.there.ancestors.after, length-map next.e.parents parent_word, length-map next.e.ancestors ancestor_word) in
         let size : length rows ≡ end - start = omega (arith, next.there.rows.after, length-map rows value_word) in
         let last : start + (end - start) ≡ end = omega (arith, next.there.rows.after) in
-        let judged : least_of (unordered field_level start rows) ≡ cond (ltb n (end - start)) (some (start + n)) none =
-        rw (next.there.rows.run, rows_again rows next.kept.rows, length-map rows value_word, size) at (found.least start) in
+        let judged : least_of (unordered field_level start rows) ≡ place_found start r =
+        rw (next.there.rows.run, rows_again rows next.kept.rows) at (found.least start) in
         next.least ∙ rw (first, least_append (unordered field_level start rows) (unordered_in (start + length rows) next.others), judged, size, last)
 
     -- the first element out of order is one of its own
-    pub passing_found : n < end - start → start + n < length words → ((es : List EntityRead) → HoldsEntities words es → EntitiesPassed words es i) →
-        OrderFound words (start + n)
-    passing_found h inside passing = record {
-      within = omega arith;
+    pub passing_found : {n : ℕ} → r ≡ Some n → n < end - start → start + n < length words → ((es : List EntityRead) → HoldsEntities words es → EntitiesPassed words es i) →
+        OrderFound words (Some (start + n))
+    passing_found {n} there h inside passing = record {
+      within = λ m e. let same : start + n ≡ m = cc in omega arith;
       least = λ es holds.
           let others = (next_entity (passing es holds)).others in
           least_next (passing es holds)
-          ∙ rw (lt-ltb n (end - start) h, lt-ltb (start + n) (length words) inside)
+          ∙ rw (there, zero-add)
           (first_least (start + n) end (least_of (unordered_in end others)) (omega arith) (not_before_entities end others));
     }
 
     -- or it has none
-    pub passing_next : {es : List EntityRead} → end - start ≤ n → EntitiesPassed words es i → EntitiesPassed words es end
-    passing_next h passing =
+    pub passing_next : {es : List EntityRead} → r ≡ None → EntitiesPassed words es i → EntitiesPassed words es end
+    passing_next not_there passing =
         let next = next_entity passing in
         record {
           rest = next.others;
           left = next.there.rows.left;
           kept = next.later;
-          least = least_next passing ∙ rw (le-ltb n (end - start) h);
+          least = least_next passing ∙ rw not_there refl;
         }

@@ -1,14 +1,13 @@
 -- What reading a store's text gives, answers and leaves.
-use Rattle.std.specs.Prelude.{ℕ, ◌≤◌, ◌≡◌, cond, List, ◌∷◌, leb, length}
+use Rattle.std.specs.Prelude.{ℕ, ◌≤◌, ◌≡◌, cond, List, ◌∷◌, leb, length, Result, Ok, Err}
 use Rattle.std.proofs.lemmas.List.Edits.{sets}
 use Rattle.rules.specs.Numbers.{Answer, accepted, refused, and_then}
 use Rattle.rules.specs.ValueTexts.{EntityRead, store_in_order, read_store}
 use Rattle.words.specs.Runs.{Outcome, refusing, stored}
 use Rattle.words.specs.Replies.{Done}
+use Rattle.words.specs.declared.Refusal.{Refusal}
 use Rattle.store_text.specs.Words.{store_words}
 use Rattle.store_text.specs.Entities.{HoldsEntities}
-use Rattle.store_text.specs.declared.reading.GotLines.{GotLines}
-use Rattle.store_text.specs.declared.reading.GotLines.TheVariants.{Lines, Refused}
 
 -- every line has passed: the words that are stored are those of entities, whose order is left to judge
 pub record TextJudged (text words : List ℕ) (count : ℕ) : Type 0 where
@@ -17,21 +16,21 @@ pub record TextJudged (text words : List ℕ) (count : ℕ) : Type 0 where
   pub given : read_store text ≡ store_in_order es
   pub most : count ≤ 16384
 
-abbrev pub LinesGot : List ℕ → List ℕ → GotLines → Type 0
-LinesGot text words (Lines count) = TextJudged text words count
-LinesGot text words (Refused place) = read_store text ≡ refused 1 place
+abbrev pub LinesGot : List ℕ → List ℕ → Result ℕ Refusal → Type 0
+LinesGot text words (Ok count) = TextJudged text words count
+LinesGot text words (Err refusal) = read_store text ≡ refused refusal.number refusal.place
 
 -- what was read into words: those that are stored, or a refusal
-abbrev pub store_got : GotLines → List ℕ → Answer (List ℕ)
-store_got (Lines count) words = accepted (stored count words)
-store_got (Refused place) words = refused 1 place
+abbrev pub store_got : Result ℕ Refusal → List ℕ → Answer (List ℕ)
+store_got (Ok count) words = accepted (stored count words)
+store_got (Err refusal) words = refused refusal.number refusal.place
 
 abbrev pub store_given : List ℕ → Answer (List ℕ)
 store_given text = and_then (read_store text) (λ es. accepted (store_words es))
 
-abbrev pub line_count : GotLines → ℕ
-line_count (Lines count) = count
-line_count (Refused place) = 0
+abbrev pub line_count : Result ℕ Refusal → ℕ
+line_count (Ok count) = count
+line_count (Err refusal) = 0
 
 -- docs/FORMS.md, 'Lent buffers': 1 count of lines + 16,384 lines; and the longest text
 abbrev pub store_length : ℕ

@@ -1,13 +1,14 @@
 -- Laws of reading the lines of a store. No contract cites this file.
-use Rattle.std.specs.Prelude.{ℕ, ◌+◌, ◌-◌, ◌*◌, ◌^◌, ◌≤◌, ◌<◌, List, [], ◌∷◌, ◌++◌, ◌≡◌, refl, length, take, drop, set}
+use Rattle.std.specs.Prelude.{ℕ, ◌+◌, ◌-◌, ◌*◌, ◌^◌, ◌≤◌, ◌<◌, List, [], ◌∷◌, ◌++◌, ◌≡◌, refl, length, take, drop, set, Some, None}
 use Rattle.std.proofs.Common.{arith, sym, ap, ◌∙◌, length-set}
+use Rattle.std.proofs.Math.Nat.{zero-add}
 use Rattle.std.proofs.Math.Option.{Option, none, some, none-ne-some, some-injective}
-use borrow.Author.Tests.{lt-ltb, le-ltb, le-leb, lt-leb}
+use borrow.Author.Tests.{le-leb, lt-leb}
 use Rattle.std.proofs.lemmas.List.Edits.{sets}
 use Rattle.rules.specs.Numbers.{Answer, accepted, refused, and_then}
 use Rattle.rules.specs.Lines.{Folded, fold_lines}
 use Rattle.rules.specs.Text.{lines_of, fields_of}
-use Rattle.rules.specs.ValueTexts.{StoreLine, StoreRead, EntityRead, store_read, entities_in, store_line_of, of_store, store_line, store_in_order, unordered_in, least_of, read_store}
+use Rattle.rules.specs.ValueTexts.{StoreLine, StoreRead, EntityRead, store_read, entities_in, store_line_of, of_store, store_line, store_in_order, read_store}
 use Rattle.text.specs.Answers.{line_at}
 use Rattle.text.proofs.Laws.{whole_line, cut_line}
 use Rattle.text.proofs.FoldLaws.{CameTo, came_start, came_end, came_cut, came_refused, came_next}
@@ -155,20 +156,16 @@ module _ {text words levels : List ℕ} {last next len count at : ℕ} (reading 
 -- ---- the order of elements, once every line has passed
 
 -- a line was refused
-pub order_refused : (text : List ℕ) {place : ℕ} → read_store text ≡ refused 1 place → refused 1 place ≡ store_given text
+pub order_refused : (text : List ℕ) {number place : ℕ} → read_store text ≡ refused number place → refused number place ≡ store_given text
 order_refused text e = rw e
 
-module _ {text words : List ℕ} {count : ℕ} (passed : TextJudged text words count) (size : length (stored count words) ≡ count) {n : ℕ} (found : OrderFound (stored count words) n) where
+module _ {text words : List ℕ} {count : ℕ} (passed : TextJudged text words count) where
   -- the first element out of order, or none
-  pub order_broken : n < count → refused 1 n ≡ store_given text
-  order_broken h =
-      let there : least_of (unordered_in 0 passed.es) ≡ some n = found.least passed.es passed.holds ∙ rw (lt-ltb n (length (stored count words)) (omega arith)) in
-      rw (passed.given, there)
+  pub order_broken : {n : ℕ} → OrderFound (stored count words) (Some n) → refused 1 n ≡ store_given text
+  order_broken found = rw (passed.given, found.least passed.es passed.holds, zero-add)
 
-  pub order_kept : count ≤ n → accepted (stored count words) ≡ store_given text
-  order_kept h =
-      let none_there : least_of (unordered_in 0 passed.es) ≡ none = found.least passed.es passed.holds ∙ rw (le-ltb n (length (stored count words)) (omega arith)) in
-      rw (passed.given, none_there) (ap accepted passed.holds.same)
+  pub order_kept : OrderFound (stored count words) None → accepted (stored count words) ≡ store_given text
+  order_kept found = rw (passed.given, found.least passed.es passed.holds) (ap accepted passed.holds.same)
 
 -- ---- what reading answers, by what was tested
 
@@ -187,16 +184,16 @@ module _ (text out : List ℕ) where
       unfolding read_store_in
       by_text answer e = rw (le-leb 16385 (length out) long, le-leb (length text) 65536 few, e)
 
-      pub store_refused : {place : ℕ} → refused 1 place ≡ store_given text → read_store_in text out ≡ refusing 1 place out
-      store_refused {place} e = go (read_store text) refl
+      pub store_refused : {number place : ℕ} → refused number place ≡ store_given text → read_store_in text out ≡ refusing number place out
+      store_refused {number} {place} e = go (read_store text) refl
         where
-          go : (answer : Answer (List EntityRead)) → read_store text ≡ answer → read_store_in text out ≡ refusing 1 place out
-          go (accepted es) q = absurd (let other : refused 1 place ≡ accepted (store_words es) = e ∙ rw q in let z : ◌≡◌ {A = ℕ} 0 1 = cc in omega arith)
+          go : (answer : Answer (List EntityRead)) → read_store text ≡ answer → read_store_in text out ≡ refusing number place out
+          go (accepted es) q = absurd (let other : refused number place ≡ accepted (store_words es) = e ∙ rw q in let z : ◌≡◌ {A = ℕ} 0 1 = cc in omega arith)
           go (refused n p) q =
-              let same : refused 1 place ≡ and_then (refused n p) (λ es. accepted (store_words es)) = e ∙ rw q in
-              let number : n ≡ 1 = cc in
+              let same : refused number place ≡ and_then (refused n p) (λ es. accepted (store_words es)) = e ∙ rw q in
+              let same_number : n ≡ number = cc in
               let line : p ≡ place = cc in
-              by_text (refused n p) q ∙ rw (number, line)
+              by_text (refused n p) q ∙ rw (same_number, line)
 
       pub store_stored : (words : List ℕ) → accepted words ≡ store_given text → read_store_in text out ≡ record { reply = Done; buffer = sets out 0 (length words ∷ words) }
       store_stored words e = go (read_store text) refl

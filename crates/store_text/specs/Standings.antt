@@ -1,14 +1,13 @@
 -- By what the next line of a store is judged, for the contracts of `taking`.
-use Rattle.std.specs.Prelude.{ℕ, ◌+◌, ◌^◌, cond, List, [], leb, ltb, take}
+use Rattle.std.specs.Prelude.{ℕ, ◌+◌, ◌^◌, cond, List, [], leb, ltb, take, Option as Maybe, Some, None}
 use Rattle.std.proofs.Math.Option.{Option, none, some}
 use Rattle.rules.specs.ValueRows.{ValueRow}
 use Rattle.rules.specs.ValueRowTests.{Level, levels_after}
 use Rattle.rules.specs.ValueTexts.{StoreLine, entity_line, parent_line, ancestor_line, attribute_line, field_level, may_come}
 use Rattle.values.specs.ValueWords.{value_word}
 use Rattle.values.specs.Lawful.{levels_in}
+use Rattle.store_text.specs.declared.taking.Standing.{Standing}
 use Rattle.store_text.specs.Words.{parent_word, ancestor_word}
-use Rattle.store_text.specs.declared.taking.Took.{Took}
-use Rattle.store_text.specs.declared.taking.Took.TheVariants.{Line, Refused}
 
 -- The word of the line before, the least id that the next entity may have, and the levels at which a row may come.
 pub record StoreSofar : Type 0 where
@@ -44,13 +43,13 @@ standing_behind s none = none
 standing_behind s (some said) = standing_after s said
 
 -- what was taken: the levels are the open ones of the words that keep them
-abbrev pub took_standing : Took → List ℕ → Option StoreSofar
-took_standing (Line word next len) levels = some (standing word next (levels_in (take len levels)))
-took_standing Refused levels = none
+abbrev pub took_standing : Maybe Standing → List ℕ → Option StoreSofar
+took_standing (Some s) levels = some (standing s.last s.next (levels_in (take s.levels levels)))
+took_standing None levels = none
 
-abbrev pub took_id : ℕ → ℕ → ℕ → ℕ → Took
-took_id last word next len = cond (ltb last word) (Line word next len) Refused
+abbrev pub took_id : Standing → ℕ → Maybe Standing
+took_id s word = cond (ltb s.last word) (Some (record { last = word; next = s.next; levels = s.levels })) None
 
-abbrev pub open_in : Took → ℕ
-open_in (Line word next len) = len
-open_in Refused = 0
+abbrev pub open_in : Maybe Standing → ℕ
+open_in (Some s) = s.levels
+open_in None = 0

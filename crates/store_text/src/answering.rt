@@ -6,33 +6,12 @@ ghost use Rattle.store_text.specs.Answering.{id_in, among_of, FoundEntity, Entit
 
 use crate::runs::{ANCESTORS, PARENTS, ROWS, run_end};
 
-// Where an entity stands: the place of its own word, or it is absent.
-#[derive(Drop)]
-enum Found {
-    At(usize),
-    Absent,
-}
-
-// What writing an answer gives: the place behind it, or that there is no room for it.
-#[derive(Drop)]
-pub enum Put {
-    To(usize),
-    Full,
-}
-
-// The place of the word that is an id. No word of a parent, an ancestor or a row is one.
-fn find_entity(words: &[u64], id: u64) -> Found
+// Where the entity of an id stands: the place of its own word, if it is there. No word of a parent, an ancestor or a row is an id.
+fn find_entity(words: &[u64], id: u64) -> Option<usize>
     requires { id ≤ 65535 }
     ensures { FoundEntity words.now id result }
 {
-    let mut i = 0;
-    while i < words.len() {
-        if words[i] == id {
-            return Found::At(i);
-        }
-        i += 1;
-    }
-    Found::Absent
+    words.iter().position(|word| *word == id)
 }
 
 // Copies the ids of words of parents to a place, and answers the place after them.
@@ -40,16 +19,14 @@ fn copy_ids(words: &[u64], out: &mut [u64], to: usize) -> usize
     requires { to + length words.now ≤ length out.old }
     ensures { Wrote out.old to (map id_in words.now) out.new result }
 {
-    let mut i = 0;
-    while i < words.len() {
+    for i in 0..words.len() {
         out[to + i] = words[i] % 0x1_0000;
-        i += 1;
     }
-    to + i
+    to + words.len()
 }
 
-// Writes the answer that is the entity at a place: its head, its parents and its rows.
-fn write_entity(words: &[u64], at: usize, out: &mut [u64], to: usize) -> Put
+// Writes the answer that is the entity at a place: its head, its parents and its rows. Answers the place behind it, if there is room for it.
+fn write_entity(words: &[u64], at: usize, out: &mut [u64], to: usize) -> Option<usize>
     requires { (at < length words.now) × (length words.now ≤ 16384) × (to ≤ length out.old) }
     ensures { EntityAnswered words.now at out.old to out.new result }
 {
@@ -60,24 +37,25 @@ fn write_entity(words: &[u64], at: usize, out: &mut [u64], to: usize) -> Put
     let parent_count = ancestors - parents;
     let row_count = end - rows;
     if out.len() - to <= parent_count + row_count {
-        return Put::Full;
+        return None;
     }
     out[to] = 1 + parent_count as u64 * 0x1_0000 + row_count as u64 * 0x1_0000_0000;
     let behind = copy_ids(&words[parents..ancestors], out, to + 1);
-    Put::To(words::copy_words(&words[rows..end], out, behind))
+    Some(words::copy_words(&words[rows..end], out, behind))
 }
 
-// Writes the answer to a row that asks for an entity (docs/FORMS.md, 'Answers in'): 0 where it is absent.
-pub fn answer_row(words: &[u64], id: u64, out: &mut [u64], to: usize) -> Put
+// Writes the answer to a row that asks for an entity (docs/FORMS.md, 'Answers in'): 0 where it is absent. Answers the place behind it, if
+// there is room for it.
+pub fn answer_row(words: &[u64], id: u64, out: &mut [u64], to: usize) -> Option<usize>
     requires { (id ≤ 65535) × (length words.now ≤ 16384) × (to ≤ length out.old) }
     ensures { AnsweredRow words.now id out.old to out.new result }
 {
-    let Found::At(at) = find_entity(words, id) else {
+    let Some(at) = find_entity(words, id) else {
         if out.len() <= to {
-            return Put::Full;
+            return None;
         }
         out[to] = 0;
-        return Put::To(to + 1);
+        return Some(to + 1);
     };
     write_entity(words, at, out, to)
 }
@@ -110,21 +88,28 @@ fn write_among(ancestors: &[u64], asked: &[u64], out: &mut [u64], to: usize) -> 
     next
 }
 
-// Writes the answer to an ancestors request (docs/FORMS.md, 'Ancestors answers in'), where there is room for all ids asked for.
-pub fn answer_ancestors(words: &[u64], id: u64, asked: &[u64], out: &mut [u64], to: usize) -> Put
+// Writes the answer to an ancestors request (docs/FORMS.md, 'Ancestors answers in'), where there is room for all ids asked for, and answers
+// the place behind it.
+pub fn answer_ancestors(
+    words: &[u64],
+    id: u64,
+    asked: &[u64],
+    out: &mut [u64],
+    to: usize,
+) -> Option<usize>
     requires { (id ≤ 65535) × (to ≤ length out.old) }
     ensures { AnsweredAncestors words.now id asked.now out.old to out.new result }
 {
     if out.len() - to <= asked.len() {
-        return Put::Full;
+        return None;
     }
-    let Found::At(at) = find_entity(words, id) else {
+    let Some(at) = find_entity(words, id) else {
         out[to] = 0;
-        return Put::To(to + 1);
+        return Some(to + 1);
     };
     let start = run_end(words, at + 1, PARENTS);
     let end = run_end(words, start, ANCESTORS);
     let behind = write_among(&words[start..end], asked, out, to + 1);
     out[to] = (behind - to - 1) as u64;
-    Put::To(behind)
+    Some(behind)
 }

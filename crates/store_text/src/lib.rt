@@ -8,5 +8,5 @@ mod reading;
 mod runs;
 mod taking;
 
-pub use answering::{Put, answer_ancestors, answer_row};
+pub use answering::{answer_ancestors, answer_row};
 pub use reading::read_store;

@@ -4,8 +4,8 @@ ghost use Rattle.store_text.specs.Entities.{Entities, OrderFound};
 
 use crate::runs::{ANCESTORS, PARENTS, ROWS, run_end};
 
-// The first of all words that is an element not above the one before it, or the count of words. `levels` is scratch, one word a depth.
-pub fn first_unordered(words: &[u64], levels: &mut [u64]) -> usize
+// The place of the first word that is an element not above the one before it, if there is one. `levels` is scratch, one word a depth.
+pub fn first_unordered(words: &[u64], levels: &mut [u64]) -> Option<usize>
     requires { Entities words.now × (length words.now < length levels.old) }
     ensures { OrderFound words.now result }
 {
@@ -14,11 +14,10 @@ pub fn first_unordered(words: &[u64], levels: &mut [u64]) -> usize
         let parents_end = run_end(words, i + 1, PARENTS);
         let start = run_end(words, parents_end, ANCESTORS);
         let end = run_end(words, start, ROWS);
-        let first = value_text::first_misplaced(&words[start..end], levels);
-        if first < end - start {
-            return start + first;
+        if let Some(first) = value_text::first_misplaced(&words[start..end], levels) {
+            return Some(start + first);
         }
         i = end;
     }
-    i
+    None
 }

@@ -21,12 +21,10 @@ pub fn run_end(words: &[u64], at: usize, part: u64) -> usize
     requires { at ≤ length words.now }
     ensures { (result ≡ at + run_of part (drop at words.now)) × (result ≤ length words.now) }
 {
-    let mut i = at;
-    while i < words.len() {
+    for i in at..words.len() {
         if part_of(words[i]) != part {
             return i;
         }
-        i += 1;
     }
-    i
+    words.len()
 }

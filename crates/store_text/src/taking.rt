@@ -6,57 +6,78 @@ ghost use Rattle.values.specs.Lawful.{levels_in};
 ghost use Rattle.values.specs.ValueWords.{value_row_in};
 ghost use Rattle.store_text.specs.Standings.{standing, row_after, standing_behind, took_standing, took_id, open_in};
 
-use crate::line::{ParsedLine, parse_line};
+use crate::line::{StoreLine, parse_line};
 use values::ValueRow;
 
-// What a line gives: its word, the least id that the next entity may have and how many levels are open; or it may not come.
-#[derive(Drop)]
-pub enum Took {
-    Line(u64, u64, usize),
-    Refused,
+// What the next line is judged by: the word of the line before it, the least id that the next entity may have, and how many levels are open.
+#[derive(Clone, Copy, PartialEq, Eq, Debug)]
+pub struct Standing {
+    pub last: u64,
+    pub next: u64,
+    pub levels: usize,
+}
+
+impl Standing {
+    // Before the first line it is as behind a row: only an entity may come.
+    pub const START: Standing = Standing {
+        last: 0x8_0000_0000,
+        next: 0,
+        levels: 0,
+    };
 }
 
 // Takes the word of a parent or an ancestor, which is above the word before it: an entity's is below a parent's, that below an
 // ancestor's, and a row's above them all.
-fn take_id(last: u64, word: u64, next: u64, len: usize) -> Took
-    ensures { result ≡ took_id last word next len }
+fn take_id(before: Standing, word: u64) -> Option<Standing>
+    ensures { result ≡ took_id before word }
 {
-    if last < word {
-        return Took::Line(word, next, len);
+    if word <= before.last {
+        return None;
     }
-    Took::Refused
+    Some(Standing {
+        last: word,
+        next: before.next,
+        levels: before.levels,
+    })
 }
 
 // Takes a row of attributes, where it may come at one of the open levels.
-fn take_attribute(row: ValueRow, next: u64, levels: &mut [u64], len: usize) -> Took
-    requires { len < length levels.old }
-    ensures levels_after { took_standing result levels.new ≡ row_after next (levels_in (take len levels.old)) (value_row_in row.word) }
-    ensures result_bound { open_in result ≤ len + 1 }
+fn take_attribute(before: Standing, row: ValueRow, levels: &mut [u64]) -> Option<Standing>
+    requires { before.levels < length levels.old }
+    ensures levels_after { took_standing result levels.new ≡ row_after before.next (levels_in (take before.levels levels.old)) (value_row_in row.word) }
+    ensures result_bound { open_in result ≤ before.levels + 1 }
 {
-    if !value_text::may_come(row, &levels[..len]) {
-        return Took::Refused;
+    if !value_text::may_come(row, &levels[..before.levels]) {
+        return None;
     }
-    let after = values::open_levels(levels, row);
-    Took::Line(row.word, next, after)
+    Some(Standing {
+        last: row.word,
+        next: before.next,
+        levels: values::open_levels(levels, row),
+    })
 }
 
-// Takes a line behind a word, by the least id that the next entity may have and the levels that are open.
-pub fn take_line(line: &[u8], last: u64, next: u64, levels: &mut [u64], len: usize) -> Took
-    requires { len < length levels.old }
-    ensures levels_after { took_standing result levels.new ≡ standing_behind (standing last next (levels_in (take len levels.old))) (store_line_of (fields_of line.now)) }
-    ensures result_bound { open_in result ≤ len + 1 }
+// Takes a line, if it is of the stated form and may come. `levels` holds the open levels.
+pub fn take_line(line: &[u8], before: Standing, levels: &mut [u64]) -> Option<Standing>
+    requires { before.levels < length levels.old }
+    ensures levels_after { took_standing result levels.new ≡ standing_behind (standing before.last before.next (levels_in (take before.levels levels.old))) (store_line_of (fields_of line.now)) }
+    ensures result_bound { open_in result ≤ before.levels + 1 }
 {
-    match parse_line(line) {
-        ParsedLine::Bad => Took::Refused,
-        ParsedLine::Entity(id) => {
-            if id < next {
-                return Took::Refused;
+    let said = parse_line(line)?;
+    match said {
+        StoreLine::Entity(id) => {
+            if id < before.next {
+                return None;
             }
             levels[0] = 0;
-            Took::Line(id, id + 1, 1)
+            Some(Standing {
+                last: id,
+                next: id + 1,
+                levels: 1,
+            })
         }
-        ParsedLine::Parent(id) => take_id(last, id + 0x1_0000, next, len),
-        ParsedLine::Ancestor(id) => take_id(last, id + 0x2_0000, next, len),
-        ParsedLine::Attribute(row) => take_attribute(row, next, levels, len),
+        StoreLine::Parent(id) => take_id(before, id + 0x1_0000),
+        StoreLine::Ancestor(id) => take_id(before, id + 0x2_0000),
+        StoreLine::Attribute(row) => take_attribute(before, row, levels),
     }
 }

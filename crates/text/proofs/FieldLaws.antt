@@ -3,6 +3,8 @@ use Prim.Native.Nat.{ℕ, ◌+◌, ◌-◌, ◌≤◌, ◌<◌}
 use native.Mathlib.Nat.{sub-zero, add-sub_cancel_left}
 use native.Mathlib.Omega.{arith}
 use mathlib.Core.List.{List, [], ◌∷◌}
+use mathlib.Core.Bool.{true, false, true≢false, false≢true}
+use Rattle.std.specs.Option.{is_some}
 use mathlib.Core.Option.{Option, none, some}
 use mathlib.Core.Path.{◌≡◌, refl, sym, ap, ◌∙◌}
 use lib.ListN.{length, get_or, take, drop, length-drop}
@@ -58,6 +60,15 @@ fields_last line at r ensured e =
 -- a line whose first field is the last is that field
 pub fields_whole : (line : List ℕ) (r : Maybe ℕ) → r ≡ field_at line 0 → r ≡ None → fields_of line ≡ line ∷ []
 fields_whole line r ensured e = fields_last line 0 r ensured e ∙ rw (sub-zero, take_all (length line) line (omega arith))
+
+-- a line's field ends at a tab or not
+pub no_field : (r : Maybe ℕ) → is_some r ≡ false → r ≡ None
+no_field None e = refl
+no_field (Some end) e = absurd (true≢false e)
+
+pub some_field : (r : Maybe ℕ) → is_some r ≡ true → (end : ℕ) × (r ≡ Some end)
+some_field None e = absurd (false≢true e)
+some_field (Some end) e = (end, refl)
 
 -- ---- letters
 

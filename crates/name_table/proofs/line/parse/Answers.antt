@@ -1,30 +1,19 @@
 -- `name_table::line::parse` meets its contract: the parts that are passed on are the fields of the line.
-use Prim.Native.Nat.{ℕ, ◌+◌, ◌-◌}
+use Prim.Native.Nat.{◌+◌, ◌-◌}
 use native.Mathlib.Nat.{sub-zero}
 use native.Mathlib.Omega.{arith}
 use mathlib.Core.List.{[], ◌∷◌}
-use mathlib.Core.Path.{◌≡◌, refl, sym, ap, ◌∙◌}
-use mathlib.Core.Bool.{true, false, true≢false, false≢true}
-use Rattle.std.specs.Option.{is_some}
-use Rattle.std.specs.Prelude.{Option as Maybe, Some, None}
+use mathlib.Core.Path.{◌≡◌, sym, ap, ◌∙◌}
 use lib.ListN.{length, take, drop}
 use lib.Seq.{length-take-le}
 use Rattle.rules.specs.Text.{fields_of, TAB}
 use Rattle.rules.proofs.TextLaws.{parted_some}
-use Rattle.text.proofs.FieldLaws.{Ends, field_ends, fields_last, fields_whole}
+use Rattle.text.proofs.FieldLaws.{no_field, some_field, Ends, field_ends, fields_last, fields_whole}
 use Rattle.rules.specs.Names.{named_of}
 use Rattle.text.specs.Answers.{number_of}
 use Rattle.name_table.specs.LineLaws.{not_named, name_parsed}
 use Rattle.name_table.proofs.line.parse.Goals as goal
 use Rattle.name_table.proofs.line.parse.Goals.{In_ok-kind_end, In_ok-id_end, Else-is_some}
-
-no_field : (r : Maybe ℕ) → is_some r ≡ false → r ≡ None
-no_field None e = refl
-no_field (Some end) e = absurd (true≢false e)
-
-some_field : (r : Maybe ℕ) → is_some r ≡ true → (end : ℕ) × (r ≡ Some end)
-some_field None e = absurd (false≢true e)
-some_field (Some end) e = (end, refl)
 
 -- where the first two fields end, and that the third is the last
 kind-ends : (c : In_ok-kind_end) → Ends c.args.line.now 0 c.in_ok-kind_end.kind_end

@@ -2,7 +2,7 @@
 use Prim.Native.Nat.{ℕ, ◌+◌}
 use native.Mathlib.Omega.{arith}
 use mathlib.Core.List.{map}
-use mathlib.Core.Path.{◌≡◌, refl, ap, ◌∙◌}
+use mathlib.Core.Path.{◌≡◌, refl, sym, ap, ◌∙◌}
 use lib.ListN.{length, take, length-map}
 use lib.Seq.{length-sets, take_all}
 use Rattle.store_text.specs.Answering.{id_in}
@@ -47,6 +47,6 @@ pub returns : goal.returns
 returns c =
     let a = c.args in
     record {
-      after = ap (λ (n : ℕ). a.to + n) (all (goal.at.returns c).After-loop-i);
+      after = ap (λ (n : ℕ). a.to + n) (sym (length-map a.words.now id_in));
       text = c.loop-i.invariant.1 ∙ rw (take_all c.loop-i.i (map id_in a.words.now) (omega (arith, all (goal.at.returns c).After-loop-i)));
     }

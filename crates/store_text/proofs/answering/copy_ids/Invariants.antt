@@ -1,4 +1,4 @@
-use Prim.Native.Nat.{◌-◌, ◌≤◌}
+use Prim.Native.Nat.{◌≤◌}
 use mathlib.Core.List.{map}
 use mathlib.Core.Path.{◌≡◌}
 use lib.ListN.{length, take}
@@ -8,6 +8,3 @@ use Rattle.store_text.proofs.answering.copy_ids.Given as goal
 
 abbrev pub invariant-loop-i : goal.invariant-loop-i
 invariant-loop-i l = (l.i ≤ length l.words) × (l.out ≡ sets l.initial.out l.to (take l.i (map id_in l.words)))
-
-abbrev pub decreases-loop-i : goal.decreases-loop-i
-decreases-loop-i l = length l.words - l.i

@@ -3,11 +3,11 @@
 use Prim.Native.Nat.{◌-◌, ◌≤◌, ◌<◌}
 use native.Mathlib.Omega.{arith}
 use mathlib.Core.Path.{refl, ◌∙◌}
-use lib.ListN.{length, drop, length-drop}
+use lib.ListN.{length, take, drop, length-drop}
 use lib.Seq.{length-take-le}
 use Rattle.store_text.specs.OrderLaws.{Parts, passing_none, passing_all, next_pass, passing_found, passing_next}
 use Rattle.store_text.proofs.order.first_unordered.Goals as goal
-use Rattle.store_text.proofs.order.first_unordered.Goals.{After-run_end-end}
+use Rattle.store_text.proofs.order.first_unordered.Goals.{After-run_end-end, In-Some}
 
 pub loop-i-init : goal.loop-i-init
 loop-i-init c = (refl, omega arith, passing_none c.args.words.now)
@@ -45,42 +45,45 @@ slice_bounds-first_misplaced-start c = omega (arith, ends (goal.at.slice_bounds-
 pub slice_bounds-first_misplaced-end : goal.slice_bounds-first_misplaced-end
 slice_bounds-first_misplaced-end c = omega (arith, ends (goal.at.slice_bounds-first_misplaced-end c).After-run_end-end)
 
-pub first_misplaced-first-requires : goal.first_misplaced-first-requires
-first_misplaced-first-requires c =
+pub first_misplaced-requires : goal.first_misplaced-requires
+first_misplaced-requires c =
     let (es, holds) = c.requires.0 in (
-      next_pass (parts (goal.at.first_misplaced-first-requires c).After-run_end-end) (c.loop-i.invariant.2 es holds),
+      next_pass (parts (goal.at.first_misplaced-requires c).After-run_end-end) (c.loop-i.invariant.2 es holds),
       omega (
         arith,
         c.requires.1,
         c.loop-i.invariant.0,
-        ends (goal.at.first_misplaced-first-requires c).After-run_end-end,
-        length-take-le (c.run_end-end.result - c.run_end-start.result) (drop c.run_end-start.result c.args.words.now) (omega (arith, ends (goal.at.first_misplaced-first-requires c).After-run_end-end, length-drop c.run_end-start.result c.args.words.now)),
+        ends (goal.at.first_misplaced-requires c).After-run_end-end,
+        length-take-le (c.run_end-end.result - c.run_end-start.result) (drop c.run_end-start.result c.args.words.now) (omega (arith, ends (goal.at.first_misplaced-requires c).After-run_end-end, length-drop c.run_end-start.result c.args.words.now)),
       ),
     )
 
-pub overflow_sub-end : goal.overflow_sub-end
-overflow_sub-end c = omega (arith, ends (goal.at.overflow_sub-end c).After-run_end-end)
+-- an element out of order is one of its own
+own : (c : In-Some) → c.in-Some.first < c.run_end-end.result - c.run_end-start.result
+own c =
+    let there : c.in-Some.first < length (take (c.run_end-end.result - c.run_end-start.result) (drop c.run_end-start.result c.args.words.now)) = c.first_misplaced.ensures.within _ c.in-Some.is in
+    omega (arith, there, length-take-le (c.run_end-end.result - c.run_end-start.result) (drop c.run_end-start.result c.args.words.now) (omega (arith, c.run_end-end.ensures.1, length-drop c.run_end-start.result c.args.words.now)))
 
 pub overflow_add-result : goal.overflow_add-result
-overflow_add-result c = omega (arith, c.if-first-end.true, ends (goal.at.overflow_add-result c).After-run_end-end)
+overflow_add-result c = omega (arith, own (goal.at.overflow_add-result c).In-Some, ends (goal.at.overflow_add-result c).After-run_end-end)
 
-pub shape_of-levels-then-first-end : goal.shape_of-levels-then-first-end
-shape_of-levels-then-first-end c =
-    c.first_misplaced-first.auto.levels ∙ c.loop-i.invariant.0
+pub shape_of-levels-in-Some : goal.shape_of-levels-in-Some
+shape_of-levels-in-Some c = c.first_misplaced.auto.levels ∙ c.loop-i.invariant.0
 
-pub returns-then-first-end : goal.returns-then-first-end
-returns-then-first-end c =
-    passing_found (parts (goal.at.returns-then-first-end c).After-run_end-end) c.first_misplaced-first.ensures c.if-first-end.true (omega (arith, c.if-first-end.true, ends (goal.at.returns-then-first-end c).After-run_end-end))
-    c.loop-i.invariant.2
+pub returns-in-Some : goal.returns-in-Some
+returns-in-Some c =
+    let here = own (goal.at.returns-in-Some c).In-Some in
+    passing_found (parts (goal.at.returns-in-Some c).After-run_end-end) c.first_misplaced.ensures c.in-Some.is here
+    (omega (arith, here, ends (goal.at.returns-in-Some c).After-run_end-end)) c.loop-i.invariant.2
 
 pub loop-i-smaller : goal.loop-i-smaller
 loop-i-smaller c = omega (arith, ends (goal.at.loop-i-smaller c).After-run_end-end)
 
 pub loop-i-preserved : goal.loop-i-preserved
 loop-i-preserved c = (
-  c.first_misplaced-first.auto.levels ∙ c.loop-i.invariant.0,
+  c.first_misplaced.auto.levels ∙ c.loop-i.invariant.0,
   (ends (goal.at.loop-i-preserved c).After-run_end-end).3,
-  λ es holds. passing_next (parts (goal.at.loop-i-preserved c).After-run_end-end) c.first_misplaced-first.ensures c.if-first-end.false (c.loop-i.invariant.2 es holds),
+  λ es holds. passing_next (parts (goal.at.loop-i-preserved c).After-run_end-end) c.first_misplaced.ensures c.in_default.is (c.loop-i.invariant.2 es holds),
 )
 
 pub shape_of-levels : goal.shape_of-levels
@@ -88,4 +91,4 @@ shape_of-levels c = c.loop-i.invariant.0
 
 pub returns : goal.returns
 returns c =
-    passing_all c.args.words.now c.loop-i.i c.loop-i.invariant.1 c.loop-i-test.false c.loop-i.invariant.2
+    passing_all c.args.words.now c.loop-i.i c.loop-i-test.false c.loop-i.invariant.2

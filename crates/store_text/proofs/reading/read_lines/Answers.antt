@@ -49,21 +49,21 @@ slice_bounds-take_line-start c = omega (arith, within (goal.at.slice_bounds-take
 pub slice_bounds-take_line-end : goal.slice_bounds-take_line-end
 slice_bounds-take_line-end c = omega (arith, within (goal.at.slice_bounds-take_line-end c).In-Whole)
 
-pub take_line-took-requires : goal.take_line-took-requires
-take_line-took-requires c =
-    omega (arith, c.loop-at.invariant.few, room (goal.at.take_line-took-requires c).In-Whole, c.loop-at.invariant.levels_length)
+pub take_line-requires : goal.take_line-requires
+take_line-requires c =
+    omega (arith, c.loop-at.invariant.few, room (goal.at.take_line-requires c).In-Whole, c.loop-at.invariant.levels_length)
 
-pub shape_of-words-in-Refused : goal.shape_of-words-in-Refused
-shape_of-words-in-Refused c = words_kept (goal.at.shape_of-words-in-Refused c).At-loop-at
+pub shape_of-words-in_default-take_line : goal.shape_of-words-in_default-take_line
+shape_of-words-in_default-take_line c = words_kept (goal.at.shape_of-words-in_default-take_line c).At-loop-at
 
-pub shape_of-levels-in-Refused : goal.shape_of-levels-in-Refused
-shape_of-levels-in-Refused c =
-    c.take_line-took.auto.levels ∙ levels-kept (goal.at.shape_of-levels-in-Refused c).At-loop-at
+pub shape_of-levels-in_default-take_line : goal.shape_of-levels-in_default-take_line
+shape_of-levels-in_default-take_line c =
+    c.take_line.auto.levels ∙ levels-kept (goal.at.shape_of-levels-in_default-take_line c).At-loop-at
 
-pub returns-in-Refused : goal.returns-in-Refused
-returns-in-Refused c =
+pub returns-in_default-take_line : goal.returns-in_default-take_line
+returns-in_default-take_line c =
     reading_stopped c.loop-at.invariant c.at.ensures c.in-Whole.is
-    (rw c.in-Refused.is at c.take_line-took.ensures.levels_after)
+    (rw c.in_default-take_line.is at c.take_line.ensures.levels_after)
 
 pub overflow_add-count : goal.overflow_add-count
 overflow_add-count c = omega (arith, room (goal.at.overflow_add-count c).In-Whole)
@@ -84,8 +84,8 @@ loop-at-smaller c = omega (arith, within (goal.at.loop-at-smaller c).In-Whole)
 pub loop-at-preserved : goal.loop-at-preserved
 loop-at-preserved c =
     reading_next c.loop-at.invariant c.at.ensures c.in-Whole.is c.requires.0
-    c.take_line-took.auto.levels (rw c.in-Line.is at c.take_line-took.ensures.result_bound)
-    (rw c.in-Line.is at c.take_line-took.ensures.levels_after)
+    c.take_line.auto.levels (rw c.in-Some.is at c.take_line.ensures.result_bound)
+    (rw c.in-Some.is at c.take_line.ensures.levels_after)
 
 pub shape_of-words : goal.shape_of-words
 shape_of-words c = words_kept (goal.at.shape_of-words c).At-loop-at

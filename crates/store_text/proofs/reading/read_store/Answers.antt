@@ -5,13 +5,14 @@ use mathlib.Core.List.{List}
 use mathlib.Core.Path.{◌≡◌, ap, ◌∙◌}
 use lib.ListN.{length, length-set}
 use lib.Seq.{sets}
+use Rattle.std.proofs.lemmas.Result.{err_from_is_err_and}
 use Rattle.rules.specs.Numbers.{accepted}
 use Rattle.words.specs.Runs.{stored}
 use Rattle.words.specs.RunLaws.{by_parts, counted, copied}
 use Rattle.store_text.specs.Outcomes.{store_given}
 use Rattle.store_text.specs.ReadLaws.{store_short, store_long, store_refused, store_stored}
 use Rattle.store_text.proofs.reading.read_store.Goals as goal
-use Rattle.store_text.proofs.reading.read_store.Goals.{In-Lines}
+use Rattle.store_text.proofs.reading.read_store.Goals.{In_ok-count}
 
 pub returns-then-out-lt-WORDS : goal.returns-then-out-lt-WORDS
 returns-then-out-lt-WORDS c = let a = c.args in by_parts (store_short a.text.now a.out.now c.if-out-lt-WORDS.true)
@@ -22,33 +23,36 @@ returns-then-text-gt-BYTES c =
     by_parts (store_long a.text.now a.out.now c.if-out-lt-WORDS.false c.if-text-gt-BYTES.true)
 
 -- what was read, where it is lines: their words are stored, and fit a state
-lines_read : (c : In-Lines) →
-    accepted (stored c.in-Lines.count c.read_ordered.new.words)
+lines_read : (c : In_ok-count) →
+    accepted (stored c.in_ok-count.count c.read_ordered.new.words)
     ≡ store_given c.args.text.now
-lines_read c = rw c.in-Lines.is at c.read_ordered.ensures.words_after
+lines_read c = rw c.in_ok-count.was at c.read_ordered.ensures.words_after
 
-count_fits : (c : In-Lines) → c.in-Lines.count < length c.read_ordered.new.words
+count_fits : (c : In_ok-count) → c.in_ok-count.count < length c.read_ordered.new.words
 count_fits c =
-    let few : c.in-Lines.count ≤ 16384 = rw c.in-Lines.is at c.read_ordered.ensures.result_bound in
+    let few : c.in_ok-count.count ≤ 16384 = rw c.in_ok-count.was at c.read_ordered.ensures.result_bound in
     omega (arith, few, c.read_ordered.auto.words)
 
 pub copy_rows-requires : goal.copy_rows-requires
 copy_rows-requires c =
-    let few = count_fits (goal.at.copy_rows-requires c).In-Lines in
-    rw (counted c.read_ordered.new.words c.in-Lines.count few)
+    let few = count_fits (goal.at.copy_rows-requires c).In_ok-count in
+    rw (counted c.read_ordered.new.words c.in_ok-count.count few)
     (simp length-set few, omega (arith, few, c.read_ordered.auto.words, c.if-out-lt-WORDS.false))
 
-pub returns-in-Refused : goal.returns-in-Refused
-returns-in-Refused c =
+pub returns-in_err-count : goal.returns-in_err-count
+returns-in_err-count c =
     let a = c.args in
-    by_parts
-    (store_refused a.text.now a.out.now c.if-out-lt-WORDS.false c.if-text-gt-BYTES.false (rw c.in-Refused.is at c.read_ordered.ensures.words_after))
+    let handed = err_from_is_err_and c.from_residual.result c.from_residual.ensures.1 in
+    rw (handed.1, handed.2)
+    (by_parts
+    (store_refused a.text.now a.out.now c.if-out-lt-WORDS.false c.if-text-gt-BYTES.false (rw c.in_err-count.was at c.read_ordered.ensures.words_after)))
 
-pub returns-in-Lines : goal.returns-in-Lines
-returns-in-Lines c =
+pub returns : goal.returns
+returns c =
     let a = c.args in
+    let read = (goal.at.returns c).In_ok-count in
     let (reply, buffer) =
-    by_parts (store_stored a.text.now a.out.now c.if-out-lt-WORDS.false c.if-text-gt-BYTES.false (stored c.in-Lines.count c.read_ordered.new.words) (lines_read (goal.at.returns-in-Lines c).In-Lines)) in (
+    by_parts (store_stored a.text.now a.out.now c.if-out-lt-WORDS.false c.if-text-gt-BYTES.false (stored c.in_ok-count.count c.read_ordered.new.words) (lines_read read)) in (
       reply,
-      c.copy_rows.ensures ∙ ap (λ (l : List ℕ). sets a.out.now 0 l) (copied c.read_ordered.new.words c.in-Lines.count (count_fits (goal.at.returns-in-Lines c).In-Lines)) ∙ buffer,
+      c.copy_rows.ensures ∙ ap (λ (l : List ℕ). sets a.out.now 0 l) (copied c.read_ordered.new.words c.in_ok-count.count (count_fits read)) ∙ buffer,
     )

@@ -1,6 +1,7 @@
 -- `store_text::runs::run_end` meets its contract: all words that were passed are of the part.
 use native.Mathlib.Omega.{arith}
-use mathlib.Core.Path.{sym, ◌∙◌}
+use mathlib.Core.Path.{◌≡◌, sym, ◌∙◌}
+use lib.ListN.{length}
 use Rattle.store_text.specs.RunLaws.{run_none, run_stops, run_more}
 use Rattle.store_text.proofs.runs.run_end.Goals as goal
 
@@ -19,4 +20,5 @@ loop-i-preserved c =
 pub returns : goal.returns
 returns c =
     let a = c.args in
-    (omega (arith, c.loop-i.invariant.1, run_none a.part a.words.now c.loop-i.i c.loop-i-test.false), c.loop-i.invariant.0)
+    let end : c.loop-i.i ≡ length a.words.now = omega (arith, c.loop-i.invariant.0, c.loop-i-test.false) in
+    (omega (arith, end, c.loop-i.invariant.1, run_none a.part a.words.now c.loop-i.i c.loop-i-test.false), omega arith)

@@ -17,16 +17,16 @@ use Rattle.store_text.proofs.taking.take_attribute.Goals.{Else-not-may_come}
 -- past the test the row may come, and lies at one of the open levels
 row-comes : (c : Else-not-may_come) →
     let a = c.args in
-    may_come (levels_in (take a.len a.levels.now)) (value_row_in a.row.word) ≡ true
+    may_come (levels_in (take a.before.levels a.levels.now)) (value_row_in a.row.word) ≡ true
 row-comes c = sym c.may_come.ensures ∙ c.if-not-may_come.false
 
 row-depth : (c : Else-not-may_come) →
     let a = c.args in
-    (0 < depth_from a.row.word) × (depth_from a.row.word ≤ a.len)
+    (0 < depth_from a.row.word) × (depth_from a.row.word ≤ a.before.levels)
 row-depth c =
     let a = c.args in
-    let fits : a.len ≤ length a.levels.now = omega (arith, c.requires) in
-    rw (length-take-le a.len a.levels.now fits) at (may_depth a.row.word (take a.len a.levels.now) (row-comes c))
+    let fits : a.before.levels ≤ length a.levels.now = omega (arith, c.requires) in
+    rw (length-take-le a.before.levels a.levels.now fits) at (may_depth a.row.word (take a.before.levels a.levels.now) (row-comes c))
 
 pub slice_bounds-may_come-end-2 : goal.slice_bounds-may_come-end-2
 slice_bounds-may_come-end-2 c = sym (length-take-le _ _ (omega (arith, c.requires)))
@@ -34,11 +34,11 @@ slice_bounds-may_come-end-2 c = sym (length-take-le _ _ (omega (arith, c.require
 pub returns-then-not-may_come : goal.returns-then-not-may_come
 returns-then-not-may_come c = record { levels_after = rw (sym c.may_come.ensures ∙ c.if-not-may_come.true); result_bound = omega arith }
 
-pub open_levels-after-requires : goal.open_levels-after-requires
-open_levels-after-requires c =
-    ((row-depth (goal.at.open_levels-after-requires c).Else-not-may_come).0, omega (arith, row-depth (goal.at.open_levels-after-requires c).Else-not-may_come, c.requires))
+pub open_levels-requires : goal.open_levels-requires
+open_levels-requires c =
+    ((row-depth (goal.at.open_levels-requires c).Else-not-may_come).0, omega (arith, row-depth (goal.at.open_levels-requires c).Else-not-may_come, c.requires))
 
 pub returns : goal.returns
 returns c =
     let a = c.args in
-    let (below, near) = row-depth (goal.at.returns c).Else-not-may_come in record { levels_after = rw (row-comes (goal.at.returns c).Else-not-may_come, word_again a.row.word, c.open_levels-after.ensures.after, after_taken a.levels.now a.len a.row.word below near); result_bound = omega (arith, c.open_levels-after.ensures.few, near) }
+    let (below, near) = row-depth (goal.at.returns c).Else-not-may_come in record { levels_after = rw (row-comes (goal.at.returns c).Else-not-may_come, word_again a.row.word, c.open_levels.ensures.after, after_taken a.levels.now a.before.levels a.row.word below near); result_bound = omega (arith, c.open_levels.ensures.few, near) }
