@@ -7,8 +7,8 @@ use Rattle.words.specs.Runs.{Outcome, refusing, stored}
 use Rattle.rows.specs.Words.{word_of}
 use Rattle.rows.specs.States.{rows_in, lawful_state, storing}
 use Rattle.schema.specs.Items.{items_in, schema_words, lawful_schema}
-use Rattle.type_annotations.specs.declared.Typed.{Typed}
-use Rattle.type_annotations.specs.declared.Typed.TheVariants.{Rows, Refused}
+use Rattle.words.specs.declared.Refusal.{Refusal}
+use Rattle.std.specs.Prelude.{Result, Ok, Err}
 
 -- typing: 31, then 1 at 0 for a schema or a manifest that is not lawful, then by node 9, 10, 11
 unfoldable pub typed_in : List ℕ → List ℕ → List ℕ → Outcome
@@ -24,6 +24,6 @@ pub record TypedRows (answer : Answer (List Row)) (out : List ℕ) (count : ℕ)
   pub words_stored : stored count out ≡ map word_of rows
   pub inside : count < length out
 
-abbrev pub TypedInto : Answer (List Row) → List ℕ → Typed → Type 0
-TypedInto answer out (Rows count) = TypedRows answer out count
-TypedInto answer out (Refused number place) = answer ≡ refused number place
+abbrev pub TypedInto : Answer (List Row) → List ℕ → Result ℕ Refusal → Type 0
+TypedInto answer out (Ok count) = TypedRows answer out count
+TypedInto answer out (Err why) = answer ≡ refused why.number why.place

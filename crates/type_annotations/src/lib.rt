@@ -17,14 +17,7 @@ use schema::Schema;
 use type_table::{TypeSize, fill_table};
 use words::Refusal;
 
-// What typing gives: so many rows that stay, or a refusal at a node.
-#[derive(Drop)]
-enum Typed {
-    Rows(u64),
-    Refused(u64, u64),
-}
-
-// Writes the rows that stay into `out`, from place 1 on. For each depth `above` has the type of the last row there, as a row has it: 0
+// Writes the rows that stay into `out`, from place 1 on, and answers how many they are; a refusal is at a node. For each depth `above` has the type of the last row there, as a row has it: 0
 // where it is dropped; an entry stands there with 1, since it stays.
 fn type_rows(
     words: &[u64],
@@ -34,7 +27,7 @@ fn type_rows(
     places: Places,
     rows: &[u64],
     out: &mut [u64],
-) -> Typed
+) -> Result<u64, Refusal>
     requires good_types { GoodTypes words.now table.now types × EntityTable words.now entities.now }
     requires places_found { PlacesFound words.now places × (length rows.now < length out.old) }
     requires rows_value { (all_words rows.now ≡ true) × (ordered [] (rows_of rows.now) ≡ true) }
@@ -67,12 +60,15 @@ fn type_rows(
                     above[depth] = 0;
                 }
                 Fate::Wrong(number) => {
-                    return Typed::Refused(number, (i - entries) as u64);
+                    return Err(Refusal {
+                        number,
+                        place: (i - entries) as u64,
+                    });
                 }
             }
         }
     }
-    Typed::Rows(count as u64)
+    Ok(count as u64)
 }
 
 // The rows typed by a schema's words; a refusal leaves the output as it was.
@@ -87,7 +83,7 @@ fn type_manifest(words: &[u64], rows: &[u64], out: &mut [u64]) -> Result<(), Ref
     let places = Places::of(words, &mut entities);
     let end = places.entities;
     let mut kept = [0u64; 4_161];
-    match type_rows(
+    let count = type_rows(
         words,
         &table,
         types,
@@ -95,14 +91,10 @@ fn type_manifest(words: &[u64], rows: &[u64], out: &mut [u64]) -> Result<(), Ref
         places,
         rows,
         &mut kept,
-    ) {
-        Typed::Refused(number, place) => Err(Refusal { number, place }),
-        Typed::Rows(count) => {
-            kept[0] = count;
-            words::copy_rows(&kept, out);
-            Ok(())
-        }
-    }
+    )?;
+    kept[0] = count;
+    words::copy_rows(&kept, out);
+    Ok(())
 }
 
 // Types a manifest by a schema; a refusal leaves the output as it was.
