@@ -11,7 +11,8 @@ use Rattle.rows.specs.Words.{row_in}
 use Rattle.rows.specs.States.{rows_of}
 use Rattle.ancestors.specs.Requests.{RequestsAnswered}
 use Rattle.ancestors.specs.RoomLaws.{load_room}
-use Rattle.words.specs.Replies.{Reply, Done as All-done, Refused as One-refused}
+use Rattle.words.specs.Replies.{Reply, refusal, Done as All-done, Refused as One-refused}
+use Rattle.words.specs.declared.Refusal.{Refusal}
 use Rattle.load_state.specs.Transcripts.{node_words, transcript_in, lent_load}
 use Rattle.load_state.specs.Outcomes.{refusing_out, HandedAs}
 use Rattle.load_state.specs.WorkedLaws.{nodes_few}
@@ -101,7 +102,9 @@ module _ {state rows places : List ℕ} {asked batches sum : ℕ} (read : ReadTo
           go : (o : LoadAnswer (List (List ℕ))) → wanted ≡ o → RequestsAnswered o (take asked rows) out out' reply
               → HandedAs (asking_of state out (lent_load state)) (Refused number place) state out'
           go (done lists) e h = let z : ◌≡◌ {A = ℕ} 0 1 = cc h.0 in absurd (omega arith)
-          go (refused_at n p) e h = rw (read.told, turn, e) (cc h.0, refl, h.1)
+          go (refused_at n p) e h =
+              let same : refusal number place ≡ refusal n p = cc (told, h.0) in
+              rw (read.told, turn, e) (ap (λ (r : Refusal). Refused r.number r.place) same, refl, h.1)
           go (counted expected got) e h = absurd h
 
 -- ---- the tests before them

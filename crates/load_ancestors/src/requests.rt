@@ -9,7 +9,7 @@ ghost use Rattle.load_ends.specs.Ends.{ReadTo};
 ghost use Rattle.load_ancestors.specs.Asking.{asking_of, ancestors_in};
 
 use ancestors::compute_ancestors_requests;
-use load_state::{LoadReply, LoadState, Worked, nodes_from, read_load};
+use load_state::{LoadReply, LoadState, nodes_from, read_load};
 use row_walk::Request;
 use slices::build_slice;
 use words::Refusal;
@@ -117,12 +117,19 @@ pub fn load_ancestors(state: &mut [u64], out: &mut [u64]) -> LoadReply
     let mut rows = [0u64; 8_192];
     let mut places = [0u64; 4_096];
     let mut scratch = [0u64; 24_577];
-    let Worked::Come(asked, _, batches, _) = read_load(state, &mut rows, &mut places, &mut scratch)
-    else {
+    let Some(load) = read_load(state, &mut rows, &mut places, &mut scratch) else {
         return LoadReply::Refused(1, 0);
     };
     if state[0] != 3 {
         return LoadReply::Refused(16, 0);
     }
-    ask_ancestors(state, &rows, &places, asked, batches, out, &mut scratch)
+    ask_ancestors(
+        state,
+        &rows,
+        &places,
+        load.asked,
+        load.batches,
+        out,
+        &mut scratch,
+    )
 }

@@ -13,19 +13,19 @@ use Rattle.load_state.specs.CameLaws.{came_asked, came_rows}
 use Rattle.rules.proofs.SliceLaws.{done_same}
 use Rattle.load_state.specs.TurnLaws.{lent_came, lent_told, told_parts}
 use Rattle.load_state.specs.declared.working.Worked.{Worked}
-use Rattle.load_state.specs.declared.working.Worked.TheVariants.{Come}
+use Rattle.std.specs.Prelude.{Option as Maybe, Some}
 use Rattle.load_ends.specs.Ends.{ReadTo}
 
 -- the load of a lent state
 pub lent_read :
-    (state rows places : List ℕ) (asked end batches sum : ℕ) (r : Worked)
+    (state rows places : List ℕ) (worked : Worked) (r : Maybe Worked)
     → LentTo (lent_load state) (answer_words state) rows places (get_or state 7 0) (rows_of (node_words state)) r
-    → r ≡ Come asked end batches sum
-    → ReadTo state rows places asked batches sum
-lent_read state rows places asked end batches sum r h e =
+    → r ≡ Some worked
+    → ReadTo state rows places worked.asked worked.batches worked.sum
+lent_read state rows places worked r h e =
     let (load, told, came) =
-    lent_came (answer_words state) rows places (get_or state 7 0) (rows_of (node_words state)) (lent_load state) r asked end batches sum h e in
-    record { load = load; end = end; told = told; came = came }
+    lent_came (answer_words state) rows places (get_or state 7 0) (rows_of (node_words state)) (lent_load state) r worked h e in
+    record { load = load; end = worked.end; told = told; came = came }
 
 module _ {state rows places : List ℕ} {asked batches sum : ℕ} (read : ReadTo state rows places asked batches sum) where
   pub read_same : {load : Load} → lent_load state ≡ done load → read.load ≡ load

@@ -7,7 +7,7 @@ ghost use Rattle.load_state.specs.Outcomes.{AnsweredAs};
 ghost use Rattle.load_ends.specs.Ends.{ReadTo, handing_slice, result_in};
 
 use answers::Lending;
-use load_state::{LoadReply, LoadState, Worked, read_load};
+use load_state::{LoadReply, LoadState, read_load};
 use slices::build_slice;
 
 // The one length of a slice that is handed out: its count, and words behind it.
@@ -65,12 +65,19 @@ pub fn load_result(state: &[u64], out: &mut [u64]) -> LoadReply
     let mut rows = [0u64; 8_192];
     let mut places = [0u64; 4_096];
     let mut scratch = [0u64; 24_577];
-    let Worked::Come(asked, _, batches, _) = read_load(state, &mut rows, &mut places, &mut scratch)
-    else {
+    let Some(load) = read_load(state, &mut rows, &mut places, &mut scratch) else {
         return LoadReply::Refused(1, 0);
     };
     if state[0] < 5 {
         return LoadReply::Refused(16, 0);
     }
-    write_result(state, &rows, &places, asked, batches, out, &mut scratch)
+    write_result(
+        state,
+        &rows,
+        &places,
+        load.asked,
+        load.batches,
+        out,
+        &mut scratch,
+    )
 }

@@ -9,7 +9,7 @@ ghost use Rattle.load_state.specs.Outcomes.{AnsweredAs};
 ghost use Rattle.load_ends.specs.Ends.{sets_stored, taking_sets, ancestors_answer_in};
 
 use answers::Lending;
-use load_state::{LoadReply, LoadState, Worked, read_load};
+use load_state::{LoadReply, LoadState, read_load};
 
 // The one length of ancestors' answers: a count, and words behind it.
 const LENT_WORDS: usize = 24_577;
@@ -78,16 +78,18 @@ pub fn load_ancestors_answer(state: &mut [u64], sets: &[u64]) -> LoadReply
     let mut rows = [0u64; 8_192];
     let mut places = [0u64; 4_096];
     let mut scratch = [0u64; 24_577];
-    let Worked::Come(asked, _, batches, sum) = read_load(
-        state,
-        &mut rows,
-        &mut places,
-        &mut scratch,
-    ) else {
+    let Some(load) = read_load(state, &mut rows, &mut places, &mut scratch) else {
         return LoadReply::Refused(1, 0);
     };
     if state[0] != 4 {
         return LoadReply::Refused(16, 0);
     }
-    take_sets(state, &sets[1..LENT_WORDS], sets[0], asked, batches, sum)
+    take_sets(
+        state,
+        &sets[1..LENT_WORDS],
+        sets[0],
+        load.asked,
+        load.batches,
+        load.sum,
+    )
 }

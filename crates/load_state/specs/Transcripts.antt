@@ -24,7 +24,7 @@ use Rattle.batches.specs.Takes.{LoadAt}
 use Rattle.batches.specs.Replays.{NoLoad}
 use Rattle.load_state.specs.LoadStates.{request_of, entry_in, context_in, answer_words, set_words, good_parts}
 use Rattle.load_state.specs.declared.working.Worked.{Worked}
-use Rattle.load_state.specs.declared.working.Worked.TheVariants.{Come, Unlawful}
+use Rattle.std.specs.Prelude.{Option as Maybe, Some, None}
 
 abbrev pub turn_in : ℕ → Turn
 turn_in number =
@@ -73,16 +73,17 @@ pub record CameTo (words rows places : List ℕ) (count : ℕ) (nodes : List Row
   pub at : LoadAt words rows places count end s nodes load
 
 -- the load that answers lead to, or there is none
-abbrev pub WorkedTo : LoadAnswer Load → List ℕ → List ℕ → List ℕ → ℕ → List Row → Worked → Type 0
-WorkedTo answer words rows places count nodes Unlawful = NoLoad answer
-WorkedTo (done load) words rows places count nodes (Come asked end batches sum) = CameTo words rows places count nodes load asked end batches sum
-WorkedTo (refused_at number place) words rows places count nodes (Come asked end batches sum) = ⊥
-WorkedTo (counted expected got) words rows places count nodes (Come asked end batches sum) = ⊥
+abbrev pub WorkedTo : LoadAnswer Load → List ℕ → List ℕ → List ℕ → ℕ → List Row → Maybe Worked → Type 0
+WorkedTo answer words rows places count nodes None = NoLoad answer
+WorkedTo (done load) words rows places count nodes (Some worked) =
+    CameTo words rows places count nodes load worked.asked worked.end worked.batches worked.sum
+WorkedTo (refused_at number place) words rows places count nodes (Some worked) = ⊥
+WorkedTo (counted expected got) words rows places count nodes (Some worked) = ⊥
 
 -- the load of a lent state, or 1 at 0 where the state is not lawful
 unfoldable pub lent_load : List ℕ → LoadAnswer Load
 lent_load state = cond (lawful_load state) (worked_out (transcript_in state)) (refused_at 1 0)
 
-abbrev pub LentTo : LoadAnswer Load → List ℕ → List ℕ → List ℕ → ℕ → List Row → Worked → Type 0
-LentTo answer words rows places count nodes Unlawful = answer ≡ refused_at 1 0
-LentTo answer words rows places count nodes (Come asked end batches sum) = WorkedTo answer words rows places count nodes (Come asked end batches sum)
+abbrev pub LentTo : LoadAnswer Load → List ℕ → List ℕ → List ℕ → ℕ → List Row → Maybe Worked → Type 0
+LentTo answer words rows places count nodes None = answer ≡ refused_at 1 0
+LentTo answer words rows places count nodes (Some worked) = WorkedTo answer words rows places count nodes (Some worked)

@@ -13,7 +13,7 @@ use Rattle.load_state.specs.LoadStates.{good_parts}
 use Rattle.load_state.specs.Transcripts.{turn_in, transcript_in, load_in, CameTo, WorkedTo, lent_load, LentTo}
 use Rattle.load_state.specs.WorkedLaws.{GoodParts, good-parts}
 use Rattle.load_state.specs.declared.working.Worked.{Worked}
-use Rattle.load_state.specs.declared.working.Worked.TheVariants.{Come, Unlawful}
+use Rattle.std.specs.Prelude.{Option as Maybe, Some, None}
 
 -- ---- whether a turn fits
 
@@ -67,37 +67,37 @@ lent_is state = by_test (good_parts state) (λ t. rw t (go (worked_out (transcri
     go (refused_at number place) = refl
     go (counted expected got) = refl
 
-module _ (words rows places : List ℕ) (count : ℕ) (nodes : List Row) (answer : LoadAnswer Load) (r : Worked) where
+module _ (words rows places : List ℕ) (count : ℕ) (nodes : List Row) (answer : LoadAnswer Load) (r : Maybe Worked) where
   -- a load that was worked out
   pub worked_load :
-      (asked end batches sum : ℕ)
+      (worked : Worked)
       → WorkedTo answer words rows places count nodes r
-      → r ≡ Come asked end batches sum
-      → (load : Load) × (answer ≡ done load) × CameTo words rows places count nodes load asked end batches sum
-  worked_load asked end batches sum h told = go answer refl (rw told at h)
+      → r ≡ Some worked
+      → (load : Load) × (answer ≡ done load) × CameTo words rows places count nodes load worked.asked worked.end worked.batches worked.sum
+  worked_load worked h told = go answer refl (rw told at h)
     where
       go :
           (o : LoadAnswer Load)
           → answer ≡ o
-          → WorkedTo o words rows places count nodes (Come asked end batches sum)
-          → (load : Load) × (answer ≡ done load) × CameTo words rows places count nodes load asked end batches sum
+          → WorkedTo o words rows places count nodes (Some worked)
+          → (load : Load) × (answer ≡ done load) × CameTo words rows places count nodes load worked.asked worked.end worked.batches worked.sum
       go (done load) e h = (load, e, h)
       go (refused_at number place) e h = absurd h
       go (counted expected got) e h = absurd h
 
-  pub lent_unlawful : LentTo answer words rows places count nodes r → r ≡ Unlawful → answer ≡ refused_at 1 0
+  pub lent_unlawful : LentTo answer words rows places count nodes r → r ≡ None → answer ≡ refused_at 1 0
   lent_unlawful h told = rw told at h
 
-  pub worked_none_told : WorkedTo answer words rows places count nodes r → r ≡ Unlawful → NoLoad answer
+  pub worked_none_told : WorkedTo answer words rows places count nodes r → r ≡ None → NoLoad answer
   worked_none_told h told = rw told at h
 
 pub lent_came :
-    (words rows places : List ℕ) (count : ℕ) (nodes : List Row) (answer : LoadAnswer Load) (r : Worked) (asked end batches sum : ℕ)
+    (words rows places : List ℕ) (count : ℕ) (nodes : List Row) (answer : LoadAnswer Load) (r : Maybe Worked) (worked : Worked)
     → LentTo answer words rows places count nodes r
-    → r ≡ Come asked end batches sum
-    → (load : Load) × (answer ≡ done load) × CameTo words rows places count nodes load asked end batches sum
-lent_came words rows places count nodes answer r asked end batches sum h told =
-    worked_load words rows places count nodes answer (Come asked end batches sum) asked end batches sum (rw told at h) refl
+    → r ≡ Some worked
+    → (load : Load) × (answer ≡ done load) × CameTo words rows places count nodes load worked.asked worked.end worked.batches worked.sum
+lent_came words rows places count nodes answer r worked h told =
+    worked_load words rows places count nodes answer (Some worked) worked (rw told at h) refl
 
 module _ (state : List ℕ) where
   pub lent_none : NoLoad (load_in state) → lent_load state ≡ refused_at 1 0

@@ -31,7 +31,6 @@ use Rattle.batches.specs.HearingLaws.{placed_heard as stand-heard}
 use Rattle.batches.specs.ReplayLaws.{after_sum, begun_first, first_waits}
 use Rattle.load_state.specs.LoadStates.{is_request, entry_in, answer_words, set_words, good_head, good_entry, good_context, good_lent, good_parts}
 use Rattle.load_state.specs.Transcripts.{node_words, nodes_from, worked_by, WorkedTo}
-use Rattle.load_state.specs.declared.working.Worked.TheVariants.{Come}
 
 -- ---- the answers at their places
 
@@ -180,14 +179,14 @@ module _
         words rows' places count nodes r
         → r ≡ Some (end, batches)
         → summed size_of_answer 0 0 (lent_items Answers count words) ≡ done sum
-        → WorkedTo (worked_by (request_with asked context) nodes (lent_items Answers count words)) words rows' places count nodes (Come count end batches sum)
+        → WorkedTo (worked_by (request_with asked context) nodes (lent_items Answers count words)) words rows' places count nodes (Some (record { asked = count; end = end; batches = batches; sum = sum }))
     worked_come end batches sum r h told sums = go (worked_by (request_with asked context) nodes (lent_items Answers count words)) refl (rw (worked_is, told) at h)
       where
         go :
             (o : LoadAnswer Load)
             → worked_by (request_with asked context) nodes (lent_items Answers count words) ≡ o
             → ReplayedTo o words rows' places count nodes (Some (end, batches))
-            → WorkedTo o words rows' places count nodes (Come count end batches sum)
+            → WorkedTo o words rows' places count nodes (Some (record { asked = count; end = end; batches = batches; sum = sum }))
         go (done load) e h =
             let all : summed size_of_answer 0 0 (lent_items Answers count words) ≡ done load.sum = worked_summed (request_with asked context) nodes (lent_items Answers count words) e in
             record {

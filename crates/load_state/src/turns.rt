@@ -55,17 +55,20 @@ fn turn_fits(state: &[u64], waiting: usize, asked: usize, sum: u64) -> bool
 }
 
 // The load of a lent state, if that is lawful. `scratch` is scratch.
-pub fn read_load(state: &[u64], rows: &mut [u64], places: &mut [u64], scratch: &mut [u64]) -> Worked
+pub fn read_load(
+    state: &[u64],
+    rows: &mut [u64],
+    places: &mut [u64],
+    scratch: &mut [u64],
+) -> Option<Worked>
     requires in_bounds { (36874 ≤ length state.now) × (8192 ≤ length rows.old) }
     requires in_bounds_2 { (4096 ≤ length places.old) × (24577 ≤ length scratch.old) }
     ensures { LentTo (lent_load state.now) (answer_words state.now) rows.new places.new (get_or state.now 7 0) (rows_of (node_words state.now)) result }
 {
-    let worked = work_out(state, rows, places, scratch);
-    let Worked::Come(asked, end, batches, sum) = worked else {
-        return Worked::Unlawful;
-    };
-    if turn_fits(state, end - asked, asked, sum) {
-        return Worked::Come(asked, end, batches, sum);
+    let load = work_out(state, rows, places, scratch)?;
+    if turn_fits(state, load.end - load.asked, load.asked, load.sum) {
+        Some(load)
+    } else {
+        None
     }
-    Worked::Unlawful
 }

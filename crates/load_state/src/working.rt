@@ -14,11 +14,13 @@ use answers::Lending;
 use batches::replay;
 use row_walk::{Request, initial_entities_to_load};
 
-// The load that answers lead to: the places behind the rows answered and behind those that wait, the batches and the sum; or there is none.
-#[derive(Drop)]
-pub enum Worked {
-    Come(usize, usize, u64, u64),
-    Unlawful,
+// The load that answers lead to: the places behind the rows answered and behind those that wait, the batches and the sum.
+#[derive(Clone, Copy, PartialEq, Eq, Debug)]
+pub struct Worked {
+    pub asked: usize,
+    pub end: usize,
+    pub batches: u64,
+    pub sum: u64,
 }
 
 // Where the nodes of an entry of so many rows begin.
@@ -28,7 +30,7 @@ pub fn nodes_from(count: u64) -> usize
     if count == 0 { 9 } else { 10 }
 }
 
-// Works out the load of a request with so many answers.
+// Works out the load of a request with so many answers, if there is one.
 fn work_out_load(
     nodes: &[u64],
     request: Request,
@@ -38,7 +40,7 @@ fn work_out_load(
     rows: &mut [u64],
     places: &mut [u64],
     scratch: &mut [u64],
-) -> Worked
+) -> Option<Worked>
     requires nodes_len_bound { (length nodes.now ≤ 4096) × ((request.principal < 65536) × (request.resource < 65536)) }
     requires by_index { (s : List ℕ) × (ordered s (rows_of nodes.now) ≡ true) }
     requires all_read { AllRead (lent_from Answers 0 count words.now) × (count ≤ length places.old) }
@@ -46,27 +48,33 @@ fn work_out_load(
     ensures { WorkedTo (worked_by (request_with request context.now) (rows_of nodes.now) (lent_items Answers count words.now)) words.now rows.new places.new count (rows_of nodes.now) result }
 {
     let Ok(sum) = answers::sum(Lending::Answers, words, count, 0) else {
-        return Worked::Unlawful;
+        return None;
     };
     answers::place(Lending::Answers, words, count, places, 0);
-    let Some(first) = initial_entities_to_load(nodes, 0, 0, request, context, rows, 0) else {
-        return Worked::Unlawful;
-    };
+    let first = initial_entities_to_load(nodes, 0, 0, request, context, rows, 0)?;
     let asked = count as usize;
-    let Some((end, batches)) = replay(nodes, words, rows, places, first, asked, scratch) else {
-        return Worked::Unlawful;
-    };
-    Worked::Come(asked, end, batches, sum)
+    let (end, batches) = replay(nodes, words, rows, places, first, asked, scratch)?;
+    Some(Worked {
+        asked,
+        end,
+        batches,
+        sum,
+    })
 }
 
-// Works out the load that a state tells of. `scratch` is scratch.
-pub fn work_out(state: &[u64], rows: &mut [u64], places: &mut [u64], scratch: &mut [u64]) -> Worked
+// Works out the load that a state tells of, if there is one. `scratch` is scratch.
+pub fn work_out(
+    state: &[u64],
+    rows: &mut [u64],
+    places: &mut [u64],
+    scratch: &mut [u64],
+) -> Option<Worked>
     requires in_bounds { (36874 ≤ length state.now) × (8192 ≤ length rows.old) }
     requires in_bounds_2 { (4096 ≤ length places.old) × (24577 ≤ length scratch.old) }
     ensures { WorkedTo (load_in state.now) (answer_words state.now) rows.new places.new (get_or state.now 7 0) (rows_of (node_words state.now)) result }
 {
     if !has_good_parts(state, scratch) {
-        return Worked::Unlawful;
+        return None;
     }
     let request = Request {
         triple: state[1],

@@ -30,7 +30,7 @@ use Rattle.load_state.specs.LoadStates.{turn_number, first_turn, answer_words}
 use Rattle.load_state.specs.Transcripts.{node_words, lent_load, CameTo, LentTo}
 use Rattle.load_state.specs.WorkedLaws.{GoodParts, placed_heard, items_counted, sum_few, nodes_few}
 use Rattle.load_state.specs.TurnLaws.{lent_came, lent_told, told_parts}
-use Rattle.load_state.specs.declared.working.Worked.TheVariants.{Come}
+use Rattle.std.specs.Prelude.{Some}
 use Rattle.load_state.specs.CameLaws.{came_waiting, came_rows, came_ahead, came_few}
 use Rattle.load_state.specs.Outcomes.{AnsweredAs, words_of}
 use Rattle.load_state.specs.declared.LoadReply.TheVariants.{Done, Refused}
@@ -165,13 +165,13 @@ is-summed (counted expected got) e = let z : ◌≡◌ {A = ℕ} 0 1 = cc in abs
 
 pub given_to :
     (state rows places fresh : List ℕ) (asked end batches sum : ℕ)
-    → LentTo (lent_load state) (answer_words state) rows places (get_or state 7 0) (rows_of (node_words state)) (Come asked end batches sum)
+    → LentTo (lent_load state) (answer_words state) rows places (get_or state 7 0) (rows_of (node_words state)) (Some (record { asked = asked; end = end; batches = batches; sum = sum }))
     → AllRead (lent_from Answers 0 (end - asked) fresh)
     → words_of Answers (end - asked) fresh ≡ length fresh
     → is_summed (summed size_of_answer 0 sum (lent_items Answers (end - asked) fresh)) ≡ true
     → GivenTo state rows places fresh asked end batches sum
 given_to state rows places fresh asked end batches sum lent read size summed-up =
-    let (load, lends, came) = lent_came (answer_words state) rows places (get_or state 7 0) (rows_of (node_words state)) (lent_load state) (Come asked end batches sum) asked end batches sum lent refl in
+    let (load, lends, came) = lent_came (answer_words state) rows places (get_or state 7 0) (rows_of (node_words state)) (lent_load state) (Some (record { asked = asked; end = end; batches = batches; sum = sum })) _ lent refl in
     let parts = told_parts state load (lent_told state load lends).0 in
     let was = all_whole (get_or state 7 0) (answer_words state) parts.read in
     let new = all_whole (end - asked) fresh read in

@@ -21,7 +21,7 @@ use Rattle.load_state.specs.TurnLaws.{lent_came, lent_told, told_parts}
 use Rattle.load_state.specs.CameLaws.{came_waiting, came_ahead}
 use Rattle.load_state.specs.Outcomes.{AnsweredAs, lent_words, behind_count, given, given_in, words_of}
 use Rattle.load_state.specs.declared.LoadReply.TheVariants.{Refused, Counted}
-use Rattle.load_state.specs.declared.working.Worked.TheVariants.{Come}
+use Rattle.std.specs.Prelude.{Some}
 use Rattle.loader.specs.Calls.{taken_into, taken_from, storing_answers, answer_in}
 use Rattle.loader.specs.AnswerLaws.{Whole, all_whole}
 
@@ -37,13 +37,13 @@ answered_by state lent =
     lent_load state then (λ load. given_in Answers lent then (λ given. batch_answered (rows_of (node_words state)) load given))
 
 module _ (state lent rows places : List ℕ) (asked end batches sum : ℕ)
-    (lends : LentTo (lent_load state) (answer_words state) rows places (get_or state 7 0) (rows_of (node_words state)) (Come asked end batches sum))
+    (lends : LentTo (lent_load state) (answer_words state) rows places (get_or state 7 0) (rows_of (node_words state)) (Some (record { asked = asked; end = end; batches = batches; sum = sum })))
   where
     abbrev came : (load : Load) × (lent_load state ≡ done load)
         × CameTo (answer_words state) rows places (get_or state 7 0) (rows_of (node_words state)) load asked end batches sum
     came =
-        lent_came (answer_words state) rows places (get_or state 7 0) (rows_of (node_words state)) (lent_load state) (Come asked end batches sum)
-        asked end batches sum lends refl
+        lent_came (answer_words state) rows places (get_or state 7 0) (rows_of (node_words state)) (lent_load state) (Some (record { asked = asked; end = end; batches = batches; sum = sum }))
+        _ lends refl
 
     pub batch_wrong :
         (place : ℕ)

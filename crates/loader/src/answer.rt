@@ -1,5 +1,5 @@
 // answer: a batch's answers, taken into a load's state.
-ghost use Rattle.std.specs.Prelude.{◌≡◌, true, [], ◌∷◌, ◌+◌, ◌-◌, ◌≤◌, ◌<◌, length, get_or};
+ghost use Rattle.std.specs.Prelude.{◌≡◌, true, [], ◌∷◌, ◌+◌, ◌-◌, ◌≤◌, ◌<◌, length, get_or, Some};
 ghost use Rattle.std.proofs.lemmas.List.Edits.{sets};
 ghost use Rattle.rules.specs.Loading.{◌then◌, batch_answered, summed, size_of_answer};
 ghost use Rattle.rules.specs.LoadCalls.{is_summed};
@@ -9,7 +9,6 @@ ghost use Rattle.answers.specs.declared.Lending.TheVariants.{Answers};
 ghost use Rattle.load_state.specs.LoadStates.{answer_words};
 ghost use Rattle.load_state.specs.Transcripts.{node_words, lent_load, LentTo};
 ghost use Rattle.load_state.specs.Outcomes.{AnsweredAs, given_in, words_of};
-ghost use Rattle.load_state.specs.declared.working.Worked.TheVariants.{Come};
 ghost use Rattle.loader.specs.Calls.{taken_into, taken_from, answer_in};
 
 use answers::Lending;
@@ -33,28 +32,25 @@ fn store_answers(state: &mut [u64], turn: u64, count: u64, fresh: &[u64], at: us
 fn take_given(
     state: &mut [u64],
     fresh: &[u64],
-    asked: usize,
-    end: usize,
-    batches: u64,
-    sum: u64,
+    load: Worked,
     rows: &mut [u64],
     places: &mut [u64],
     scratch: &mut [u64],
 ) -> LoadReply
     requires in_bounds { (36874 ≤ length state.old) × (8192 ≤ length rows.old) × (4096 ≤ length places.old) × (24577 ≤ length scratch.old) }
-    requires lent_to { LentTo (lent_load state.old) (answer_words state.old) rows.old places.old (get_or state.old 7 0) (rows_of (node_words state.old)) (Come asked end batches sum) }
-    requires asked_lt_end { (asked < end) × AllRead (lent_from Answers 0 (end - asked) fresh.now) × (words_of Answers (end - asked) fresh.now ≡ length fresh.now) }
-    requires fresh_value { is_summed (summed size_of_answer 0 sum (lent_items Answers (end - asked) fresh.now)) ≡ true }
+    requires lent_to { LentTo (lent_load state.old) (answer_words state.old) rows.old places.old (get_or state.old 7 0) (rows_of (node_words state.old)) (Some load) }
+    requires asked_lt_end { (load.asked < load.end) × AllRead (lent_from Answers 0 (load.end - load.asked) fresh.now) × (words_of Answers (load.end - load.asked) fresh.now ≡ length fresh.now) }
+    requires fresh_value { is_summed (summed size_of_answer 0 load.sum (lent_items Answers (load.end - load.asked) fresh.now)) ≡ true }
     ensures { AnsweredAs
-        (taken_into state.old fresh.now end (asked + sum)
-        (lent_load state.old then (λ load. batch_answered (rows_of (node_words state.old)) load (lent_items Answers (end - asked) fresh.now))))
+        (taken_into state.old fresh.now load.end (load.asked + load.sum)
+        (lent_load state.old then (λ told. batch_answered (rows_of (node_words state.old)) told (lent_items Answers (load.end - load.asked) fresh.now))))
         result state.new }
 {
-    let used = asked + sum as usize;
+    let used = load.asked + load.sum as usize;
     let mut words = [0u64; 12_288];
     words::copy_words(&state[LoadState::ANSWERS..LoadState::SETS], &mut words, 0);
     words::copy_words(fresh, &mut words, used);
-    answers::place(Lending::Answers, &words, end as u64, places, 0);
+    answers::place(Lending::Answers, &words, load.end as u64, places, 0);
     let from = nodes_from(state[5]);
     let last = LoadState::ENTRY + state[5] as usize;
     match take_answers(
@@ -62,16 +58,22 @@ fn take_given(
         &words,
         rows,
         places,
-        asked,
-        end,
+        load.asked,
+        load.end,
         scratch,
     ) {
         Err(refusal) => LoadReply::Refused(refusal.number, refusal.place),
         Ok(next) => {
-            let waiting = next - end;
+            let waiting = next - load.end;
             let turn = turn_for(waiting);
-            store_answers(state, turn, end as u64, fresh, LoadState::ANSWERS + used);
-            LoadReply::Done(waiting as u64, batches + 1, end as u64)
+            store_answers(
+                state,
+                turn,
+                load.end as u64,
+                fresh,
+                LoadState::ANSWERS + used,
+            );
+            LoadReply::Done(waiting as u64, load.batches + 1, load.end as u64)
         }
     }
 }
@@ -80,20 +82,17 @@ fn take_given(
 fn take_batch(
     state: &mut [u64],
     lent: &[u64],
-    asked: usize,
-    end: usize,
-    batches: u64,
-    sum: u64,
+    load: Worked,
     rows: &mut [u64],
     places: &mut [u64],
     scratch: &mut [u64],
 ) -> LoadReply
     requires in_bounds { (36874 ≤ length state.old) × (8192 ≤ length rows.old) × (4096 ≤ length places.old) × (24577 ≤ length scratch.old) }
-    requires lent_to { LentTo (lent_load state.old) (answer_words state.old) rows.old places.old (get_or state.old 7 0) (rows_of (node_words state.old)) (Come asked end batches sum) }
-    requires asked_lt_end { (asked < end) × (24577 ≤ length lent.now) }
+    requires lent_to { LentTo (lent_load state.old) (answer_words state.old) rows.old places.old (get_or state.old 7 0) (rows_of (node_words state.old)) (Some load) }
+    requires asked_lt_end { (load.asked < load.end) × (24577 ≤ length lent.now) }
     ensures { AnsweredAs
         (taken_from state.old lent.now
-        (lent_load state.old then (λ load. given_in Answers lent.now then (λ given. batch_answered (rows_of (node_words state.old)) load given))))
+        (lent_load state.old then (λ told. given_in Answers lent.now then (λ given. batch_answered (rows_of (node_words state.old)) told given))))
         result state.new }
 {
     let count = lent[0];
@@ -103,25 +102,15 @@ fn take_batch(
             return LoadReply::Refused(1, row);
         }
     };
-    let waiting = (end - asked) as u64;
+    let waiting = (load.end - load.asked) as u64;
     if count != waiting {
         return LoadReply::Counted(waiting, count);
     }
-    if let Err(row) = answers::sum(Lending::Answers, &lent[1..LENT_WORDS], count, sum) {
+    if let Err(row) = answers::sum(Lending::Answers, &lent[1..LENT_WORDS], count, load.sum) {
         return LoadReply::Refused(15, row);
     }
     let behind = 1 + size;
-    take_given(
-        state,
-        &lent[1..behind],
-        asked,
-        end,
-        batches,
-        sum,
-        rows,
-        places,
-        scratch,
-    )
+    take_given(state, &lent[1..behind], load, rows, places, scratch)
 }
 
 // Takes a batch's answers: 31, 1, 16, 1 by row, 12, 15, then by row 14, 13; a refusal leaves the state as it was.
@@ -137,26 +126,11 @@ pub fn load_answer(state: &mut [u64], answers: &[u64]) -> LoadReply
     let mut rows = [0u64; 8_192];
     let mut places = [0u64; 4_096];
     let mut scratch = [0u64; 24_577];
-    let Worked::Come(asked, end, batches, sum) = read_load(
-        state,
-        &mut rows,
-        &mut places,
-        &mut scratch,
-    ) else {
+    let Some(load) = read_load(state, &mut rows, &mut places, &mut scratch) else {
         return LoadReply::Refused(1, 0);
     };
     if state[0] != 2 {
         return LoadReply::Refused(16, 0);
     }
-    take_batch(
-        state,
-        answers,
-        asked,
-        end,
-        batches,
-        sum,
-        &mut rows,
-        &mut places,
-        &mut scratch,
-    )
+    take_batch(state, answers, load, &mut rows, &mut places, &mut scratch)
 }

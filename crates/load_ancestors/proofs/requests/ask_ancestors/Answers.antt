@@ -2,9 +2,9 @@
 use Rattle.load_ancestors.specs.RequestCallLaws.{ask_done, ask_refused}
 use Rattle.load_ancestors.proofs.requests.ask_ancestors.Goals as goal
 
-pub returns-in-Refused : goal.returns-in-Refused
-returns-in-Refused c =
-    ask_refused c.requires.by_index.1 c.requires.in_bounds.1.1 _ _ c.write_requests.result (c.write_requests.ensures c.requires.by_index.1.load c.requires.by_index.1.told) c.in-Refused.is
+pub returns-in-Err : goal.returns-in-Err
+returns-in-Err c =
+    ask_refused c.requires.by_index.1 c.requires.in_bounds.1.1 _ _ c.write_requests.result (c.write_requests.ensures c.requires.by_index.1.load c.requires.by_index.1.told) c.in-Err.is
 
 pub returns : goal.returns
 returns c =

@@ -12,7 +12,7 @@ use Rattle.load_ends.specs.Ends.{ReadTo}
 use Rattle.load_ends.specs.LoadedLaws.{lent_read}
 use Rattle.load_ancestors.specs.RequestCallLaws.{ask_short, ask_long, ask_early}
 use Rattle.load_ancestors.proofs.requests.load_ancestors.Goals as goal
-use Rattle.load_ancestors.proofs.requests.load_ancestors.Goals.{Else-out-lt-REQUEST_WORDS, In-Come}
+use Rattle.load_ancestors.proofs.requests.load_ancestors.Goals.{Else-out-lt-REQUEST_WORDS, In-Some}
 
 -- both buffers are long enough
 long : (c : Else-out-lt-REQUEST_WORDS) → let a = c.args in (leb 36874 (length a.state.now) && leb 528385 (length a.out.now)) ≡ true
@@ -22,9 +22,9 @@ long c =
 
 -- the load of the state
 read :
-    (c : In-Come) →
-    ReadTo c.args.state.now c.read_load.new.rows c.read_load.new.places c.in-Come.asked c.in-Come.batches c.in-Come.field-3
-read c = lent_read c.args.state.now _ _ _ _ _ _ c.read_load.result c.read_load.ensures c.in-Come.is
+    (c : In-Some) →
+    ReadTo c.args.state.now c.read_load.new.rows c.read_load.new.places c.in-Some.load.asked c.in-Some.load.batches c.in-Some.load.sum
+read c = lent_read c.args.state.now _ _ _ c.read_load.result c.read_load.ensures c.in-Some.is
 
 pub returns-then-state-lt-WORDS : goal.returns-then-state-lt-WORDS
 returns-then-state-lt-WORDS c =
@@ -46,10 +46,10 @@ returns-in_default c =
 pub returns-then-state-ne3 : goal.returns-then-state-ne3
 returns-then-state-ne3 c =
     let a = c.args in
-    rw (ask_long a.state.now a.out.now (long (goal.at.returns-then-state-ne3 c).Else-out-lt-REQUEST_WORDS), ask_early a.state.now a.out.now (read (goal.at.returns-then-state-ne3 c).In-Come).told c.if-state-ne3.true) (refl, refl, refl)
+    rw (ask_long a.state.now a.out.now (long (goal.at.returns-then-state-ne3 c).Else-out-lt-REQUEST_WORDS), ask_early a.state.now a.out.now (read (goal.at.returns-then-state-ne3 c).In-Some).told c.if-state-ne3.true) (refl, refl, refl)
 
 pub ask_ancestors-requires : goal.ask_ancestors-requires
-ask_ancestors-requires c = record { in_bounds = (omega (arith, c.if-state-lt-WORDS.false), (omega (arith, c.read_load.auto.places), omega (arith, c.if-state-ne3.false))); in_bounds_2 = (omega (arith, c.if-out-lt-REQUEST_WORDS.false), omega (arith, c.read_load.auto.scratch)); by_index = (_, read (goal.at.ask_ancestors-requires c).In-Come) }
+ask_ancestors-requires c = record { in_bounds = (omega (arith, c.if-state-lt-WORDS.false), (omega (arith, c.read_load.auto.places), omega (arith, c.if-state-ne3.false))); in_bounds_2 = (omega (arith, c.if-out-lt-REQUEST_WORDS.false), omega (arith, c.read_load.auto.scratch)); by_index = (_, read (goal.at.ask_ancestors-requires c).In-Some) }
 
 pub returns : goal.returns
 returns c =

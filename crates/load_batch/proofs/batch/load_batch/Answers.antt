@@ -16,7 +16,7 @@ use Rattle.load_state.specs.TurnLaws.{lent_came, lent_unlawful, lent_told, told_
 use Rattle.load_state.specs.CameLaws.{came_rows, came_ahead, came_few}
 use Rattle.load_batch.specs.BatchLaws.{waiting_small, batch_short, batch_unlawful, batch_late, batch_handed}
 use Rattle.load_batch.proofs.batch.load_batch.Goals as goal
-use Rattle.load_batch.proofs.batch.load_batch.Goals.{Else-out-lt-BATCH_WORDS, Else-state-lt-WORDS, In-Come}
+use Rattle.load_batch.proofs.batch.load_batch.Goals.{Else-out-lt-BATCH_WORDS, Else-state-lt-WORDS, In-Some}
 
 -- both buffers are long enough
 long-state : (c : Else-state-lt-WORDS) → leb 36874 (length c.args.state.now) ≡ true
@@ -27,23 +27,23 @@ long c long-state-here = rw (long-state-here, le-leb 4096 (length c.args.out.now
 
 -- the load of the state
 came :
-    (c : In-Come) →
+    (c : In-Some) →
     (load : Load)
     × (lent_load c.args.state.now ≡ done load)
     × CameTo (answer_words c.args.state.now) c.read_load.new.rows c.read_load.new.places (get_or c.args.state.now 7 0) (rows_of (node_words c.args.state.now)) load
-    c.in-Come.asked c.in-Come.end c.in-Come.batches c.in-Come.field-3
+    c.in-Some.load.asked c.in-Some.load.end c.in-Some.load.batches c.in-Some.load.sum
 came c =
-    lent_came (answer_words c.args.state.now) _ _ (get_or c.args.state.now 7 0) _ (lent_load c.args.state.now) c.read_load.result _ _ _ _ c.read_load.ensures c.in-Come.is
+    lent_came (answer_words c.args.state.now) _ _ (get_or c.args.state.now 7 0) _ (lent_load c.args.state.now) c.read_load.result _ c.read_load.ensures c.in-Some.is
 
-parts : (c : In-Come) → GoodParts c.args.state.now
+parts : (c : In-Some) → GoodParts c.args.state.now
 parts c = let (load, lent, at) = came c in told_parts c.args.state.now load (lent_told c.args.state.now load lent).0
 
-nodes : (c : In-Come) → length (rows_of (node_words c.args.state.now)) ≤ 4096
+nodes : (c : In-Some) → length (rows_of (node_words c.args.state.now)) ≤ 4096
 nodes c =
     omega (arith, nodes_few c.args.state.now (parts c).few_rows, length-map (node_words c.args.state.now) row_in)
 
 -- its rows are within those of an entry
-within : (c : In-Come) → (c.in-Come.asked ≤ c.in-Come.end) × (c.in-Come.end ≤ 4096)
+within : (c : In-Some) → (c.in-Some.load.asked ≤ c.in-Some.load.end) × (c.in-Some.load.end ≤ 4096)
 within c = let (load, lent, at) = came c in (came_ahead at, omega (arith, came_few at, nodes c))
 
 pub returns-then-state-lt-WORDS : goal.returns-then-state-lt-WORDS
@@ -65,36 +65,36 @@ returns-in_default c =
 pub returns-then-state-ne1 : goal.returns-then-state-ne1
 returns-then-state-ne1 c =
     let a = c.args in
-    let (load, lent, at) = came (goal.at.returns-then-state-ne1 c).In-Come in
+    let (load, lent, at) = came (goal.at.returns-then-state-ne1 c).In-Some in
     batch_late a.state.now a.out.now (long (goal.at.returns-then-state-ne1 c).Else-out-lt-BATCH_WORDS (long-state (goal.at.returns-then-state-ne1 c).Else-state-lt-WORDS)) load lent c.if-state-ne1.true
 
-pub offset_bounds-rows-asked : goal.offset_bounds-rows-asked
-offset_bounds-rows-asked c = omega (arith, within (goal.at.offset_bounds-rows-asked c).In-Come)
+pub offset_bounds-rows-load : goal.offset_bounds-rows-load
+offset_bounds-rows-load c = omega (arith, within (goal.at.offset_bounds-rows-load c).In-Some)
 
 pub slice_bounds-write_batch-count : goal.slice_bounds-write_batch-count
-slice_bounds-write_batch-count c = omega (arith, within (goal.at.slice_bounds-write_batch-count c).In-Come)
+slice_bounds-write_batch-count c = omega (arith, within (goal.at.slice_bounds-write_batch-count c).In-Some)
 
 pub slice_bounds-write_batch-start : goal.slice_bounds-write_batch-start
-slice_bounds-write_batch-start c = omega (arith, within (goal.at.slice_bounds-write_batch-start c).In-Come)
+slice_bounds-write_batch-start c = omega (arith, within (goal.at.slice_bounds-write_batch-start c).In-Some)
 
 pub slice_bounds-write_batch-end : goal.slice_bounds-write_batch-end
-slice_bounds-write_batch-end c = omega (arith, within (goal.at.slice_bounds-write_batch-end c).In-Come)
+slice_bounds-write_batch-end c = omega (arith, within (goal.at.slice_bounds-write_batch-end c).In-Some)
 
 pub write_batch-requires : goal.write_batch-requires
 write_batch-requires c =
-    let (load, lent, at) = came (goal.at.write_batch-requires c).In-Come in
-    let rows = drop c.in-Come.asked c.read_load.new.rows in record { rows_in_bounds = (omega (arith, within (goal.at.write_batch-requires c).In-Come, length-take (c.in-Come.end - c.in-Come.asked) rows, c.if-out-lt-BATCH_WORDS.false), omega (arith, (parts (goal.at.write_batch-requires c).In-Come).numbers_few)); by_index = waiting_small at (nodes (goal.at.write_batch-requires c).In-Come) }
+    let (load, lent, at) = came (goal.at.write_batch-requires c).In-Some in
+    let rows = drop c.in-Some.load.asked c.read_load.new.rows in record { rows_in_bounds = (omega (arith, within (goal.at.write_batch-requires c).In-Some, length-take (c.in-Some.load.end - c.in-Some.load.asked) rows, c.if-out-lt-BATCH_WORDS.false), omega (arith, (parts (goal.at.write_batch-requires c).In-Some).numbers_few)); by_index = waiting_small at (nodes (goal.at.write_batch-requires c).In-Some) }
 
 pub overflow_sub-result : goal.overflow_sub-result
-overflow_sub-result c = omega (arith, within (goal.at.overflow_sub-result c).In-Come)
+overflow_sub-result c = omega (arith, within (goal.at.overflow_sub-result c).In-Some)
 
 pub overflow_add-result : goal.overflow_add-result
 overflow_add-result c =
-    let (load, lent, at) = came (goal.at.overflow_add-result c).In-Come in
-    omega (arith, within (goal.at.overflow_add-result c).In-Come, at.trips, at.at.going.fewer, came_rows at)
+    let (load, lent, at) = came (goal.at.overflow_add-result c).In-Some in
+    omega (arith, within (goal.at.overflow_add-result c).In-Some, at.trips, at.at.going.fewer, came_rows at)
 
 pub returns : goal.returns
 returns c =
     let a = c.args in
-    let (load, lent, at) = came (goal.at.returns c).In-Come in
+    let (load, lent, at) = came (goal.at.returns c).In-Some in
     batch_handed a.state.now a.out.now (long (goal.at.returns c).Else-out-lt-BATCH_WORDS (long-state (goal.at.returns c).Else-state-lt-WORDS)) load lent at c.if-state-ne1.false _ _ refl c.write_batch.ensures

@@ -12,7 +12,7 @@ use Rattle.load_ends.specs.Ends.{ReadTo}
 use Rattle.load_ends.specs.LoadedLaws.{lent_read, read_parts}
 use Rattle.load_ends.specs.ResultLaws.{result_early, result_short, result_long}
 use Rattle.load_ends.proofs.result.load_result.Goals as goal
-use Rattle.load_ends.proofs.result.load_result.Goals.{Else-out-lt-SLICE_WORDS, In-Come}
+use Rattle.load_ends.proofs.result.load_result.Goals.{Else-out-lt-SLICE_WORDS, In-Some}
 
 -- both buffers are long enough
 long : (c : Else-out-lt-SLICE_WORDS) → let a = c.args in (leb 36874 (length a.state.now) && leb 12289 (length a.out.now)) ≡ true
@@ -22,9 +22,9 @@ long c =
 
 -- the load of the state
 read :
-    (c : In-Come) →
-    ReadTo c.args.state.now c.read_load.new.rows c.read_load.new.places c.in-Come.asked c.in-Come.batches c.in-Come.field-3
-read c = lent_read c.args.state.now _ _ _ _ _ _ c.read_load.result c.read_load.ensures c.in-Come.is
+    (c : In-Some) →
+    ReadTo c.args.state.now c.read_load.new.rows c.read_load.new.places c.in-Some.load.asked c.in-Some.load.batches c.in-Some.load.sum
+read c = lent_read c.args.state.now _ _ _ c.read_load.result c.read_load.ensures c.in-Some.is
 
 pub returns-then-state-lt-WORDS : goal.returns-then-state-lt-WORDS
 returns-then-state-lt-WORDS c =
@@ -47,11 +47,11 @@ pub returns-then-state-lt5 : goal.returns-then-state-lt5
 returns-then-state-lt5 c =
     let a = c.args in
     let state = a.state.now in
-    let at = read (goal.at.returns-then-state-lt5 c).In-Come in
+    let at = read (goal.at.returns-then-state-lt5 c).In-Some in
     rw (result_long state a.out.now (long (goal.at.returns-then-state-lt5 c).Else-out-lt-SLICE_WORDS), at.told, result_early state at.load (read_parts at).turn (omega (arith, c.if-state-lt5.true))) (refl, refl)
 
 pub write_result-requires : goal.write_result-requires
-write_result-requires c = record { in_bounds = (omega (arith, c.if-state-lt-WORDS.false), (omega (arith, c.read_load.auto.places), omega (arith, c.if-state-lt5.false))); in_bounds_2 = (omega (arith, c.if-out-lt-SLICE_WORDS.false), omega (arith, c.read_load.auto.scratch)); by_index = (_, read (goal.at.write_result-requires c).In-Come) }
+write_result-requires c = record { in_bounds = (omega (arith, c.if-state-lt-WORDS.false), (omega (arith, c.read_load.auto.places), omega (arith, c.if-state-lt5.false))); in_bounds_2 = (omega (arith, c.if-out-lt-SLICE_WORDS.false), omega (arith, c.read_load.auto.scratch)); by_index = (_, read (goal.at.write_result-requires c).In-Some) }
 
 pub returns : goal.returns
 returns c =

@@ -12,7 +12,7 @@ use Rattle.load_ends.specs.Ends.{ReadTo}
 use Rattle.load_ends.specs.AnswerCallLaws.{answer_short, answer_unlawful, answer_early, answer_taken}
 use Rattle.load_ends.specs.LoadedLaws.{lent_read, read_few, read_asked, read_rows}
 use Rattle.load_ends.proofs.sets.load_ancestors_answer.Goals as goal
-use Rattle.load_ends.proofs.sets.load_ancestors_answer.Goals.{Else-sets-lt-LENT_WORDS, In-Come}
+use Rattle.load_ends.proofs.sets.load_ancestors_answer.Goals.{Else-sets-lt-LENT_WORDS, In-Some}
 
 -- both buffers are long enough
 long : (c : Else-sets-lt-LENT_WORDS) → let a = c.args in (leb 36874 (length a.state.now) && leb 24577 (length a.sets.now)) ≡ true
@@ -22,9 +22,9 @@ long c =
 
 -- the load of the state
 read :
-    (c : In-Come) →
-    ReadTo c.args.state.now c.read_load.new.rows c.read_load.new.places c.in-Come.asked c.in-Come.batches c.in-Come.sum
-read c = lent_read c.args.state.now _ _ _ _ _ _ c.read_load.result c.read_load.ensures c.in-Come.is
+    (c : In-Some) →
+    ReadTo c.args.state.now c.read_load.new.rows c.read_load.new.places c.in-Some.load.asked c.in-Some.load.batches c.in-Some.load.sum
+read c = lent_read c.args.state.now _ _ _ c.read_load.result c.read_load.ensures c.in-Some.is
 
 pub returns-then-state-lt-WORDS : goal.returns-then-state-lt-WORDS
 returns-then-state-lt-WORDS c =
@@ -45,18 +45,18 @@ returns-in_default c =
 pub returns-then-state-ne4 : goal.returns-then-state-ne4
 returns-then-state-ne4 c =
     let a = c.args in
-    let at = read (goal.at.returns-then-state-ne4 c).In-Come in
+    let at = read (goal.at.returns-then-state-ne4 c).In-Some in
     rw (answer_early a.state.now a.sets.now (long (goal.at.returns-then-state-ne4 c).Else-sets-lt-LENT_WORDS) at.load at.told (ne_eqb (get_or a.state.now 0 0) 4 c.if-state-ne4.true)) (refl, refl)
 
 pub take_sets-requires : goal.take_sets-requires
 take_sets-requires c =
-    let at = read (goal.at.take_sets-requires c).In-Come in
+    let at = read (goal.at.take_sets-requires c).In-Some in
     record { in_bounds = (omega (arith, c.if-state-lt-WORDS.false), (read_few at, at.came.few)); state_value = omega (arith, c.if-state-ne4.false) }
 
 pub returns : goal.returns
 returns c =
     let a = c.args in
     let state = a.state.now in
-    let at = read (goal.at.returns c).In-Come in
+    let at = read (goal.at.returns c).In-Some in
     rw (answer_taken state a.sets.now (long (goal.at.returns c).Else-sets-lt-LENT_WORDS) at.load at.told (eq-eqb (get_or state 0 0) 4 (omega (arith, c.if-state-ne4.false))))
     (c.take_sets.ensures at.load (read_asked at) (read_rows at) (sym at.came.trips) (sym at.came.total))

@@ -12,10 +12,10 @@ use Rattle.load_state.specs.LoadStates.{answer_words}
 use Rattle.load_state.specs.Transcripts.{node_words, lent_load, CameTo, LentTo}
 use Rattle.load_state.specs.TurnLaws.{lent_came, lent_unlawful, turn_waits}
 use Rattle.load_state.specs.CameLaws.{came_waiting}
-use Rattle.load_state.specs.declared.working.Worked.TheVariants.{Come}
+use Rattle.std.specs.Prelude.{Some}
 use Rattle.loader.specs.LentAnswerLaws.{answer_short, answer_unlawful, answer_late, answer_awaited}
 use Rattle.loader.proofs.answer.load_answer.Goals as goal
-use Rattle.loader.proofs.answer.load_answer.Goals.{Else-answers-lt-LENT_WORDS, Else-state-lt-WORDS, In-Come}
+use Rattle.loader.proofs.answer.load_answer.Goals.{Else-answers-lt-LENT_WORDS, Else-state-lt-WORDS, In-Some}
 
 -- both buffers are long enough
 long-state : (c : Else-state-lt-WORDS) → leb 36874 (length c.args.state.now) ≡ true
@@ -26,19 +26,19 @@ long c long-state-here = rw (long-state-here, le-leb 24577 (length c.args.answer
 
 -- the load of the state
 lent :
-    (c : In-Come) →
+    (c : In-Some) →
     LentTo (lent_load c.args.state.now) (answer_words c.args.state.now) c.read_load.new.rows c.read_load.new.places (get_or c.args.state.now 7 0) (rows_of (node_words c.args.state.now))
-    (Come c.in-Come.asked c.in-Come.end c.in-Come.batches c.in-Come.sum)
-lent c = rw c.in-Come.is at c.read_load.ensures
+    (Some c.in-Some.load)
+lent c = rw c.in-Some.is at c.read_load.ensures
 
 came :
-    (c : In-Come) →
+    (c : In-Some) →
     (load : Load)
     × (lent_load c.args.state.now ≡ done load)
     × CameTo (answer_words c.args.state.now) c.read_load.new.rows c.read_load.new.places (get_or c.args.state.now 7 0) (rows_of (node_words c.args.state.now)) load
-    c.in-Come.asked c.in-Come.end c.in-Come.batches c.in-Come.sum
+    c.in-Some.load.asked c.in-Some.load.end c.in-Some.load.batches c.in-Some.load.sum
 came c =
-    lent_came (answer_words c.args.state.now) _ _ (get_or c.args.state.now 7 0) _ (lent_load c.args.state.now) c.read_load.result _ _ _ _ c.read_load.ensures c.in-Come.is
+    lent_came (answer_words c.args.state.now) _ _ (get_or c.args.state.now 7 0) _ (lent_load c.args.state.now) c.read_load.result _ c.read_load.ensures c.in-Some.is
 
 pub returns-then-state-lt-WORDS : goal.returns-then-state-lt-WORDS
 returns-then-state-lt-WORDS c =
@@ -59,16 +59,16 @@ returns-in_default c =
 pub returns-then-state-ne2 : goal.returns-then-state-ne2
 returns-then-state-ne2 c =
     let a = c.args in
-    let (load, lends, at) = came (goal.at.returns-then-state-ne2 c).In-Come in
+    let (load, lends, at) = came (goal.at.returns-then-state-ne2 c).In-Some in
     answer_late a.state.now a.answers.now (long (goal.at.returns-then-state-ne2 c).Else-answers-lt-LENT_WORDS (long-state (goal.at.returns-then-state-ne2 c).Else-state-lt-WORDS)) load lends c.if-state-ne2.true
 
 pub take_batch-requires : goal.take_batch-requires
 take_batch-requires c =
-    let (load, lends, at) = came (goal.at.take_batch-requires c).In-Come in
-    let waits = turn_waits c.args.state.now load lends (omega arith) (omega arith) in record { in_bounds = (omega (arith, c.if-state-lt-WORDS.false), omega (arith, c.read_load.auto.rows, length-replicate {A = ℕ} 8192 0), omega (arith, c.read_load.auto.places, length-replicate {A = ℕ} 4096 0), omega (arith, c.read_load.auto.scratch, length-replicate {A = ℕ} 24577 0)); lent_to = lent (goal.at.take_batch-requires c).In-Come; asked_lt_end = (omega (arith, waits, came_waiting at), omega (arith, c.if-answers-lt-LENT_WORDS.false)) }
+    let (load, lends, at) = came (goal.at.take_batch-requires c).In-Some in
+    let waits = turn_waits c.args.state.now load lends (omega arith) (omega arith) in record { in_bounds = (omega (arith, c.if-state-lt-WORDS.false), omega (arith, c.read_load.auto.rows, length-replicate {A = ℕ} 8192 0), omega (arith, c.read_load.auto.places, length-replicate {A = ℕ} 4096 0), omega (arith, c.read_load.auto.scratch, length-replicate {A = ℕ} 24577 0)); lent_to = lent (goal.at.take_batch-requires c).In-Some; asked_lt_end = (omega (arith, waits, came_waiting at), omega (arith, c.if-answers-lt-LENT_WORDS.false)) }
 
 pub returns : goal.returns
 returns c =
     let a = c.args in
-    let (load, lends, at) = came (goal.at.returns c).In-Come in
+    let (load, lends, at) = came (goal.at.returns c).In-Some in
     rw (answer_awaited a.state.now a.answers.now (long (goal.at.returns c).Else-answers-lt-LENT_WORDS (long-state (goal.at.returns c).Else-state-lt-WORDS)) load lends c.if-state-ne2.false) c.take_batch.ensures

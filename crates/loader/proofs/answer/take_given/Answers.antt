@@ -16,21 +16,21 @@ use Rattle.loader.proofs.answer.take_given.Goals as goal
 use Rattle.loader.proofs.answer.take_given.Goals.{After-copy_words-2, After-nodes_from-from, After-place, After-take_answers, Start}
 
 -- the load that they are given to
-given : (c : Start) → let a = c.args in GivenTo a.state.now a.rows.now a.places.now a.fresh.now a.asked a.end a.batches a.sum
+given : (c : Start) → let a = c.args in GivenTo a.state.now a.rows.now a.places.now a.fresh.now a.load.asked a.load.end a.load.batches a.load.sum
 given c =
     let a = c.args in
-    given_to a.state.now a.rows.now a.places.now a.fresh.now a.asked a.end a.batches a.sum c.requires.lent_to c.requires.asked_lt_end.1 c.requires.asked_lt_end.2 c.requires.fresh_value
+    given_to a.state.now a.rows.now a.places.now a.fresh.now a.load.asked a.load.end a.load.batches a.load.sum c.requires.lent_to c.requires.asked_lt_end.1 c.requires.asked_lt_end.2 c.requires.fresh_value
 
-within : (c : Start) → let a = c.args in (a.asked ≤ a.end) × (a.end ≤ 4096) × (a.asked + a.sum + length a.fresh.now ≤ 12288)
+within : (c : Start) → let a = c.args in (a.load.asked ≤ a.load.end) × (a.load.end ≤ 4096) × (a.load.asked + a.load.sum + length a.fresh.now ≤ 12288)
 within c = let g = given c in (came_ahead g.came, omega (arith, came_few g.came, g.nodes), g.room)
 
 -- all answers, one after the other
-words_are : (c : After-copy_words-2) → let a = c.args in c.copy_words-2.new.out ≡ sets (answer_words a.state.now) (a.asked + a.sum) a.fresh.now
+words_are : (c : After-copy_words-2) → let a = c.args in c.copy_words-2.new.out ≡ sets (answer_words a.state.now) (a.load.asked + a.load.sum) a.fresh.now
 words_are c =
     let a = c.args in
     let size = old_words a.state.now c.requires.in_bounds.0 in
     c.copy_words-2.ensures.text
-    ∙ ap (λ l. sets l (a.asked + a.sum) a.fresh.now)
+    ∙ ap (λ l. sets l (a.load.asked + a.load.sum) a.fresh.now)
     (c.copy_words.ensures.text ∙ copied_whole _ (answer_words a.state.now) (omega (arith, size, length-replicate {A = ℕ} 12288 0)))
 
 -- where the nodes begin, and that they are the entry's
@@ -43,15 +43,15 @@ nodes :
 nodes c = rw c.nodes_from-from.ensures (nodes_part c.args.state.now (get_or c.args.state.now 5 0))
 
 -- there is a place for each of them
-placed : (c : After-place) → (let a = c.args in (a.asked ≤ a.end) × (a.end ≤ 4096) × (a.asked + a.sum + length a.fresh.now ≤ 12288)) → c.args.end ≤ length c.place.new.places
+placed : (c : After-place) → (let a = c.args in (a.load.asked ≤ a.load.end) × (a.load.end ≤ 4096) × (a.load.asked + a.load.sum + length a.fresh.now ≤ 12288)) → c.args.load.end ≤ length c.place.new.places
 placed c within-here = omega (arith, c.place.auto.places, within-here.1, c.requires.in_bounds.2)
 
 -- what taking them comes to
 taken : (c : After-take_answers) → (take (9 + get_or c.args.state.now 5 0 - c.nodes_from-from.result) (drop c.nodes_from-from.result c.args.state.now) ≡ node_words c.args.state.now) →
     let a = c.args in
     TakenInto
-    (taken_up_to (rows_of (node_words a.state.now)) c.copy_words-2.new.out a.rows.now c.place.new.places a.asked a.end a.end)
-    a.rows.now a.end c.take_answers.new.rows c.take_answers.result
+    (taken_up_to (rows_of (node_words a.state.now)) c.copy_words-2.new.out a.rows.now c.place.new.places a.load.asked a.load.end a.load.end)
+    a.rows.now a.load.end c.take_answers.new.rows c.take_answers.result
 taken c nodes-here = rw nodes-here at c.take_answers.ensures
 
 pub overflow_add-used : goal.overflow_add-used
