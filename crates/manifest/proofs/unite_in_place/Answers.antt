@@ -33,10 +33,6 @@ returns-then-not-is_lawful c = let a = c.args in by_parts (unite_unlawful_m a.ki
 pub returns-then-not-is_lawful-2 : goal.returns-then-not-is_lawful-2
 returns-then-not-is_lawful-2 c = let a = c.args in by_parts (unite_unlawful_other a.kind a.manifest.now a.other.now c.if-manifest-lt-WORDS.false (long-other (goal.at.returns-then-not-is_lawful-2 c).Else-other-words) (lawful-m (goal.at.returns-then-not-is_lawful-2 c).Else-not-is_lawful) (sym c.is_lawful-2.ensures ∙ c.if-not-is_lawful-2.true))
 
-pub unite_lawful-requires : goal.unite_lawful-requires
-unite_lawful-requires c =
-    record { manifest_value = (lawful-m (goal.at.unite_lawful-requires c).Else-not-is_lawful, (c.args.kind, lawful-other (goal.at.unite_lawful-requires c).Else-not-is_lawful-2)); in_bounds = (c.if-manifest-lt-WORDS.false, omega arith) }
-
 pub returns : goal.returns
 returns c =
     let a = c.args in

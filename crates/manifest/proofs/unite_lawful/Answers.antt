@@ -12,21 +12,9 @@ use Rattle.words.specs.Runs.{Outcome}
 use Rattle.rows.specs.States.{rows_in, holding, storing}
 use Rattle.words.specs.RunLaws.{held_count, held_copied}
 use Rattle.manifest.specs.Outcomes.{united_rows}
-use Rattle.manifest.specs.UniteLaws.{same_reply, refused_kept, done_rows, added_most}
-use Rattle.std.proofs.lemmas.Result.{err_from_is_err_and}
+use Rattle.manifest.specs.UniteLaws.{done_rows, added_most}
 use Rattle.manifest.proofs.unite_lawful.Goals as goal
 use Rattle.manifest.proofs.unite_lawful.Goals.{In_ok-unite}
-
-pub returns-in_err-unite : goal.returns-in_err-unite
-returns-in_err-unite c =
-    let a = c.args in
-    let answer = united_rows a.manifest.now a.other.now in
-    let why = c.in_err-unite.field-0.0 in
-    let handed = err_from_is_err_and c.from_residual.result c.from_residual.ensures.1 in
-    rw (handed.1, handed.2) (
-      sym c.in_err-unite.was ∙ c.unite.ensures.0 ∙ same_reply a.united.now a.manifest.now answer,
-      sym (refused_kept a.united.now a.manifest.now answer why.number why.place (sym c.unite.ensures.0 ∙ c.in_err-unite.was)),
-    )
 
 -- what was united are rows that fit a manifest
 united-rows : (c : In_ok-unite) → let a = c.args in (rows : List Row) × (united_rows a.manifest.now a.other.now ≡ accepted rows) × (length rows ≤ 4160) × (c.unite.new.united ≡ holding a.united.now rows)

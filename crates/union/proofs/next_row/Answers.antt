@@ -21,47 +21,23 @@ same_turn : (c : Else-y-x) → let s = c.args in UnionTurn s.a.now s.b.now s.i s
 same_turn c =
     turn_same _ _ _ _ c.requires.0 c.requires.1 (first_in _ _ _ _ _ _ c.key_at-x.ensures c.key_at-y.ensures (omega (arith, c.if-y-x.false)) c.requires.2) (second_in _ _ _ _ _ _ c.key_at-x.ensures c.key_at-y.ensures (omega (arith, c.if-x-y.false)) c.requires.2) (omega (arith, c.key_at-x.ensures, c.key_at-y.ensures, c.if-x-y.false, c.if-y-x.false))
 
-pub offset_bounds-a-i : goal.offset_bounds-a-i
-offset_bounds-a-i c = omega (arith, first-turn (goal.at.offset_bounds-a-i c).Then-x-y)
-
 pub bounds-a-i : goal.bounds-a-i
 bounds-a-i c = omega (arith, first-turn (goal.at.bounds-a-i c).Then-x-y)
-
-pub overflow_add-result : goal.overflow_add-result
-overflow_add-result c = omega (arith, first-turn (goal.at.overflow_add-result c).Then-x-y)
 
 pub returns-then-x-y : goal.returns-then-x-y
 returns-then-x-y c = first-turn (goal.at.returns-then-x-y c).Then-x-y
 
-pub offset_bounds-b-j : goal.offset_bounds-b-j
-offset_bounds-b-j c = omega (arith, second-turn (goal.at.offset_bounds-b-j c).Then-y-x)
-
 pub bounds-b-j : goal.bounds-b-j
 bounds-b-j c = omega (arith, second-turn (goal.at.bounds-b-j c).Then-y-x)
-
-pub overflow_add-result-then-y-x : goal.overflow_add-result-then-y-x
-overflow_add-result-then-y-x c = omega (arith, second-turn (goal.at.overflow_add-result-then-y-x c).Then-y-x)
 
 pub returns-then-y-x : goal.returns-then-y-x
 returns-then-y-x c = second-turn (goal.at.returns-then-y-x c).Then-y-x
 
-pub offset_bounds-a-i-2 : goal.offset_bounds-a-i-2
-offset_bounds-a-i-2 c = omega (arith, same_turn (goal.at.offset_bounds-a-i-2 c).Else-y-x)
-
 pub bounds-a-i-2 : goal.bounds-a-i-2
 bounds-a-i-2 c = omega (arith, same_turn (goal.at.bounds-a-i-2 c).Else-y-x)
 
-pub offset_bounds-b-j-2 : goal.offset_bounds-b-j-2
-offset_bounds-b-j-2 c = omega (arith, same_turn (goal.at.offset_bounds-b-j-2 c).Else-y-x)
-
 pub bounds-b-j-2 : goal.bounds-b-j-2
 bounds-b-j-2 c = omega (arith, same_turn (goal.at.bounds-b-j-2 c).Else-y-x)
-
-pub overflow_add-result-2 : goal.overflow_add-result-2
-overflow_add-result-2 c = omega (arith, same_turn (goal.at.overflow_add-result-2 c).Else-y-x)
-
-pub overflow_add-result-3 : goal.overflow_add-result-3
-overflow_add-result-3 c = omega (arith, same_turn (goal.at.overflow_add-result-3 c).Else-y-x)
 
 pub returns : goal.returns
 returns c = rw c.joined.ensures (same_turn (goal.at.returns c).Else-y-x)

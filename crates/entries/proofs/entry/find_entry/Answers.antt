@@ -13,9 +13,6 @@ use Rattle.entries.specs.EntryLaws.{found_entry, passed_entry, passed_node, met_
 use Rattle.entries.proofs.entry.find_entry.Goals as goal
 use Rattle.entries.proofs.entry.find_entry.Goals.{After-depth, then-depth-eq0+else-step-request, else-depth-eq0}
 
-pub loop-at-init : goal.loop-at-init
-loop-at-init c = (omega arith, refl)
-
 -- the row that is looked at, and those behind it
 next : (c : After-depth) →
     entry_for c.args.request 0 (rows_of c.args.rows.now)
@@ -33,9 +30,6 @@ returns-then-step-request c =
     step
     (next (goal.at.returns-then-step-request c).After-depth ∙ met_entry (row_in (get_or c.args.rows.now c.loop-at.at 0)) (rows_of (drop (c.loop-at.at + 1) c.args.rows.now)) c.args.request c.loop-at.nodes depth step)
     c.nodes_ahead.ensures.0 c.nodes_ahead.ensures.1
-
-pub overflow_add-nodes : goal.overflow_add-nodes
-overflow_add-nodes c = omega arith
 
 pub loop-at-preserved : goal.loop-at-preserved
 loop-at-preserved c =

@@ -1,9 +1,7 @@
 -- `entries::trips::bound_in` meets its contract: without an entry there are no trips, and with one they are those of its nodes.
-use native.Mathlib.Omega.{arith}
 use native.Mathlib.Nat.{add-sub_cancel_left}
 use mathlib.Core.Path.{◌≡◌}
 use mathlib.Core.Option.{some}
-use borrow.Author.Rules.{rules}
 use Rattle.rules.specs.LoadCalls.{Entry, entry_for}
 use Rattle.rows.specs.States.{rows_of}
 use Rattle.entries.specs.Entries.{EntryAt}
@@ -28,18 +26,6 @@ entry_at :
 entry_at c =
     let a = c.args in
     found_found a.rows.now a.request (entry_for a.request 0 (rows_of a.rows.now)) c.find_entry.result c.find_entry.ensures c.in-Some.is
-
-pub overflow_add-from : goal.overflow_add-from
-overflow_add-from c = omega (arith, (entry_at (goal.at.overflow_add-from c).In-Some).2.within)
-
-pub overflow_add-end : goal.overflow_add-end
-overflow_add-end c = omega (arith, (entry_at (goal.at.overflow_add-end c).In-Some).2.within)
-
-pub offset_bounds-rows-from : goal.offset_bounds-rows-from
-offset_bounds-rows-from c = let within = (entry_at (goal.at.offset_bounds-rows-from c).In-Some).2.within in search rules
-
-pub slice_bounds-bound_of-end : goal.slice_bounds-bound_of-end
-slice_bounds-bound_of-end c = omega (arith, (entry_at (goal.at.slice_bounds-bound_of-end c).In-Some).2.within)
 
 pub returns : goal.returns
 returns c =

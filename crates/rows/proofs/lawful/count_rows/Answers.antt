@@ -5,12 +5,9 @@ use mathlib.Core.Bool.{true}
 use mathlib.Core.Path.{◌≡◌, refl, sym, ◌∙◌}
 use lib.ListN.{take, get_or, length-set}
 use Rattle.rows.specs.States.{may_follow}
-use Rattle.rows.proofs.LawfulLaws.{passed_none, passed_bad, passed_row, passed_all, follow_depth, place_stored}
+use Rattle.rows.proofs.LawfulLaws.{passed_bad, passed_row, passed_all, follow_depth, place_stored}
 use Rattle.rows.proofs.lawful.count_rows.Goals as goal
 use Rattle.rows.proofs.lawful.count_rows.Goals.{Else-not-may_follow}
-
-pub loop-word-init : goal.loop-word-init
-loop-word-init c = (omega arith, refl, passed_none _)
 
 pub returns-then-not-may_follow : goal.returns-then-not-may_follow
 returns-then-not-may_follow c =

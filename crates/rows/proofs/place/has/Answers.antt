@@ -27,9 +27,6 @@ returns-then-state-words c = sym (has_short _ _ _ (omega (arith, c.words.ensures
 pub returns-then-not-is_lawful : goal.returns-then-not-is_lawful
 returns-then-not-is_lawful c = sym (has_unlawful _ _ _ (long (goal.at.returns-then-not-is_lawful c).Else-state-words) (sym c.is_lawful.ensures ∙ c.if-not-is_lawful.true))
 
-pub bounds-state-0 : goal.bounds-state-0
-bounds-state-0 c = omega (arith, count-in (goal.at.bounds-state-0 c).Else-not-is_lawful)
-
 pub overflow_add-end : goal.overflow_add-end
 overflow_add-end c = omega (arith, count-in (goal.at.overflow_add-end c).Else-not-is_lawful)
 

