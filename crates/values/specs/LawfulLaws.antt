@@ -10,7 +10,14 @@ use mathlib.Core.List.{List, [], ◌∷◌, ◌++◌, map-append, append_assoc}
 use borrow.Author.Tests.{lt-ltb, le-ltb, le-leb, lt-leb, eq-eqb, ne_eqb, ltb-true, leb-true}
 use Rattle.std.proofs.Math.ListN.{drop, drop_of_length-le, get_or-map}
 use Rattle.std.proofs.lemmas.List.{length-map}
-use Rattle.rules.specs.Facts.{both_true}
+use Rattle.std.specs.Prelude.{Some}
+use Rattle.std.specs.declared.cmp.Ordering.{Ordering}
+use Rattle.std.specs.declared.cmp.Ordering.TheVariants.{Less, Equal, Greater}
+use Rattle.std.specs.Ordering.{MatchOrdering, is_some_and, is_lt, nat_cmp}
+use Rattle.std.specs.Cmp.Lexicographic.{slice_partial_cmp}
+use Rattle.std.proofs.lemmas.Bool.{ltb-false}
+use Rattle.std.proofs.lemmas.Cmp.{ranked, same_from_slice_cmp_tested}
+use Rattle.rules.specs.Facts.{by_test, both_true}
 use Rattle.rules.specs.Tries.{same}
 use Rattle.rules.proofs.WalkLaws.{take-map}
 use Rattle.rules.specs.ValueRowTests.{
@@ -69,42 +76,26 @@ module _ (words : List ℕ) (i depth : ℕ) where
 
 -- ---- two runs
 
--- i rows of each are the same, and the others say which run comes first
-pub record Compared (a b : List ℕ) (i : ℕ) : Type 0 where
-  pub inside : i ≤ length b
-  pub left : earlier_rows (value_rows_of a) (value_rows_of b) ≡ earlier_rows (value_rows_of (drop i a)) (value_rows_of (drop i b))
+-- runs are ordered as their words are
+runs_compared :
+    (v w : ℕ) (a b : List ℕ) (o : Ordering)
+    → MatchOrdering o (v < w) (v ≡ w) (w < v)
+    → MatchOrdering o (earlier_rows (value_rows_of (v ∷ a)) (value_rows_of (w ∷ b)) ≡ true)
+    (earlier_rows (value_rows_of (v ∷ a)) (value_rows_of (w ∷ b)) ≡ earlier_rows (value_rows_of a) (value_rows_of b))
+    (earlier_rows (value_rows_of (v ∷ a)) (value_rows_of (w ∷ b)) ≡ false)
+unfolding earlier_rows
+runs_compared v w a b Less h = rw (row_first v w h)
+runs_compared v w a b Equal h = rw (row_same v w (omega arith) (omega arith))
+runs_compared v w a b Greater h = rw (row_second v w h)
 
-pub compared_none : (a b : List ℕ) → Compared a b 0
-compared_none a b = record { inside = omega arith; left = refl }
-
-module _ {a b : List ℕ} {i : ℕ} (sofar : Compared a b i) where
-  -- the second has no more rows
-  pub compared_all : length b ≤ i → false ≡ earlier_rows (value_rows_of a) (value_rows_of b)
-  unfolding earlier_rows
-  compared_all h = sym (sofar.left ∙ rw (drop_of_length-le b h))
-
-  module _ (more : i < length b) where
-    -- the first has no more
-    pub compared_short : length a ≤ i → true ≡ earlier_rows (value_rows_of a) (value_rows_of b)
-    unfolding earlier_rows
-    compared_short h = sym (sofar.left ∙ rw (words_left b i more, drop_of_length-le a h))
-
-    module _ (also : i < length a) where
-      -- both have one more
-      pub compared_first : get_or a i 0 < get_or b i 0 → true ≡ earlier_rows (value_rows_of a) (value_rows_of b)
-      unfolding earlier_rows
-      compared_first h = sym (sofar.left ∙ rw (words_left b i more, words_left a i also, row_first (get_or a i 0) (get_or b i 0) h))
-
-      pub compared_second : get_or b i 0 < get_or a i 0 → false ≡ earlier_rows (value_rows_of a) (value_rows_of b)
-      unfolding earlier_rows
-      compared_second h = sym (sofar.left ∙ rw (words_left b i more, words_left a i also, row_second (get_or a i 0) (get_or b i 0) h))
-
-      pub compared_next : get_or a i 0 ≤ get_or b i 0 → get_or b i 0 ≤ get_or a i 0 → Compared a b (i + 1)
-      unfolding earlier_rows
-      compared_next h k = record {
-        inside = omega arith;
-        left = sofar.left ∙ rw (words_left b i more, words_left a i also, row_same (get_or a i 0) (get_or b i 0) h k);
-      }
+pub runs_earlier :
+    (a b : List ℕ) (r : Bool)
+    → r ≡ is_some_and is_lt (slice_partial_cmp (λ v w. Some (nat_cmp v w)) a b)
+    → r ≡ earlier_rows (value_rows_of a) (value_rows_of b)
+unfolding earlier_rows
+runs_earlier =
+    same_from_slice_cmp_tested nat_cmp is_lt (λ a b. earlier_rows (value_rows_of a) (value_rows_of b)) refl (λ w b. refl) (λ v a. refl)
+    (λ v w a b o e. runs_compared v w a b o (ranked v w o e))
 
 -- ---- an element and the next one of its set
 
@@ -143,31 +134,28 @@ module _ (words : List ℕ) (at next : ℕ) (past : PastInside words (at + 1) (d
           )
           (ap (λ o. is_first o within) (unkeyed-word (get_or words at 0) (get_or words next 0)))
 
-      pub ahead_first : unkeyed_word (get_or words at 0) < unkeyed_word (get_or words next 0) → true ≡ is_ahead_at words at
-      ahead_first h = sym (ahead_next ∙ rw (lt-ltb (unkeyed_word (get_or words at 0)) (unkeyed_word (get_or words next 0)) h))
-
-      pub ahead_second : unkeyed_word (get_or words next 0) < unkeyed_word (get_or words at 0) → false ≡ is_ahead_at words at
-      ahead_second h =
-          sym
-          (ahead_next
-          ∙ rw (
-            le-ltb (unkeyed_word (get_or words at 0)) (unkeyed_word (get_or words next 0)) (omega arith),
-            lt-ltb (unkeyed_word (get_or words next 0)) (unkeyed_word (get_or words at 0)) h,
-          ))
+      pub ahead_own :
+          (unkeyed_word (get_or words at 0) ≡ unkeyed_word (get_or words next 0) → ⊥)
+          → ltb (unkeyed_word (get_or words at 0)) (unkeyed_word (get_or words next 0)) ≡ is_ahead_at words at
+      ahead_own other =
+          let x = unkeyed_word (get_or words at 0) in
+          let y = unkeyed_word (get_or words next 0) in
+          by_test (ltb x y)
+          (λ t. sym (ahead_next ∙ rw t))
+          (λ t. sym (ahead_next ∙ rw (t, lt-ltb y x (omega (arith, ltb-false x y t, other)))))
 
       -- what is inside both decides
-      pub ahead_inside : {end : ℕ} → unkeyed_word (get_or words at 0) ≤ unkeyed_word (get_or words next 0) →
-          unkeyed_word (get_or words next 0) ≤ unkeyed_word (get_or words at 0) →
+      pub ahead_inside : {end : ℕ} → unkeyed_word (get_or words at 0) ≡ unkeyed_word (get_or words next 0) →
           PastInside words (next + 1) (depth_from (get_or words at 0)) end →
           is_ahead_at words at
           ≡ earlier_rows (value_rows_of (take (next - (at + 1)) (drop (at + 1) words)))
           (value_rows_of (take (end - (next + 1)) (drop (next + 1) words)))
       unfolding within
-      ahead_inside h k behind =
+      ahead_inside e behind =
           ahead_next
           ∙ rw (
-            le-ltb (unkeyed_word (get_or words at 0)) (unkeyed_word (get_or words next 0)) k,
-            le-ltb (unkeyed_word (get_or words next 0)) (unkeyed_word (get_or words at 0)) h,
+            le-ltb (unkeyed_word (get_or words at 0)) (unkeyed_word (get_or words next 0)) (omega arith),
+            le-ltb (unkeyed_word (get_or words next 0)) (unkeyed_word (get_or words at 0)) (omega arith),
             level,
             behind.inside,
           )

@@ -11,40 +11,17 @@ pub fn past(words: &[u64], at: usize, depth: u64) -> usize
     requires { at ≤ length words.now }
     ensures { PastInside words.now at depth result }
 {
-    let mut i = at;
-    while i < words.len() {
+    for i in at..words.len() {
         let row = ValueRow { word: words[i] };
         if row.depth() <= depth {
             return i;
         }
-        i += 1;
     }
-    i
+    words.len()
 }
 
-// Whether a run of rows comes before another. A row comes before another where its word is less.
-fn earlier(a: &[u64], b: &[u64]) -> bool
-    ensures { result ≡ earlier_rows (value_rows_of a.now) (value_rows_of b.now) }
-{
-    let mut i = 0;
-    while i < b.len() {
-        if a.len() <= i {
-            return true;
-        }
-        let x = a[i];
-        let y = b[i];
-        if x < y {
-            return true;
-        }
-        if y < x {
-            return false;
-        }
-        i += 1;
-    }
-    false
-}
-
-// Whether the element at a place comes before the next one of its set, if there is one. Elements are compared without their places.
+// Whether the element at a place comes before the next one of its set, if there is one. Elements are compared without their places, by the
+// words of their rows.
 pub fn is_ahead(words: &[u64], at: usize) -> bool
     requires { at < length words.now }
     ensures { result ≡ is_ahead_at words.now at }
@@ -62,15 +39,12 @@ pub fn is_ahead(words: &[u64], at: usize) -> bool
     }
     let x = row.unkeyed();
     let y = other.unkeyed();
-    if x.word < y.word {
-        return true;
-    }
-    if y.word < x.word {
-        return false;
+    if x.word != y.word {
+        return x.word < y.word;
     }
     let behind = next + 1;
     let end = past(words, behind, depth);
-    earlier(&words[start..next], &words[behind..end])
+    words[start..next] < words[behind..end]
 }
 
 // Whether the row at a place may come at a level, which is twice the least key, and one more if it is of a set.
@@ -136,13 +110,11 @@ pub fn is_lawful(words: &[u64], levels: &mut [u64]) -> bool
 {
     levels[0] = 0;
     let mut len: usize = 1;
-    let mut i = 0;
-    while i < words.len() {
+    for i in 0..words.len() {
         if !comes(words, i, &levels[..len]) {
             return false;
         }
         len = open_levels(levels, ValueRow { word: words[i] });
-        i += 1;
     }
     true
 }

@@ -4,7 +4,7 @@ ghost use Rattle.rules.specs.ValueRows.{value_row};
 ghost use Rattle.rules.specs.ValueRowTests.{is_value_row};
 ghost use Rattle.values.specs.ValueWords.{depth_from, key_from, kind_from, number_from, value_row_in, value_word, unkeyed_word};
 
-#[derive(Clone, Copy)]
+#[derive(Clone, Copy, PartialEq, Eq, Debug)]
 pub struct ValueRow {
     pub word: u64,
 }

@@ -6,7 +6,7 @@ use mathlib.Core.Path.{◌≡◌, sym, ◌∙◌}
 use lib.ListN.{length, get_or}
 use Rattle.values.specs.ValueWords.{depth_from}
 use Rattle.values.specs.Lawful.{PastInside}
-use Rattle.values.specs.LawfulLaws.{ahead_last, ahead_above, ahead_first, ahead_second, ahead_inside}
+use Rattle.values.specs.LawfulLaws.{ahead_last, ahead_above, runs_earlier, ahead_own, ahead_inside}
 use Rattle.values.proofs.lawful.is_ahead.Goals as goal
 use Rattle.values.proofs.lawful.is_ahead.Goals.{After-past-next, Else-depth, Else-next-words}
 
@@ -35,15 +35,14 @@ next_level c = omega arith
 
 pub returns-then-x-y : goal.returns-then-x-y
 returns-then-x-y c =
-    ahead_first _ _ _ (next_row (goal.at.returns-then-x-y c).After-past-next) (next-inside (goal.at.returns-then-x-y c).Else-next-words) (next_level (goal.at.returns-then-x-y c).Else-depth) (omega arith)
-
-pub returns-then-y-x : goal.returns-then-y-x
-returns-then-y-x c =
-    ahead_second _ _ _ (next_row (goal.at.returns-then-y-x c).After-past-next) (next-inside (goal.at.returns-then-y-x c).Else-next-words) (next_level (goal.at.returns-then-y-x c).Else-depth) (omega arith)
+    rw (c.unkeyed-x.ensures, c.unkeyed-y.ensures)
+    (ahead_own _ _ _ (next_row (goal.at.returns-then-x-y c).After-past-next) (next-inside (goal.at.returns-then-x-y c).Else-next-words) (next_level (goal.at.returns-then-x-y c).Else-depth)
+    (λ e. c.if-x-y.true (c.unkeyed-x.ensures ∙ e ∙ sym c.unkeyed-y.ensures)))
 
 pub returns : goal.returns
 returns c =
-    c.earlier.ensures
+    runs_earlier _ _ c.lt.result c.lt.ensures
     ∙ sym
-    (ahead_inside _ _ _ (next_row (goal.at.returns c).After-past-next) (next-inside (goal.at.returns c).Else-next-words) (next_level (goal.at.returns c).Else-depth) (omega arith) (omega arith)
+    (ahead_inside _ _ _ (next_row (goal.at.returns c).After-past-next) (next-inside (goal.at.returns c).Else-next-words) (next_level (goal.at.returns c).Else-depth)
+    (sym c.unkeyed-x.ensures ∙ c.if-x-y.false ∙ c.unkeyed-y.ensures)
     (rw c.depth-depth.ensures at c.past-end.ensures))

@@ -1,4 +1,3 @@
-use Prim.Native.Nat.{◌-◌}
 use mathlib.Core.Path.{◌≡◌}
 use lib.ListN.{length}
 use Rattle.values.specs.LawfulLaws.{RowsPassed}
@@ -6,6 +5,3 @@ use Rattle.values.proofs.lawful.is_lawful.Given as goal
 
 abbrev pub invariant-loop-i : goal.invariant-loop-i
 invariant-loop-i l = (length l.levels ≡ length l.initial.levels) × RowsPassed l.words l.levels l.len l.i
-
-abbrev pub decreases-loop-i : goal.decreases-loop-i
-decreases-loop-i l = length l.words - l.i

@@ -1,4 +1,6 @@
 -- `values::lawful::past` meets its contract: the rows that are passed are deeper, so what is past the others is past them too.
+use mathlib.Core.Path.{◌≡◌}
+use lib.ListN.{length}
 use native.Mathlib.Omega.{arith}
 use Rattle.values.specs.LawfulLaws.{past_none, past_here, past_deeper}
 use Rattle.values.proofs.lawful.past.Goals as goal
@@ -15,4 +17,6 @@ loop-i-preserved c =
     (omega arith, λ end past. c.loop-i.invariant.1 end (past_deeper _ _ _ c.loop-i-test.true (omega arith) past))
 
 pub returns : goal.returns
-returns c = c.loop-i.invariant.1 _ (past_none _ _ _ (omega arith) c.loop-i-test.false)
+returns c =
+    let end : c.loop-i.i ≡ length c.args.words.now = omega arith in
+    c.loop-i.invariant.1 _ (rw end (past_none _ _ _ (omega arith) (omega arith)))
