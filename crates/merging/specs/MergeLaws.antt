@@ -1,13 +1,15 @@
 -- Laws of the merge over words: of the set that the pass is inside, of each turn, and of the pass under way. No contract cites this file.
-use Rattle.std.specs.Prelude.{ℕ, zero, suc, ◌+◌, ◌≤◌, ◌<◌, ◌≡◌, refl, true, false, List, [], ◌∷◌, ◌++◌, map, eqb, length, drop, get_or, set}
+use Rattle.std.specs.Prelude.{ℕ, zero, suc, ◌+◌, ◌≤◌, ◌<◌, ◌≡◌, refl, true, false, ◌&&◌, List, [], ◌∷◌, ◌++◌, map, eqb, length, drop, get_or, set}
 use Rattle.std.proofs.Common.{le_refl, add-one, arith, sym, ap, ◌∙◌, lt-ltb, le-ltb, eq-eqb, ne_eqb, eqb-true, length-append, drop_of_length-le, drop-cons}
+use Rattle.std.proofs.lemmas.Bool.{not-true, not-false}
+use Rattle.std.proofs.Math.Bool.{not}
+use Rattle.std.specs.Cmp.Lexicographic.{pointwise}
 use Rattle.std.proofs.lemmas.List.{map-append, length-map}
 use Rattle.std.specs.Prelude.{Option as Maybe, Some, None}
 use Rattle.std.proofs.Math.Option.{Option, none, some}
 use Rattle.rules.specs.Facts.{by_test, by_option, both_true}
 use Rattle.rules.specs.Tries.{Next, first, second, same, next, same_list}
-use Rattle.rules.proofs.TrieLaws.{Says, next_says, says_next}
-use Rattle.rules.proofs.PlaceLaws.{same-list}
+use Rattle.rules.proofs.TrieLaws.{Says, next_says, says_next, deeper, smaller}
 use Rattle.rules.specs.ValueRows.{placed_row, inside_at, opened, inside_after, alone_row, agree_rows, both_rows, merge_rows}
 use Rattle.rules.proofs.ValueRowLaws.{turn_left, turn_right, turn_both, alone_taken, alone_none, Under, written_on, under_end, under_begun}
 use Rattle.words.specs.Runs.{Wrote}
@@ -15,13 +17,19 @@ use Rattle.words.specs.SeqLaws.{take-sets}
 use Rattle.words.specs.RunLaws.{wrote_ended, wrote_length}
 use Rattle.values.specs.ValueWords.{depth_from, key_from, kind_from, number_from, value_row_in, value_rows_of, value_word}
 use Rattle.values.specs.ValueWordLaws.{word_again}
-use Rattle.merging.specs.Merges.{inside_in, side_for, Chosen, alone_turn, rest_of, RowsTaken, MergeTurned, MergedInto, merged_entity_rows}
+use Rattle.merging.specs.Merges.{inside_in, order_of, Chosen, alone_turn, rest_of, RowsTaken, MergeTurned, MergedInto, merged_entity_rows}
 use Rattle.merging.specs.declared.Turn.{Turn}
-use Rattle.merging.specs.declared.Side.TheVariants.{Left, Right, Both}
+use Rattle.std.specs.Ordering.{MatchOrdering, ordering_then}
+use Rattle.std.specs.declared.cmp.Ordering.{Ordering}
+use Rattle.std.specs.declared.cmp.Ordering.TheVariants.{Less, Equal, Greater}
 
--- lists that differ are not the same
-pub not_same : (xs ys : List ℕ) → (xs ≡ ys → ⊥) → same_list xs ys ≡ false
-not_same xs ys other = by_test (same_list xs ys) (λ e. absurd (other ((same-list xs ys).0 e))) (λ e. e)
+-- whether lists are equal, word by word
+words_same : (xs ys : List ℕ) → same_list xs ys ≡ pointwise eqb xs ys
+unfolding same_list
+words_same [] [] = refl
+words_same [] (y ∷ ys) = refl
+words_same (x ∷ xs) [] = refl
+words_same (x ∷ xs) (y ∷ ys) = ap (λ more. eqb x y && more) (words_same xs ys)
 
 -- ---- the set that the pass is inside
 
@@ -73,27 +81,39 @@ apart_agree v w depths keys other =
 rest_rows : (run : List ℕ) (i : ℕ) → i < length run → value_rows_of (drop i run) ≡ value_row_in (get_or run i 0) ∷ value_rows_of (drop (i + 1) run)
 rest_rows run i h = rw (add-one, drop-cons run i 0 h)
 
--- the side that the order of two rows says
-pub side_said :
-    (v w : ℕ) (n : Next) → Says (placed_row (value_row_in v)) (placed_row (value_row_in w)) n → side_for n ≡ side_for (next (placed_row (value_row_in v)) (placed_row (value_row_in w)))
-side_said v w n says = sym (ap side_for (says_next (placed_row (value_row_in v)) (placed_row (value_row_in w)) n says))
+-- the order that the order of two rows says
+pub order_said :
+    (v w : ℕ) (n : Next) → Says (placed_row (value_row_in v)) (placed_row (value_row_in w)) n → order_of n ≡ order_of (next (placed_row (value_row_in v)) (placed_row (value_row_in w)))
+order_said v w n says = sym (ap order_of (says_next (placed_row (value_row_in v)) (placed_row (value_row_in w)) n says))
+
+-- by their depths, the deeper first, and then by their keys
+pub rows_ordered :
+    (v w : ℕ) (depths keys : Ordering)
+    → MatchOrdering depths (depth_from w < depth_from v) (depth_from w ≡ depth_from v) (depth_from v < depth_from w)
+    → MatchOrdering keys (key_from v < key_from w) (key_from v ≡ key_from w) (key_from w < key_from v)
+    → ordering_then depths keys ≡ order_of (next (placed_row (value_row_in v)) (placed_row (value_row_in w)))
+rows_ordered v w Less keys h k = order_said v w first (deeper h)
+rows_ordered v w Greater keys h k = order_said v w second (deeper h)
+rows_ordered v w Equal Less h k = order_said v w first (smaller (sym h) k)
+rows_ordered v w Equal Equal h k = order_said v w same (record { depths = sym h; steps = k })
+rows_ordered v w Equal Greater h k = order_said v w second (smaller h k)
 
 module _ (left right : List ℕ) (i j : ℕ) where
   -- where one run has ended the other has the next row
-  pub chosen_left : i < length left → length right ≤ j → Chosen left right i j Left
+  pub chosen_left : i < length left → length right ≤ j → Chosen left right i j Less
   chosen_left h past = (h, rw (drop_of_length-le right past) tt)
 
-  pub chosen_right : length left ≤ i → j < length right → Chosen left right i j Right
+  pub chosen_right : length left ≤ i → j < length right → Chosen left right i j Greater
   chosen_right past h = (h, rw (drop_of_length-le left past) tt)
 
   -- of two rows the one that comes first
   pub chosen_row :
       i < length left
       → j < length right
-      → Chosen left right i j (side_for (next (placed_row (value_row_in (get_or left i 0))) (placed_row (value_row_in (get_or right j 0)))))
+      → Chosen left right i j (order_of (next (placed_row (value_row_in (get_or left i 0))) (placed_row (value_row_in (get_or right j 0)))))
   chosen_row h k = go (next (placed_row (value_row_in (get_or left i 0))) (placed_row (value_row_in (get_or right j 0)))) (next_says _ _)
     where
-      go : (n : Next) → Says (placed_row (value_row_in (get_or left i 0))) (placed_row (value_row_in (get_or right j 0))) n → Chosen left right i j (side_for n)
+      go : (n : Next) → Says (placed_row (value_row_in (get_or left i 0))) (placed_row (value_row_in (get_or right j 0))) n → Chosen left right i j (order_of n)
       go first says = (h, rw (rest_rows right j k) says)
       go second says = (k, rw (rest_rows left i h) says)
       go same says = (h, k, says.depths, says.steps)
@@ -131,19 +151,19 @@ module _ (left right : List ℕ) (i j inside : ℕ) (in_left : i ≤ length left
       (λ s e. rw e (turn ∙ alone_none (inside_in inside) (value_row_in word) (rest_of left right i' j' 0) s e))
 
   -- the left run, and the right run
-  pub turned_left : Chosen left right i j Left → MergeTurned left right i j inside (alone_turn (get_or left i 0) (i + 1) j (inside_at (inside_in inside) (value_row_in (get_or left i 0))))
+  pub turned_left : Chosen left right i j Less → MergeTurned left right i j inside (alone_turn (get_or left i 0) (i + 1) j (inside_at (inside_in inside) (value_row_in (get_or left i 0))))
   turned_left (h, comes) =
       turned_alone (get_or left i 0) (i + 1) j (omega arith) in_right (omega arith)
       (rw (rest_rows left i h) (turn_left (inside_in inside) (value_row_in (get_or left i 0)) (value_rows_of (drop (i + 1) left)) (value_rows_of (drop j right)) comes))
 
-  pub turned_right : Chosen left right i j Right → MergeTurned left right i j inside (alone_turn (get_or right j 0) i (j + 1) (inside_at (inside_in inside) (value_row_in (get_or right j 0))))
+  pub turned_right : Chosen left right i j Greater → MergeTurned left right i j inside (alone_turn (get_or right j 0) i (j + 1) (inside_at (inside_in inside) (value_row_in (get_or right j 0))))
   turned_right (h, comes) =
       turned_alone (get_or right j 0) i (j + 1) in_left (omega arith) (omega arith)
       (rw (rest_rows right j h) (turn_right (inside_in inside) (value_row_in (get_or right j 0)) (value_rows_of (drop i left)) (value_rows_of (drop (j + 1) right)) comes))
 
   -- a row that both have: they take the two in one
   both_turn :
-      Chosen left right i j Both
+      Chosen left right i j Equal
       → rest_of left right i j inside
       ≡ both_rows (value_row_in (get_or left i 0)) (value_row_in (get_or right j 0))
       (merge_rows (inside_after (inside_in inside) (value_row_in (get_or left i 0))) (value_rows_of (drop (i + 1) left)) (value_rows_of (drop (j + 1) right)))
@@ -154,7 +174,7 @@ module _ (left right : List ℕ) (i j inside : ℕ) (in_left : i ≤ length left
   -- one word on both sides
   pub turned_both :
       (inside' : ℕ)
-      → Chosen left right i j Both
+      → Chosen left right i j Equal
       → get_or left i 0 ≡ get_or right j 0
       → inside_in inside' ≡ inside_after (inside_in inside) (value_row_in (get_or left i 0))
       → RowsTaken left right i j inside (get_or left i 0) (i + 1) (j + 1) inside'
@@ -166,7 +186,7 @@ module _ (left right : List ℕ) (i j inside : ℕ) (in_left : i ≤ length left
   }
 
   -- two words that differ
-  pub turned_apart : Chosen left right i j Both → (get_or left i 0 ≡ get_or right j 0 → ⊥) → rest_of left right i j inside ≡ none
+  pub turned_apart : Chosen left right i j Equal → (get_or left i 0 ≡ get_or right j 0 → ⊥) → rest_of left right i j inside ≡ none
   turned_apart chosen other =
       both_turn chosen ∙ rw (apart_agree (get_or left i 0) (get_or right j 0) chosen.2 chosen.3 other)
 
@@ -246,10 +266,10 @@ module _ {left right out out' : List ℕ} {to i j inside at : ℕ} (passing : Me
 module _ (left_parents left right_parents right : List ℕ) where
   -- parents that differ
   pub entities_apart :
-      (out : List ℕ) (to : ℕ) → same_list left_parents right_parents ≡ false → MergedInto (merged_entity_rows left_parents left right_parents right) out to out None
-  entities_apart out to e = rw e (record { answer = refl; front = refl; size = refl })
+      (out : List ℕ) (to : ℕ) → not (pointwise eqb left_parents right_parents) ≡ true → MergedInto (merged_entity_rows left_parents left right_parents right) out to out None
+  entities_apart out to e = rw (words_same left_parents right_parents, not-true _ e) (record { answer = refl; front = refl; size = refl })
 
   -- parents that are equal: the merge of the rows is all
   pub entities_same :
-      same_list left_parents right_parents ≡ true → merged_entity_rows left_parents left right_parents right ≡ merge_rows none (value_rows_of left) (value_rows_of right)
-  entities_same e = rw e
+      not (pointwise eqb left_parents right_parents) ≡ false → merged_entity_rows left_parents left right_parents right ≡ merge_rows none (value_rows_of left) (value_rows_of right)
+  entities_same e = rw (words_same left_parents right_parents, not-false _ e)

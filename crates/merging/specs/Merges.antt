@@ -7,8 +7,8 @@ use Rattle.rules.specs.Tries.{Next, first, second, same, same_list}
 use Rattle.rules.specs.ValueRows.{ValueRow, onto_rows, merge_rows}
 use Rattle.rules.proofs.ValueRowLaws.{Comes}
 use Rattle.values.specs.ValueWords.{depth_from, key_from, value_row_in, value_rows_of, value_word}
-use Rattle.merging.specs.declared.Side.{Side}
-use Rattle.merging.specs.declared.Side.TheVariants.{Left, Right, Both}
+use Rattle.std.specs.declared.cmp.Ordering.{Ordering}
+use Rattle.std.specs.declared.cmp.Ordering.TheVariants.{Less, Equal, Greater}
 use Rattle.merging.specs.declared.Turn.{Turn}
 
 -- The two differ: nothing before the place `to` is changed.
@@ -37,16 +37,17 @@ abbrev pub inside_in : ℕ → Option ℕ
 inside_in zero = none
 inside_in (suc depth) = some depth
 
-abbrev pub side_for : Next → Side
-side_for first = Left
-side_for second = Right
-side_for same = Both
+-- how two rows are ordered, by which comes next
+abbrev pub order_of : Next → Ordering
+order_of first = Less
+order_of second = Greater
+order_of same = Equal
 
--- Where i and j rows of the runs are passed: the side has the next row.
-abbrev pub Chosen : List ℕ → List ℕ → ℕ → ℕ → Side → Type 0
-Chosen left right i j Left = (i < length left) × Comes (value_row_in (get_or left i 0)) (value_rows_of (drop j right))
-Chosen left right i j Right = (j < length right) × Comes (value_row_in (get_or right j 0)) (value_rows_of (drop i left))
-Chosen left right i j Both =
+-- Where i and j rows of the runs are passed: the left run has the next row, or the right, or both.
+abbrev pub Chosen : List ℕ → List ℕ → ℕ → ℕ → Ordering → Type 0
+Chosen left right i j Less = (i < length left) × Comes (value_row_in (get_or left i 0)) (value_rows_of (drop j right))
+Chosen left right i j Greater = (j < length right) × Comes (value_row_in (get_or right j 0)) (value_rows_of (drop i left))
+Chosen left right i j Equal =
     (i < length left)
     × (j < length right)
     × (depth_from (get_or left i 0) ≡ depth_from (get_or right j 0))

@@ -3,20 +3,13 @@
 
 ghost use Rattle.std.specs.Prelude.{◌≡◌, ◌+◌, ◌≤◌, ◌<◌, length};
 ghost use Rattle.std.proofs.Math.Option.{none};
-ghost use Rattle.rules.specs.Tries.{next, same_list};
+ghost use Rattle.rules.specs.Tries.{next};
 ghost use Rattle.rules.specs.ValueRows.{placed_row, inside_at, inside_after, merge_rows};
 ghost use Rattle.values.specs.ValueWords.{value_row_in, value_rows_of};
-ghost use Rattle.merging.specs.Merges.{inside_in, side_for, Chosen, alone_turn, MergeTurned, MergedInto, merged_entity_rows};
+ghost use Rattle.merging.specs.Merges.{inside_in, order_of, Chosen, alone_turn, MergeTurned, MergedInto, merged_entity_rows};
 
+use std::cmp::Ordering;
 use values::ValueRow;
-
-// Which run has the next row, or that both have it.
-#[derive(Clone, Copy, PartialEq, Eq, Debug)]
-enum Side {
-    Left,
-    Right,
-    Both,
-}
 
 // A turn of the pass: the row that it takes, how many rows of each run are passed then, and the set that the pass is inside then.
 #[derive(Clone, Copy, PartialEq, Eq, Debug)]
@@ -25,23 +18,6 @@ struct Turn {
     left: usize,
     right: usize,
     inside: u64,
-}
-
-// Whether two runs of words are equal.
-pub fn same_words(left: &[u64], right: &[u64]) -> bool
-    ensures { result ≡ same_list left.now right.now }
-{
-    if left.len() != right.len() {
-        return false;
-    }
-    let mut i = 0;
-    while i < left.len() {
-        if left[i] != right[i] {
-            return false;
-        }
-        i += 1;
-    }
-    true
 }
 
 // The set that the pass is inside at a row: 0 for none, and otherwise one more than the set's depth. A row no deeper than the set ends it.
@@ -68,41 +44,26 @@ fn inside_after(inside: u64, row: ValueRow) -> u64
     0
 }
 
-// Which of two next rows comes first: the deeper, at one depth the smaller key.
-fn row_side(x: ValueRow, y: ValueRow) -> Side
-    ensures { result ≡ side_for (next (placed_row (value_row_in x.word)) (placed_row (value_row_in y.word))) }
+// How two next rows are ordered: the deeper comes first, and at one depth the one with the smaller key.
+fn row_order(x: ValueRow, y: ValueRow) -> Ordering
+    ensures { result ≡ order_of (next (placed_row (value_row_in x.word)) (placed_row (value_row_in y.word))) }
 {
-    let x_depth = x.depth();
-    let y_depth = y.depth();
-    if y_depth < x_depth {
-        return Side::Left;
-    }
-    if x_depth < y_depth {
-        return Side::Right;
-    }
-    let x_key = x.key();
-    let y_key = y.key();
-    if x_key < y_key {
-        return Side::Left;
-    }
-    if y_key < x_key {
-        return Side::Right;
-    }
-    Side::Both
+    y.depth().cmp(&x.depth()).then(x.key().cmp(&y.key()))
 }
 
-// Which run has the next row, where i and j rows are passed and some are left.
-fn next_side(left: &[u64], right: &[u64], i: usize, j: usize) -> Side
+// Which run has the next row, where i and j rows are passed and some are left: the left where it is `Less`, the right where it is `Greater`,
+// both where it is `Equal`.
+fn next_order(left: &[u64], right: &[u64], i: usize, j: usize) -> Ordering
     requires { (i ≤ length left.now) × (j ≤ length right.now) × (i + j < length left.now + length right.now) }
     ensures { Chosen left.now right.now i j result }
 {
     if left.len() <= i {
-        return Side::Right;
+        return Ordering::Greater;
     }
     if right.len() <= j {
-        return Side::Left;
+        return Ordering::Less;
     }
-    row_side(ValueRow { word: left[i] }, ValueRow { word: right[j] })
+    row_order(ValueRow { word: left[i] }, ValueRow { word: right[j] })
 }
 
 // A row that one side alone has is taken outside a set; inside one the two differ.
@@ -125,10 +86,10 @@ fn next_turn(left: &[u64], right: &[u64], i: usize, j: usize, inside: u64) -> Op
     requires { (i ≤ length left.now) × (j ≤ length right.now) × (i + j < length left.now + length right.now) }
     ensures { MergeTurned left.now right.now i j inside result }
 {
-    match next_side(left, right, i, j) {
-        Side::Left => take_alone(left[i], i + 1, j, inside),
-        Side::Right => take_alone(right[j], i, j + 1, inside),
-        Side::Both => {
+    match next_order(left, right, i, j) {
+        Ordering::Less => take_alone(left[i], i + 1, j, inside),
+        Ordering::Greater => take_alone(right[j], i, j + 1, inside),
+        Ordering::Equal => {
             let word = left[i];
             if word != right[j] {
                 return None;
@@ -176,8 +137,8 @@ pub fn merge_entities(
     requires { to + (length left.now + length right.now) ≤ length out.old }
     ensures { MergedInto (merged_entity_rows left_parents.now left.now right_parents.now right.now) out.old to out.new result }
 {
-    if same_words(left_parents, right_parents) {
-        return merge_values(left, right, out, to);
+    if left_parents != right_parents {
+        return None;
     }
-    None
+    merge_values(left, right, out, to)
 }
