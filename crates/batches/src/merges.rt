@@ -74,13 +74,11 @@ pub fn merges_with_earlier(
         ≡ merges_with (answers_to id (map row_asked rows.now) (map (heard_at words.now) places.now))
         (heard_at words.now at) }
 {
-    let mut i = 0;
-    while i < rows.len() {
+    for i in 0..rows.len() {
         let place = places[i] as usize;
         if !agrees_if_asked(words, rows[i], place, id, at, scratch) {
             return false;
         }
-        i += 1;
     }
     true
 }

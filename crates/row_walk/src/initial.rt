@@ -13,7 +13,7 @@ use rows::{RequestType, Row, StepParts};
 use values::EntityRequest;
 
 // A request without its context: its type triple, principal and resource.
-#[derive(Clone, Copy)]
+#[derive(Clone, Copy, PartialEq, Eq, Debug)]
 pub struct Request {
     pub triple: u64,
     pub principal: u64,
@@ -59,8 +59,7 @@ fn asks(row: Row, depth: u64) -> bool
 pub fn context_root(nodes: &[u64], from: usize, depth: u64) -> usize
     ensures { ContextAt nodes.now depth from result }
 {
-    let mut i = from;
-    while i < nodes.len() {
+    for i in from..nodes.len() {
         let row = Row { word: nodes[i] };
         let there = row.depth();
         if there <= depth {
@@ -71,7 +70,6 @@ pub fn context_root(nodes: &[u64], from: usize, depth: u64) -> usize
                 return i;
             }
         }
-        i += 1;
     }
     nodes.len()
 }
@@ -108,9 +106,8 @@ pub fn ask_roots(
     ensures { BatchWritten out.old to out.new
         (batch_of (at_roots (request_with request []) depth from (rows_of (drop from nodes.now)))) (Some result) }
 {
-    let mut i = from;
     let mut at = to;
-    while i < nodes.len() {
+    for i in from..nodes.len() {
         let row = Row { word: nodes[i] };
         if row.depth() <= depth {
             return at;
@@ -121,7 +118,6 @@ pub fn ask_roots(
             out[at] = asked.word();
             at += 1;
         }
-        i += 1;
     }
     at
 }

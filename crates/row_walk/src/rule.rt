@@ -12,7 +12,7 @@ use values::ValueRow;
 
 // What a node comes to: nothing is met, and what is kept; an entity id; a marked set of ids, by the place behind its row and the depth of
 // its elements; or 14. What is kept is 0 for nothing, and p + 1 for the rows of the values from place p on.
-#[derive(Clone, Copy)]
+#[derive(Clone, Copy, PartialEq, Eq, Debug)]
 pub enum Rule {
     Kept(u64),
     Row(u64),

@@ -23,8 +23,7 @@ fn is_child(step: u64, fields: bool) -> bool
 pub fn has_child(nodes: &[u64], from: usize, depth: u64, fields: bool) -> bool
     ensures { result ≡ has_child (child_test fields) depth (rows_of (drop from nodes.now)) }
 {
-    let mut i = from;
-    while i < nodes.len() {
+    for i in from..nodes.len() {
         let row = Row { word: nodes[i] };
         let there = row.depth();
         if there <= depth {
@@ -35,7 +34,6 @@ pub fn has_child(nodes: &[u64], from: usize, depth: u64, fields: bool) -> bool
                 return true;
             }
         }
-        i += 1;
     }
     false
 }
@@ -45,8 +43,7 @@ pub fn field_row(values: &[u64], from: usize, depth: u64, f: u64) -> usize
     ensures values_value { value_rows_of (drop result values.now) ≡ field_row depth f (value_rows_of (drop from values.now)) }
     ensures upper_bound { result ≤ length values.now }
 {
-    let mut i = from;
-    while i < values.len() {
+    for i in from..values.len() {
         let row = ValueRow { word: values[i] };
         let there = row.depth();
         if there < depth {
@@ -57,7 +54,6 @@ pub fn field_row(values: &[u64], from: usize, depth: u64, f: u64) -> usize
                 return i;
             }
         }
-        i += 1;
     }
     values.len()
 }
@@ -67,8 +63,7 @@ pub fn holds_ids(values: &[u64], from: usize, depth: u64) -> bool
     ensures { ids_at depth (value_rows_of (drop from values.now))
         ≡ ids_if_held result depth (value_rows_of (drop from values.now)) }
 {
-    let mut i = from;
-    while i < values.len() {
+    for i in from..values.len() {
         let row = ValueRow { word: values[i] };
         let there = row.depth();
         if there < depth {
@@ -79,7 +74,6 @@ pub fn holds_ids(values: &[u64], from: usize, depth: u64) -> bool
                 return false;
             }
         }
-        i += 1;
     }
     true
 }

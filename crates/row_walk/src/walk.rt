@@ -9,7 +9,7 @@ use rows::Row;
 
 // What a walk meets: an entity to ask for, by its id; the ids in a marked set, by the place behind its row and their depth; 14; or nothing
 // more.
-#[derive(Drop)]
+#[derive(Clone, Copy, PartialEq, Eq, Debug)]
 pub enum Met {
     Row(u64),
     Ids(usize, u64),
@@ -18,7 +18,7 @@ pub enum Met {
 }
 
 // What is met, the node at which it is met, and for how many depths something is kept then.
-#[derive(Drop)]
+#[derive(Clone, Copy, PartialEq, Eq, Debug)]
 pub struct Meeting {
     pub node: usize,
     pub len: usize,
@@ -26,7 +26,7 @@ pub struct Meeting {
 }
 
 // What one row comes to, and for how many depths something is kept then.
-#[derive(Drop)]
+#[derive(Clone, Copy, PartialEq, Eq, Debug)]
 struct Visits {
     len: usize,
     rule: Rule,

@@ -1,6 +1,6 @@
 -- Laws of an entity's answers merged one after the other, and written. No contract cites this file.
 use Rattle.std.specs.Prelude.{ℕ, suc, ◌+◌, ◌≤◌, ◌≡◌, true, List, [], ◌∷◌, ◌++◌, map, length, take, drop, get_or, set}
-use Rattle.std.proofs.Common.{arith, sym, ◌∙◌, append_assoc, length-drop, drop_of_length-le, length-take-le, take_at, drop_at, set-set}
+use Rattle.std.proofs.Common.{arith, sym, ◌∙◌, append_assoc, length-drop, length-take-le, take_at, drop_at, set-set}
 use Rattle.std.proofs.Math.Path.{refl, ap}
 use Rattle.std.proofs.Math.Option.{none, some, some-injective, none-ne-some}
 use Rattle.std.proofs.lemmas.List.{length-map}
@@ -14,7 +14,6 @@ use Rattle.rules.proofs.ValueRowLaws.{fields_no_left}
 use Rattle.rules.specs.ValueRowTests.{attributes_from, passes, lawful_value_rows}
 use Rattle.rules.proofs.ValueRowTestLaws.{read_run, lawful_read, lawful_rows_count, lawful_merge, lawful_merged}
 use Rattle.rules.proofs.MergeLaws.{bind_given, GoodEntity, MergedFrom, merged_from, merged_all, merged_of}
-use Rattle.rules.proofs.SliceLaws.{answers_to}
 use Rattle.words.specs.Runs.{Wrote}
 use Rattle.words.specs.SeqLaws.{set_before}
 use Rattle.values.specs.ValueWords.{value_row_in, value_rows_of, value_word}
@@ -186,14 +185,6 @@ module _
           let rows : attribute_rows 1 value.attributes ≡ value_rows_of sofar.held =
           ap (λ (v : Entity). attribute_rows 1 v.attributes) (sym is) ∙ (lawful_read (value_rows_of sofar.held) sofar.lawful).0 in
           rw (rows, words_again sofar.held) sofar.wrote
-
-      pub merged_end :
-          length rows ≤ k
-          → (value : Entity)
-          → merged_of (answers_for words rows places e) ≡ some value
-          → Wrote out from (row_words value) out' (from + size)
-      unfolding answers_to
-      merged_end past = merged-all (rw (drop_of_length-le rows past))
 
       -- the next answer
       module _ {next : ℕ} (found : FirstAnswer words rows places e k next) where

@@ -39,13 +39,11 @@ pub fn next_answer(
     requires { Heard words.now keys.now (places_of places.now keys.now) × (from ≤ length keys.now) }
     ensures { AnswerFound words.now keys.now (places_of places.now keys.now) entity from result }
 {
-    let mut k = from;
-    while k < keys.len() {
+    for k in from..keys.len() {
         let place = place_of(keys, places, k);
         if asks_for(keys[k], words[place], entity) {
             return Some(k);
         }
-        k += 1;
     }
     None
 }
@@ -106,10 +104,7 @@ fn write_rows(
 {
     let mut size: usize = 0;
     let mut k: usize = 0;
-    while k < keys.len() {
-        let Some(next) = next_answer(words, keys, places, entity, k) else {
-            return size;
-        };
+    while let Some(next) = next_answer(words, keys, places, entity, k) {
         let place = place_of(keys, places, next);
         size = merge_more(words, place, out, from, size, scratch);
         k = next + 1;

@@ -16,7 +16,7 @@ pub use ids::union_ids;
 use keys::{IDS, group_end, sort_keys, write_keys};
 
 // A slice that is written: how many entities it has, and the place after it.
-#[derive(Drop)]
+#[derive(Clone, Copy, PartialEq, Eq, Debug)]
 pub struct Built {
     pub count: u64,
     pub end: usize,

@@ -26,12 +26,6 @@ returns-then-not-agrees_if_asked c =
     merged_not a.words.now a.rows.now a.places.now a.id (heard_at a.words.now a.at) c.loop-i.i c.loop-i.invariant.0 c.requires.rows_len.0
     (omega arith) (sym c.agrees_if_asked.ensures ∙ c.if-not-agrees_if_asked.true)
 
-pub overflow_add-i : goal.overflow_add-i
-overflow_add-i c = omega arith
-
-pub loop-i-smaller : goal.loop-i-smaller
-loop-i-smaller c = omega arith
-
 pub loop-i-preserved : goal.loop-i-preserved
 loop-i-preserved c =
     let a = c.args in (

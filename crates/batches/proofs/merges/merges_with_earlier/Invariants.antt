@@ -1,4 +1,3 @@
-use Prim.Native.Nat.{◌-◌}
 use mathlib.Core.Path.{◌≡◌}
 use lib.ListN.{length}
 use Rattle.batches.specs.Hearings.{heard_at}
@@ -7,6 +6,3 @@ use Rattle.batches.proofs.merges.merges_with_earlier.Given as goal
 
 abbrev pub invariant-loop-i : goal.invariant-loop-i
 invariant-loop-i l = MergedSofar l.words l.rows l.places l.id (heard_at l.words l.at) l.i × (length l.scratch ≡ length l.initial.scratch)
-
-abbrev pub decreases-loop-i : goal.decreases-loop-i
-decreases-loop-i l = length l.rows - l.i

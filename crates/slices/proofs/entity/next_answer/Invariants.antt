@@ -1,11 +1,6 @@
-use Prim.Native.Nat.{◌-◌}
-use lib.ListN.{length}
 use Rattle.slices.specs.Keys.{places_of}
 use Rattle.slices.specs.HeardLaws.{Passed}
 use Rattle.slices.proofs.entity.next_answer.Given as goal
 
 abbrev pub invariant-loop-k : goal.invariant-loop-k
 invariant-loop-k l = Passed l.words l.keys (places_of l.places l.keys) l.entity l.from l.k
-
-abbrev pub decreases-loop-k : goal.decreases-loop-k
-decreases-loop-k l = length l.keys - l.k

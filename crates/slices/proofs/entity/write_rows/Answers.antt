@@ -4,7 +4,7 @@ use borrow.Author.Rules.{rules}
 use Rattle.words.specs.RunLaws.{wrote_length}
 use Rattle.slices.specs.Keys.{places_of}
 use Rattle.slices.specs.Writing.{FirstAnswer}
-use Rattle.slices.specs.WriteLaws.{merged_none, merged_few, merged-all, merged_end, may_merge, merged_next}
+use Rattle.slices.specs.WriteLaws.{merged_none, merged_few, merged-all, may_merge, merged_next}
 use Rattle.slices.proofs.entity.write_rows.Goals as goal
 use Rattle.slices.proofs.entity.write_rows.Goals.{In-Some}
 
@@ -12,48 +12,39 @@ use Rattle.slices.proofs.entity.write_rows.Goals.{In-Some}
 found :
     (c : In-Some)
     → let a = c.args in
-    FirstAnswer a.words.now a.keys.now (places_of a.places.now a.keys.now) a.entity c.loop-k.k
+    FirstAnswer a.words.now a.keys.now (places_of a.places.now a.keys.now) a.entity c.loop-next.k
     c.in-Some.next
 found c = rw c.in-Some.is at c.next_answer.ensures
 
-pub loop-k-init : goal.loop-k-init
-loop-k-init c = merged_none c.requires
+pub loop-next-init : goal.loop-next-init
+loop-next-init c = merged_none c.requires
 
 pub next_answer-requires : goal.next_answer-requires
-next_answer-requires c = (c.requires.heard, c.loop-k.invariant.inside)
-
-pub shape_of-out-in_default : goal.shape_of-out-in_default
-shape_of-out-in_default c = wrote_length c.loop-k.invariant.wrote
-
-pub shape_of-scratch-in_default : goal.shape_of-scratch-in_default
-shape_of-scratch-in_default c = c.loop-k.invariant.scratch_kept
-
-pub returns-in_default : goal.returns-in_default
-returns-in_default c = record { wrote = merged-all c.requires c.loop-k.invariant (rw c.in_default.is at c.next_answer.ensures); upper_bound = merged_few c.requires c.loop-k.invariant }
+next_answer-requires c = (c.requires.heard, c.loop-next.invariant.inside)
 
 pub place_of-place-requires : goal.place_of-place-requires
 place_of-place-requires c = omega (arith, (found (goal.at.place_of-place-requires c).In-Some).inside, c.requires.heard.as_many)
 
 pub merge_more-size-requires : goal.merge_more-size-requires
 merge_more-size-requires c =
-    rw c.place_of-place.ensures (may_merge c.requires c.loop-k.invariant (found (goal.at.merge_more-size-requires c).In-Some))
+    rw c.place_of-place.ensures (may_merge c.requires c.loop-next.invariant (found (goal.at.merge_more-size-requires c).In-Some))
 
 pub overflow_add-k : goal.overflow_add-k
 overflow_add-k c = omega (arith, (found (goal.at.overflow_add-k c).In-Some).inside)
 
-pub loop-k-smaller : goal.loop-k-smaller
-loop-k-smaller c = omega (arith, (found (goal.at.loop-k-smaller c).In-Some).inside, (found (goal.at.loop-k-smaller c).In-Some).after)
+pub loop-next-smaller : goal.loop-next-smaller
+loop-next-smaller c = omega (arith, (found (goal.at.loop-next-smaller c).In-Some).inside, (found (goal.at.loop-next-smaller c).In-Some).after)
 
-pub loop-k-preserved : goal.loop-k-preserved
-loop-k-preserved c =
-    merged_next c.requires c.loop-k.invariant (found (goal.at.loop-k-preserved c).In-Some) (search rules)
+pub loop-next-preserved : goal.loop-next-preserved
+loop-next-preserved c =
+    merged_next c.requires c.loop-next.invariant (found (goal.at.loop-next-preserved c).In-Some) (search rules)
     (rw c.place_of-place.ensures at c.merge_more-size.ensures)
 
 pub shape_of-out : goal.shape_of-out
-shape_of-out c = wrote_length c.loop-k.invariant.wrote
+shape_of-out c = wrote_length c.loop-next.invariant.wrote
 
 pub shape_of-scratch : goal.shape_of-scratch
-shape_of-scratch c = c.loop-k.invariant.scratch_kept
+shape_of-scratch c = c.loop-next.invariant.scratch_kept
 
 pub returns : goal.returns
-returns c = record { wrote = merged_end c.requires c.loop-k.invariant c.loop-k-test.false; upper_bound = merged_few c.requires c.loop-k.invariant }
+returns c = record { wrote = merged-all c.requires c.loop-next.invariant (rw c.in_default.is at c.next_answer.ensures); upper_bound = merged_few c.requires c.loop-next.invariant }

@@ -4,9 +4,9 @@ use Rattle.slices.specs.Keys.{places_of}
 use Rattle.slices.specs.WriteLaws.{MergedTo}
 use Rattle.slices.proofs.entity.write_rows.Given as goal
 
-abbrev pub invariant-loop-k : goal.invariant-loop-k
-invariant-loop-k l =
+abbrev pub invariant-loop-next : goal.invariant-loop-next
+invariant-loop-next l =
     MergedTo l.words l.keys (places_of l.places l.keys) l.entity l.initial.out l.from l.initial.scratch l.out l.scratch l.size l.k
 
-abbrev pub decreases-loop-k : goal.decreases-loop-k
-decreases-loop-k l = length l.keys - l.k
+abbrev pub decreases-loop-next : goal.decreases-loop-next
+decreases-loop-next l = length l.keys - l.k
