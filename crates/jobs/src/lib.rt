@@ -1,11 +1,11 @@
-// What all jobs share: a refusal told, a schema, a listing and a name table read, a listing written, also of a manifest that is typed first. Each answers a status.
+// What all jobs share: a refusal told, a text read and taken, a schema, a listing and a name table among them, a listing written, also of a
+// manifest that is typed first.
 #![tactic(auto)]
 
-ghost use Rattle.io.specs.Counts.{IsPrefixLen};
-
 use entity_manifest::{Kind, Refusal};
-use files::{DONE, Loaded, REFUSED, To};
+use files::{CommandLine, Failure, ROOM, To};
 use forms::Form;
+use row_labels::Names;
 
 // The words of a manifest and of a schema, and the bytes of a listing.
 pub const WORDS: usize = 4_161;
@@ -14,123 +14,126 @@ pub const SCHEMA: usize = 142_337;
 
 pub const LISTING: usize = 62_720;
 
-// Reads the files behind word i for their lengths alone: one that is too long or cannot be read comes before a refusal of what word i names.
-pub fn pass_behind(to: To, line: &[u8], i: usize, count: usize) -> u64 {
-    if i < count {
-        return files::pass_rest(to, line, i + 1, count);
+// Refuses what word i names, and has that said. A file behind it that is too long or cannot be read comes before that.
+pub fn refuse<F: FnOnce(&[u8])>(line: CommandLine, i: usize, say: F) -> Failure
+    requires { F.IsAlwaysCallable say }
+{
+    if let Err(failure) = line.pass_behind(i) {
+        return failure;
     }
-    DONE
+    say(line.word(i).bytes());
+    Failure::Refused
 }
 
-// Says that the front refused the text that word i names.
-pub fn refuse(
-    to: To,
-    line: &[u8],
+// Says why the text that word i names is refused.
+pub fn refuse_text(
+    line: CommandLine,
     i: usize,
-    count: usize,
     form: Form,
-    number: u64,
-    place: u64,
+    refusal: Refusal,
     text: &[u8],
-) -> u64 {
-    let status = pass_behind(to, line, i, count);
-    if status != DONE {
-        return status;
-    }
-    let mut name = io::buffer();
-    let n = files::word(to.rt, line, i, &mut name);
-    messages::say_refused(to.err, &name[..n], form, number, place, text);
-    REFUSED
+) -> Failure {
+    let Refusal { number, place } = refusal;
+    refuse(line, i, |name| {
+        messages::say_refused(line.to.err, name, form, number, place, text)
+    })
+}
+
+// Reads the text that word i names, and has it taken.
+pub fn read<T, F: FnOnce(&[u8]) -> Result<T, Refusal>>(
+    line: CommandLine,
+    i: usize,
+    form: Form,
+    take: F,
+) -> Result<T, Failure>
+    requires { F.IsAlwaysCallable take }
+{
+    let mut room = [0u8; ROOM];
+    let text = line.load(i, &mut room)?;
+    take(text).map_err(|refusal| refuse_text(line, i, form, refusal, text))
 }
 
 // Reads the schema that word i names.
-pub fn load_schema(to: To, line: &[u8], i: usize, count: usize, schema: &mut [u64]) -> u64 {
-    let mut text = [0u8; 65_537];
-    let loaded = files::load(to, line, i, &mut text);
-    if loaded.status != DONE {
-        return loaded.status;
-    }
-    let n = loaded.bytes;
-    let reply = entity_manifest::read_schema(&text[..n], schema);
-    if let Err(Refusal { number, place }) = reply {
-        return refuse(to, line, i, count, Form::Schema, number, place, &text[..n]);
-    }
-    DONE
+pub fn load_schema(line: CommandLine, i: usize, schema: &mut [u64]) -> Result<(), Failure> {
+    read(line, i, Form::Schema, |text| {
+        entity_manifest::read_schema(text, schema)
+    })
 }
 
 // Reads the listing that word i names.
-pub fn load_listing(to: To, line: &[u8], i: usize, count: usize, manifest: &mut [u64]) -> u64 {
-    let mut text = [0u8; 65_537];
-    let loaded = files::load(to, line, i, &mut text);
-    if loaded.status != DONE {
-        return loaded.status;
-    }
-    let n = loaded.bytes;
-    let reply = entity_manifest::read_listing(Kind::Manifest, &text[..n], manifest);
-    if let Err(Refusal { number, place }) = reply {
-        return refuse(to, line, i, count, Form::Listing, number, place, &text[..n]);
-    }
-    DONE
+pub fn load_listing(line: CommandLine, i: usize, manifest: &mut [u64]) -> Result<(), Failure> {
+    read(line, i, Form::Listing, |text| {
+        entity_manifest::read_listing(Kind::Manifest, text, manifest)
+    })
 }
 
 // Reads the name table that word 3 names, where there is such a word; otherwise there are no names.
-pub fn load_names(to: To, line: &[u8], count: usize, text: &mut [u8], names: &mut [u64]) -> Loaded
-    ensures { IsPrefixLen result.bytes text.new }
+fn load_names<'r>(
+    line: CommandLine,
+    room: &'r mut [u8],
+    words: &'r mut [u64],
+) -> Result<Names<'r>, Failure> {
+    if line.count < 4 {
+        return Ok(Names {
+            text: &[],
+            words: &[],
+        });
+    }
+    let text = line.load(3, room)?;
+    name_table::read_names(text, words).map_err(|refusal| refuse_text(
+        line,
+        3,
+        Form::Names,
+        refusal,
+        text,
+    ))?;
+    Ok(Names { text, words })
+}
+
+// Reads the listing that word 2 names and the name table, if one is named, and has them drawn.
+pub fn draw<F: FnOnce(&[u64], Names) -> Result<(), Failure>>(
+    line: CommandLine,
+    draw: F,
+) -> Result<(), Failure>
+    requires { F.IsAlwaysCallable draw }
 {
-    if count < 4 {
-        return Loaded {
-            status: DONE,
-            bytes: 0,
-        };
-    }
-    let loaded = files::load(to, line, 3, text);
-    if loaded.status != DONE {
-        return loaded;
-    }
-    let n = loaded.bytes;
-    let reply = name_table::read_names(&text[..n], names);
-    if let Err(Refusal { number, place }) = reply {
-        return Loaded {
-            status: refuse(to, line, 3, count, Form::Names, number, place, &text[..n]),
-            bytes: 0,
-        };
-    }
-    loaded
+    let mut manifest = [0u64; WORDS];
+    load_listing(line, 2, &mut manifest)?;
+    let mut room = [0u8; ROOM];
+    let mut words = [0u64; name_table::WORDS];
+    let names = load_names(line, &mut room, &mut words)?;
+    draw(&manifest, names)
+}
+
+// The listing of a manifest, or of a contribution, in lent room.
+fn listing_of<'r>(kind: Kind, state: &[u64], room: &'r mut [u8]) -> Result<&'r [u8], Failure> {
+    let Ok(n) = entity_manifest::write_listing(kind, state, room) else {
+        return Err(Failure::Refused);
+    };
+    room.get(..n).ok_or(Failure::Refused)
 }
 
 // Writes the listing of a manifest, or of a contribution.
-pub fn write_listing(to: To, kind: Kind, state: &[u64]) -> u64 {
-    let mut out = [0u8; LISTING];
-    let written = entity_manifest::write_listing(kind, state, &mut out);
-    let Ok(n) = written else {
-        return REFUSED;
-    };
-    if LISTING < n {
-        return REFUSED;
-    }
-    files::write(to.out, to.err, &out[..n])
+pub fn write_listing(to: To, kind: Kind, state: &[u64]) -> Result<(), Failure> {
+    let mut room = [0u8; LISTING];
+    files::write(to, listing_of(kind, state, &mut room)?)
 }
 
 // Says that a node of a manifest cannot be typed, with its line in the manifest's listing.
-fn refuse_node(to: To, name: &[u8], manifest: &[u64], number: u64, place: u64) -> u64 {
-    let mut listing = [0u8; LISTING];
-    let written = entity_manifest::write_listing(Kind::Manifest, manifest, &mut listing);
-    let Ok(n) = written else {
-        return REFUSED;
-    };
-    if LISTING < n {
-        return REFUSED;
+fn refuse_node(to: To, name: &[u8], manifest: &[u64], refusal: Refusal) -> Failure {
+    let Refusal { number, place } = refusal;
+    let mut room = [0u8; LISTING];
+    if let Ok(listing) = listing_of(Kind::Manifest, manifest, &mut room) {
+        messages::say_untyped(to.err, name, number, place, listing);
     }
-    messages::say_untyped(to.err, name, number, place, &listing[..n]);
-    REFUSED
+    Failure::Refused
 }
 
 // Types a manifest and writes the listing of what stays; `name` is what a message calls the manifest.
-pub fn write_typed(to: To, name: &[u8], schema: &[u64], manifest: &[u64]) -> u64 {
+pub fn write_typed(to: To, name: &[u8], schema: &[u64], manifest: &[u64]) -> Result<(), Failure> {
     let mut typed = [0u64; WORDS];
-    let reply = entity_manifest::to_typed(schema, manifest, &mut typed);
-    if let Err(Refusal { number, place }) = reply {
-        return refuse_node(to, name, manifest, number, place);
-    }
+    entity_manifest::to_typed(schema, manifest, &mut typed).map_err(|refusal| refuse_node(
+        to, name, manifest, refusal,
+    ))?;
     write_listing(to, Kind::Manifest, &typed)
 }

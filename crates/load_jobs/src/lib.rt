@@ -8,31 +8,22 @@ mod texts;
 ghost use Rattle.std.specs.Prelude.{◌≤◌};
 
 use crate::running::run;
-use crate::telling::{Ran, tell};
+use crate::telling::tell;
 use crate::texts::{CONTEXT, read_request, read_stores};
-use files::{DONE, To};
+use files::{CommandLine, Failure};
 use jobs::{WORDS, load_listing};
 pub use load_answers::STORES;
 
 // `load MANIFEST REQUEST STORE...`: runs a load against the stores, and writes its log.
-pub fn load(to: To, line: &[u8], count: usize) -> u64
-    requires { (5 ≤ count) × (count ≤ 12) }
+pub fn load(line: CommandLine) -> Result<(), Failure>
+    requires { (5 ≤ line.count) × (line.count ≤ 12) }
 {
     let mut manifest = [0u64; WORDS];
-    let listed = load_listing(to, line, 2, count, &mut manifest);
-    if listed != DONE {
-        return listed;
-    }
+    load_listing(line, 2, &mut manifest)?;
     let mut context = [0u64; CONTEXT];
-    let asked = read_request(to, line, count, &mut context);
-    if asked.status != DONE {
-        return asked.status;
-    }
+    let asked = read_request(line, &mut context)?;
     let mut stores = [0u64; load_answers::WORDS];
-    stores[0] = (count - 4) as u64;
-    let stored = read_stores(to, line, count, &mut stores);
-    if stored != DONE {
-        return stored;
-    }
-    tell(to, line, run(to, asked, &manifest, &context, &stores))
+    stores[0] = (line.count - 4) as u64;
+    read_stores(line, &mut stores)?;
+    tell(line, run(line.to, asked, &manifest, &context, &stores))
 }

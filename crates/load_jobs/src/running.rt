@@ -2,12 +2,12 @@
 ghost use Rattle.std.specs.Prelude.{◌≡◌, ◌≤◌, length};
 
 use crate::telling::{Ran, called, wrote};
-use crate::texts::Asked;
 use batch_rows::ask_rows;
 use entity_manifest::{EntityRequest, LoadReply};
-use files::{REFUSED, To};
+use files::{Failure, To};
 use load_answers::{answer_requests, answer_rows, turn_of};
 use load_log::{BATCH, write_batch, write_line, write_requests, write_slice};
+use value_text::Request;
 
 // The words of a load's state, of answers, of ancestors requests and of a slice.
 const STATE: usize = 36_874;
@@ -65,7 +65,7 @@ fn run_batch(to: To, number: u64, stores: &[u64], state: &mut [u64]) -> Ran
         return Ran::Refused(FIRST_STORE, false, reply);
     };
     if 4_096 < count {
-        return Ran::Ended(REFUSED);
+        return Ran::Ended(Failure::Refused);
     }
     let end = count as usize;
     let ran = wrote(write_batch(to, number, rows, end));
@@ -161,13 +161,13 @@ fn run_begun(to: To, stores: &[u64], state: &mut [u64]) -> Ran
 }
 
 // Runs a load against stores, and writes its log but for a refusal.
-pub fn run(to: To, asked: Asked, manifest: &[u64], context: &[u64], stores: &[u64]) -> Ran
+pub fn run(to: To, asked: Request, manifest: &[u64], context: &[u64], stores: &[u64]) -> Ran
     requires { length stores.now ≡ 131081 }
 {
     let mut state = [0u64; STATE];
     let reply = entity_manifest::load_begin(
         manifest,
-        asked.request,
+        asked.request_type,
         asked.principal,
         asked.resource,
         context,

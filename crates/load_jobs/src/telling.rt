@@ -1,23 +1,23 @@
 // What comes of a load, and its refusal told.
 use entity_manifest::LoadReply;
-use files::{DONE, REFUSED, To};
+use files::{CommandLine, Failure, To};
 use load_log::write_line;
 
-// What came of a part of a load: it is done, or it ended with a status that was told, or a call refused what a word of the command line names, as
-// it asked for ancestors or not.
+// What came of a part of a load: it is done, or it ended with a failure that was told, or a call refused what a word of the command line names,
+// as it asked for ancestors or not.
 #[derive(Drop)]
 pub enum Ran {
     Done,
-    Ended(u64),
+    Ended(Failure),
     Refused(usize, bool, LoadReply),
 }
 
 // What came of writing to the log.
-pub fn wrote(status: u64) -> Ran {
-    if status == DONE {
-        return Ran::Done;
+pub fn wrote(written: Result<(), Failure>) -> Ran {
+    match written {
+        Ok(()) => Ran::Done,
+        Err(failure) => Ran::Ended(failure),
     }
-    Ran::Ended(status)
 }
 
 // What came of a call that hands nothing out.
@@ -29,37 +29,34 @@ pub fn called(word: usize, reply: LoadReply) -> Ran {
 }
 
 // Ends the log with the numbers of a refusal.
-fn end_log(to: To, reply: LoadReply) -> u64 {
+fn end_log(to: To, reply: LoadReply) -> Result<(), Failure> {
     match reply {
-        LoadReply::Done(_, _, _) => DONE,
+        LoadReply::Done(_, _, _) => Ok(()),
         LoadReply::Refused(number, place) => write_line(to, b'R', &[number, place]),
         LoadReply::Counted(expected, got) => write_line(to, b'R', &[12, 0, expected, got]),
     }
 }
 
 // Says a refusal of what a word names.
-fn say(to: To, line: &[u8], word: usize, is_asking: bool, reply: LoadReply) {
-    let mut name = io::buffer();
-    let n = files::word(to.rt, line, word, &mut name);
+fn say(line: CommandLine, word: usize, is_asking: bool, reply: LoadReply) {
+    let err = line.to.err;
+    let name = line.word(word);
     let LoadReply::Refused(number, place) = reply else {
-        messages::say_unloaded(to.err, &name[..n], 12, 0, is_asking);
+        messages::say_unloaded(err, name.bytes(), 12, 0, is_asking);
         return;
     };
-    messages::say_unloaded(to.err, &name[..n], number, place, is_asking);
+    messages::say_unloaded(err, name.bytes(), number, place, is_asking);
 }
 
-// The status of what came of a load; a refusal ends its log, and is said.
-pub fn tell(to: To, line: &[u8], ran: Ran) -> u64 {
+// What a load comes to; a refusal ends its log, and is said.
+pub fn tell(line: CommandLine, ran: Ran) -> Result<(), Failure> {
     match ran {
-        Ran::Done => DONE,
-        Ran::Ended(status) => status,
+        Ran::Done => Ok(()),
+        Ran::Ended(failure) => Err(failure),
         Ran::Refused(word, is_asking, reply) => {
-            let status = end_log(to, reply);
-            if status != DONE {
-                return status;
-            }
-            say(to, line, word, is_asking, reply);
-            REFUSED
+            end_log(line.to, reply)?;
+            say(line, word, is_asking, reply);
+            Err(Failure::Refused)
         }
     }
 }

@@ -1,7 +1,7 @@
 // A line, put together in bytes and then written.
 ghost use Rattle.std.specs.Prelude.{◌≤◌, length};
 
-use files::To;
+use files::{Failure, To};
 use values::ValueRow;
 
 // More bytes than the longest line has: a letter, an entity and 256 ids.
@@ -51,15 +51,15 @@ fn put_numbers(bytes: &mut [u8], n: usize, numbers: &[u64]) -> usize
 }
 
 // Ends a line and writes it.
-fn write_bytes(to: To, bytes: &mut [u8], n: usize) -> u64
+fn write_bytes(to: To, bytes: &mut [u8], n: usize) -> Result<(), Failure>
     requires { n ≤ length bytes.old }
 {
     let end = put_bytes(bytes, n, b"\n");
-    files::write(to.out, to.err, &bytes[..end])
+    files::write(to, &bytes[..end])
 }
 
 // Writes a line of a letter and numbers.
-pub fn write_line(to: To, letter: u8, numbers: &[u64]) -> u64 {
+pub fn write_line(to: To, letter: u8, numbers: &[u64]) -> Result<(), Failure> {
     let mut bytes = [0u8; LINE];
     let start = put_bytes(&mut bytes, 0, &[letter]);
     let end = put_numbers(&mut bytes, start, numbers);
@@ -67,7 +67,7 @@ pub fn write_line(to: To, letter: u8, numbers: &[u64]) -> u64 {
 }
 
 // The same where the first number does not stand with the others.
-pub fn write_headed(to: To, letter: u8, first: u64, numbers: &[u64]) -> u64 {
+pub fn write_headed(to: To, letter: u8, first: u64, numbers: &[u64]) -> Result<(), Failure> {
     let mut bytes = [0u8; LINE];
     let start = put_bytes(&mut bytes, 0, &[letter]);
     let next = put_number(&mut bytes, start, first);
@@ -76,7 +76,7 @@ pub fn write_headed(to: To, letter: u8, first: u64, numbers: &[u64]) -> u64 {
 }
 
 // Writes a row of a value.
-pub fn write_value_row(to: To, row: ValueRow) -> u64 {
+pub fn write_value_row(to: To, row: ValueRow) -> Result<(), Failure> {
     let mut bytes = [0u8; LINE];
     let start = put_bytes(&mut bytes, 0, b"V");
     let key_end = put_numbers(&mut bytes, start, &[row.depth(), row.key()]);

@@ -2,7 +2,7 @@
 ghost use Rattle.std.specs.Prelude.{◌≤◌, ◌<◌, length};
 
 use crate::line::write_headed;
-use files::{DONE, To};
+use files::{Failure, To};
 
 // Where an ancestors request stands: its entity, and where the ids that it asks for end.
 #[derive(Drop)]
@@ -46,7 +46,7 @@ pub fn count_of(requests: &[u64]) -> usize
 }
 
 // Writes all ancestors requests: each its entity, and the ids that it asks for.
-pub fn write_requests(to: To, requests: &[u64]) -> u64
+pub fn write_requests(to: To, requests: &[u64]) -> Result<(), Failure>
     requires { 4097 ≤ length requests.now }
 {
     let count = count_of(requests);
@@ -55,12 +55,9 @@ pub fn write_requests(to: To, requests: &[u64]) -> u64
     while i < count {
         let request = RequestPlace::at(requests, i, from);
         let end = request.end;
-        let status = write_headed(to, b'K', request.id, &requests[from..end]);
-        if status != DONE {
-            return status;
-        }
+        write_headed(to, b'K', request.id, &requests[from..end])?;
         from = end;
         i += 1;
     }
-    DONE
+    Ok(())
 }

@@ -2,7 +2,7 @@
 ghost use Rattle.std.specs.Prelude.{◌≤◌};
 
 use crate::line::{write_line, write_value_row};
-use files::{DONE, To};
+use files::{Failure, To};
 use values::{EntityRequest, ValueRow};
 
 // How many rows a batch may have.
@@ -16,7 +16,7 @@ pub enum Each {
 }
 
 // Writes a word.
-fn write_word(to: To, each: Each, word: u64) -> u64 {
+fn write_word(to: To, each: Each, word: u64) -> Result<(), Failure> {
     match each {
         Each::Parent => write_line(to, b'P', &[word]),
         Each::Value => write_value_row(to, ValueRow { word }),
@@ -24,41 +24,37 @@ fn write_word(to: To, each: Each, word: u64) -> u64 {
 }
 
 // Writes all words.
-pub fn write_words(to: To, each: Each, words: &[u64]) -> u64 {
+pub fn write_words(to: To, each: Each, words: &[u64]) -> Result<(), Failure> {
     let mut i = 0;
     while i < words.len() {
-        let status = write_word(to, each, words[i]);
-        if status != DONE {
-            return status;
-        }
+        write_word(to, each, words[i])?;
         i += 1;
     }
-    DONE
+    Ok(())
 }
 
 // Writes the first rows of an array, each row's entity and node.
-fn write_rows(to: To, rows: [EntityRequest; BATCH], count: usize) -> u64
+fn write_rows(to: To, rows: [EntityRequest; BATCH], count: usize) -> Result<(), Failure>
     requires { count ≤ 4096 }
 {
     let mut i = 0;
     while i < count {
         let row = rows[i];
-        let status = write_line(to, b'Q', &[row.id, row.node]);
-        if status != DONE {
-            return status;
-        }
+        write_line(to, b'Q', &[row.id, row.node])?;
         i += 1;
     }
-    DONE
+    Ok(())
 }
 
 // Writes a batch: its number, how many rows it has, and the rows.
-pub fn write_batch(to: To, number: u64, rows: [EntityRequest; BATCH], count: usize) -> u64
+pub fn write_batch(
+    to: To,
+    number: u64,
+    rows: [EntityRequest; BATCH],
+    count: usize,
+) -> Result<(), Failure>
     requires { count ≤ 4096 }
 {
-    let begun = write_line(to, b'B', &[number, count as u64]);
-    if begun != DONE {
-        return begun;
-    }
+    write_line(to, b'B', &[number, count as u64])?;
     write_rows(to, rows, count)
 }

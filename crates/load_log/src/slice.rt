@@ -4,27 +4,21 @@ ghost use Rattle.std.specs.Prelude.{◌≤◌, length};
 use crate::line::write_line;
 use crate::rows::{Each, write_words};
 use answers::{Head, Lending};
-use files::{DONE, To};
+use files::{Failure, To};
 
 // Writes an entity of a slice: its head's id, its parents and its attributes.
-fn write_entity(to: To, entity: &[u64]) -> u64 {
+fn write_entity(to: To, entity: &[u64]) -> Result<(), Failure> {
     if entity.len() == 0 {
-        return DONE;
+        return Ok(());
     }
     let head = Head::of(entity[0]);
-    let begun = write_line(to, b'E', &[head.flag]);
-    if begun != DONE {
-        return begun;
-    }
+    write_line(to, b'E', &[head.flag])?;
     let parents = head.parents;
     if entity.len() - 1 < parents {
-        return DONE;
+        return Ok(());
     }
     let from = parents + 1;
-    let written = write_words(to, Each::Parent, &entity[1..from]);
-    if written != DONE {
-        return written;
-    }
+    write_words(to, Each::Parent, &entity[1..from])?;
     write_words(to, Each::Value, &entity[from..])
 }
 
@@ -44,19 +38,16 @@ fn entity_end(slice: &[u64], at: usize) -> usize
 }
 
 // Writes the entities of a slice.
-pub fn write_slice(to: To, slice: &[u64]) -> u64
+pub fn write_slice(to: To, slice: &[u64]) -> Result<(), Failure>
     requires { 1 ≤ length slice.now }
 {
     let mut left = slice[0];
     let mut at = 1;
     while 0 < left {
         let end = entity_end(slice, at);
-        let status = write_entity(to, &slice[at..end]);
-        if status != DONE {
-            return status;
-        }
+        write_entity(to, &slice[at..end])?;
         at = end;
         left -= 1;
     }
-    DONE
+    Ok(())
 }

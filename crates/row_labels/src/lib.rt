@@ -5,6 +5,6 @@ mod labels;
 mod sink;
 mod walking;
 
-pub use labels::{is_ancestors, put_entry, put_node, put_number};
-pub use sink::{ROOM, Sink, flush, put};
-pub use walking::{depth_at, request_at, rows_end};
+pub use labels::{Names, is_ancestors, put_entry, put_node};
+pub use sink::Sink;
+pub use walking::{rows_of, visit_rows};

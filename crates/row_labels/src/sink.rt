@@ -1,120 +1,85 @@
 // Bytes on their way to standard output: they wait in a buffer, and are written whenever it is full.
-ghost use Rattle.std.specs.Prelude.{◌≡◌, ◌≤◌, ◌<◌, length};
+ghost use Rattle.std.specs.Prelude.{◌≡◌, ◌≤◌, OnOk};
 
-use files::{DONE, Stream, To};
+use files::{Failure, To};
 
-// The buffer's length; fewer bytes wait.
-pub const ROOM: usize = 8_192;
+// The buffer's length.
+const ROOM: usize = 8_192;
 
-// Where bytes go, how many wait in the buffer, the status of what was written, and whether names are escaped for HTML.
-#[derive(Clone, Copy)]
+// Where bytes go, those that wait, and whether names are escaped for HTML.
+#[derive(Drop)]
 pub struct Sink {
-    pub out: Stream,
-    pub err: Stream,
-    pub waiting: usize,
-    pub status: u64,
+    to: To,
+    buffer: [u8; ROOM],
+    waiting: usize,
     pub escapes: bool,
+    ghost fits: { waiting ≤ 8192 },
 }
 
 impl Sink {
-    pub fn new(to: To, escapes: bool) -> Sink
-        ensures { result.waiting ≡ 0 }
-    {
+    pub fn new(to: To, escapes: bool) -> Sink {
         Sink {
-            out: to.out,
-            err: to.err,
+            to,
+            buffer: [0; ROOM],
             waiting: 0,
-            status: DONE,
             escapes,
         }
     }
-}
 
-// Writes bytes, unless writing failed before; answers the status.
-fn write_more(sink: Sink, bytes: &[u8]) -> u64 {
-    if sink.status != DONE {
-        return sink.status;
+    // Writes what waits.
+    pub fn flush(&mut self) -> Result<(), Failure>
+        ensures { OnOk result (self.new.waiting ≡ 0) }
+    {
+        files::write(self.to, &self.buffer[..self.waiting])?;
+        self.waiting = 0;
+        Ok(())
     }
-    files::write(sink.out, sink.err, bytes)
-}
 
-// Writes what waits.
-pub fn flush(sink: Sink, buffer: &[u8]) -> Sink
-    requires { sink.waiting ≤ length buffer.now }
-    ensures { result.waiting ≡ 0 }
-{
-    let n = sink.waiting;
-    Sink {
-        out: sink.out,
-        err: sink.err,
-        waiting: 0,
-        status: write_more(sink, &buffer[..n]),
-        escapes: sink.escapes,
+    // Puts a byte behind those that wait, which are written first where the buffer is full.
+    fn put_byte(&mut self, byte: u8) -> Result<(), Failure> {
+        if self.waiting == ROOM {
+            self.flush()?;
+        }
+        self.buffer[self.waiting] = byte;
+        self.waiting += 1;
+        Ok(())
     }
-}
 
-// Puts a byte behind those that wait, and writes them where the buffer is full.
-fn put_byte(sink: Sink, buffer: &mut [u8], byte: u8) -> Sink
-    requires { sink.waiting < length buffer.old }
-    ensures { result.waiting < length buffer.new }
-{
-    let at = sink.waiting;
-    buffer[at] = byte;
-    let next = Sink {
-        out: sink.out,
-        err: sink.err,
-        waiting: at + 1,
-        status: sink.status,
-        escapes: sink.escapes,
-    };
-    if at + 1 < buffer.len() {
-        return next;
+    // Puts bytes behind those that wait.
+    pub fn put(&mut self, bytes: &[u8]) -> Result<(), Failure> {
+        for byte in bytes {
+            self.put_byte(*byte)?;
+        }
+        Ok(())
     }
-    flush(next, buffer)
-}
 
-// Puts bytes behind those that wait.
-pub fn put(sink: Sink, buffer: &mut [u8], bytes: &[u8]) -> Sink
-    requires { sink.waiting < length buffer.old }
-    ensures { result.waiting < length buffer.new }
-{
-    let mut next = sink;
-    let mut i = 0;
-    while i < bytes.len() {
-        next = put_byte(next, buffer, bytes[i]);
-        i += 1;
+    // Puts a number in digits.
+    pub fn put_number(&mut self, number: u64) -> Result<(), Failure> {
+        let mut digits = [0u8; 20];
+        let count = io::decimal(number, &mut digits);
+        self.put(&digits[..count])
     }
-    next
-}
 
-// Puts a byte of a name, escaped where HTML means something else by it.
-fn put_escaped_byte(sink: Sink, buffer: &mut [u8], byte: u8) -> Sink
-    requires { sink.waiting < length buffer.old }
-    ensures { result.waiting < length buffer.new }
-{
-    match byte {
-        b'<' => put(sink, buffer, b"&lt;"),
-        b'>' => put(sink, buffer, b"&gt;"),
-        b'&' => put(sink, buffer, b"&amp;"),
-        b'"' => put(sink, buffer, b"&quot;"),
-        b'\'' => put(sink, buffer, b"&#39;"),
-        _ => put_byte(sink, buffer, byte),
+    // Puts a byte of a name, escaped where HTML means something else by it.
+    fn put_escaped(&mut self, byte: u8) -> Result<(), Failure> {
+        match byte {
+            b'<' => self.put(b"&lt;"),
+            b'>' => self.put(b"&gt;"),
+            b'&' => self.put(b"&amp;"),
+            b'"' => self.put(b"&quot;"),
+            b'\'' => self.put(b"&#39;"),
+            _ => self.put_byte(byte),
+        }
     }
-}
 
-// Puts a name, escaped where that is asked for.
-pub fn put_text(sink: Sink, buffer: &mut [u8], name: &[u8]) -> Sink
-    requires { sink.waiting < length buffer.old }
-    ensures { result.waiting < length buffer.new }
-{
-    if !sink.escapes {
-        return put(sink, buffer, name);
+    // Puts a name, escaped where that is asked for.
+    pub fn put_name(&mut self, name: &[u8]) -> Result<(), Failure> {
+        if !self.escapes {
+            return self.put(name);
+        }
+        for byte in name {
+            self.put_escaped(*byte)?;
+        }
+        Ok(())
     }
-    let mut next = sink;
-    let mut i = 0;
-    while i < name.len() {
-        next = put_escaped_byte(next, buffer, name[i]);
-        i += 1;
-    }
-    next
 }

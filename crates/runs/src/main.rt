@@ -1,7 +1,7 @@
 // Replays command lines of the program: each line of `runs`, what it writes and says, and its status.
 #![tactic(auto)]
 
-use files::{Stream, To};
+use files::{Stream, To, Words, status_of};
 use text::Line;
 
 // One line of the data file: a comment, or a command line and what comes of it.
@@ -12,7 +12,7 @@ fn replay(to: To, line: &[u8]) {
     files::say(to.out, b"$ terbagyl ");
     files::say(to.out, line);
     files::say(to.out, b"\n");
-    let status = commands::run(to, line);
+    let status = status_of(commands::run(to, Words::Line(line)));
     files::say(to.out, b"status ");
     files::say_number(to.out, status);
     files::say(to.out, b"\n");

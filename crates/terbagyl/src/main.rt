@@ -1,14 +1,11 @@
 // The program: runs its arguments as a command line, and ends with a line on standard error that has the status, for the script alone.
 #![tactic(auto)]
 
-use files::{Stream, To};
+use files::{Failure, Stream, To, Words};
 
 // Runs the arguments, and sees that what was written is kept.
-fn run(to: To) -> u64 {
-    let status = commands::run(to, b"");
-    if status != files::DONE {
-        return status;
-    }
+fn run(to: To) -> Result<(), Failure> {
+    commands::run(to, Words::Arguments)?;
     files::finish(to)
 }
 
@@ -18,8 +15,6 @@ fn main(rt: HostRuntime) {
         out: Stream::Out(rt.stdout()),
         err: Stream::Err(rt.stderr()),
     };
-    let status = run(to);
-    files::say(to.err, b"terbagyl: status ");
-    files::say_number(to.err, status);
-    files::say(to.err, b"\n");
+    let status = files::status_of(run(to));
+    let _ = println!(to.err; "terbagyl: status {status}");
 }
