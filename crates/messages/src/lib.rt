@@ -1,26 +1,21 @@
 // Refusals in words: the number and its place, the line as editors count it, what was expected, and what was met.
 #![tactic(auto)]
 
-ghost use Rattle.std.specs.Prelude.{◌≤◌, length};
-
 use files::{Stream, say, say_line, say_name, say_number};
 use forms::Form;
-use pieces::{depth_of, entry_of, is_word, line_number, line_of, node_of};
+use pieces::{Piece, depth_of, field_of, line_of, node_of};
 
 // As much of a line as a message shows.
 const SHOWN: usize = 80;
 
 // Whether a line ends the steps of a contribution: it is the end of the text, or an `A` line.
-fn is_end(text: &[u8], line: &[u8], from: usize) -> bool {
-    if text.len() <= from {
-        return true;
-    }
-    is_word(line, 0, b"A")
+fn is_end(piece: Piece) -> bool {
+    piece.is_behind() || matches!(field_of(piece.bytes(), 0), b"A")
 }
 
 // 2: the listing's order.
 fn say_order(err: Stream, line: &[u8], before: &[u8], place: u64) {
-    if is_word(line, 0, b"A") {
+    if let b"A" = field_of(line, 0) {
         say(err, b"request types ascend strictly");
         return;
     }
@@ -78,15 +73,13 @@ fn say_results(err: Stream, line: &[u8], is_end: bool) {
         say(err, b"not one result at the end");
         return;
     }
-    let is_pushed = is_word(line, 0, b"var")
-        || is_word(line, 0, b"lit")
-        || is_word(line, 0, b"none")
-        || check::same(line, b"rec");
+    let is_pushed = line == b"rec".as_slice()
+        || matches!(field_of(line, 0), b"var" | b"lit" | b"none");
     if is_pushed {
         say(err, b"over 32 results");
-        return;
+    } else {
+        say(err, b"too few results");
     }
-    say(err, b"too few results");
 }
 
 // A number's reason, at a line and with the line before it.
@@ -102,52 +95,41 @@ fn say_reason(err: Stream, number: u64, line: &[u8], before: &[u8], place: u64) 
     }
 }
 
-// The line before a place, or nothing.
-fn before_of(text: &[u8], place: u64) -> pieces::Piece
-    ensures { (result.from ≤ result.to) × (result.to ≤ length text.now) }
-{
+// The line before a place; nothing before the first.
+fn before_of(text: &[u8], place: u64) -> &[u8] {
     if place == 0 {
-        return pieces::Piece { from: 0, to: 0 };
+        return b"";
     }
-    line_of(text, place - 1)
+    line_of(text, place - 1).bytes()
 }
 
 // What was expected at a place of a text.
 fn say_expected(err: Stream, form: Form, number: u64, place: u64, text: &[u8]) {
-    let at = line_of(text, place);
-    let from = at.from;
-    let to = at.to;
-    let line = &text[from..to];
+    let piece = line_of(text, place);
+    let line = piece.bytes();
     match number {
-        1 => forms::say_form(err, form, place, text, from, to),
-        4 => say_nodes(err, form, is_end(text, line, from)),
+        1 => forms::say_form(err, form, place, piece),
+        4 => say_nodes(err, form, is_end(piece)),
         5 => say_types(err, form),
-        6 => say_results(err, line, is_end(text, line, from)),
-        _ => {
-            let last = before_of(text, place);
-            let start = last.from;
-            let end = last.to;
-            say_reason(err, number, line, &text[start..end], place);
-        }
+        6 => say_results(err, line, is_end(piece)),
+        _ => say_reason(err, number, line, before_of(text, place), place),
     }
 }
 
 // What was met at a place of a text.
 fn say_met(err: Stream, place: u64, text: &[u8]) {
-    let at = line_of(text, place);
-    let from = at.from;
-    let to = at.to;
-    if text.len() <= from {
+    let piece = line_of(text, place);
+    if piece.is_behind() {
         say(err, b"; met the end of the text");
         return;
     }
     say(err, b"; met ");
-    if SHOWN < to - from {
-        say_line(err, &text[from..from + SHOWN]);
+    let line = piece.bytes();
+    let shown = &line[..SHOWN.min(line.len())];
+    say_line(err, shown);
+    if shown.len() < line.len() {
         say(err, b"..");
-        return;
     }
-    say_line(err, &text[from..to]);
 }
 
 // `terbagyl: FILE: refused N`
@@ -192,15 +174,11 @@ pub fn say_unadded(err: Stream, name: &[u8], number: u64) {
 
 // 9: what the schema does not say of a node's root.
 fn say_unknown(err: Stream, node: &[u8]) {
-    if is_word(node, 2, b"a") {
-        say(err, b"the schema has no L line for the action");
-        return;
+    match field_of(node, 2) {
+        b"a" => say(err, b"the schema has no L line for the action"),
+        b"c" => say(err, b"the schema has no C line for the action"),
+        _ => say(err, b"the schema has no L line for this literal"),
     }
-    if is_word(node, 2, b"c") {
-        say(err, b"the schema has no C line for the action");
-        return;
-    }
-    say(err, b"the schema has no L line for this literal");
 }
 
 // Why a node cannot be typed.
@@ -218,23 +196,18 @@ fn say_untypable(err: Stream, number: u64, node: &[u8]) {
 
 // `terbagyl: NAME: refused N at P (line L): reason; met LINE under A LINE`: node P of a listing cannot be typed.
 pub fn say_untyped(err: Stream, name: &[u8], number: u64, place: u64, listing: &[u8]) {
-    let at = node_of(listing, place);
-    let from = at.from;
-    let to = at.to;
-    let entry = entry_of(listing, from);
-    let start = entry.from;
-    let end = entry.to;
+    let node = node_of(listing, place);
     say_number_of(err, name, number);
     say(err, b" at ");
     say_number(err, place);
     say(err, b" (line ");
-    say_number(err, line_number(listing, from));
+    say_number(err, node.line_number() as u64);
     say(err, b"): ");
-    say_untypable(err, number, &listing[from..to]);
+    say_untypable(err, number, node.bytes());
     say(err, b"; met ");
-    say_line(err, &listing[from..to]);
+    say_line(err, node.bytes());
     say(err, b" under ");
-    say_line(err, &listing[start..end]);
+    say_line(err, node.entry().bytes());
     say(err, b"\n");
 }
 

@@ -3,195 +3,114 @@
 
 ghost use Rattle.std.specs.Prelude.{◌≤◌, length};
 
-use text::{Decimal, LF, TAB};
+pub use text::scan;
+use text::{LF, TAB, read_decimal};
 
-// Where a piece of a text begins, and where it ends.
-#[derive(Drop)]
-pub struct Piece {
-    pub from: usize,
-    pub to: usize,
+// A piece of a text: the text, and where in it the piece begins and ends.
+#[derive(Clone, Copy)]
+pub struct Piece<'a> {
+    text: &'a [u8],
+    from: usize,
+    to: usize,
+    ghost inside: { (from ≤ to) × (to ≤ length text.now) },
 }
 
-// The place of the first byte `b` from `at` on, or the end.
-pub fn scan(s: &[u8], at: usize, b: u8) -> usize
-    requires { at ≤ length s.now }
-    ensures { (at ≤ result) × (result ≤ length s.now) }
+impl<'a> Piece<'a> {
+    pub fn bytes(self) -> &'a [u8] {
+        &self.text[self.from..self.to]
+    }
+
+    // Whether it begins where the text has ended.
+    pub fn is_behind(self) -> bool {
+        self.from == self.text.len()
+    }
+
+    // Whether it goes on to the end of the text, so that no byte ends it.
+    pub fn is_cut(self) -> bool {
+        self.to == self.text.len()
+    }
+
+    // The number, from 1, of the line that begins with it.
+    pub fn line_number(self) -> usize {
+        self.text[..self.from]
+            .iter()
+            .filter(|byte| **byte == LF)
+            .count()
+            + 1
+    }
+
+    // The `A` line of a listing that it stands under, or the first line. Only `A` lines have the letter.
+    pub fn entry(self) -> Piece<'a> {
+        let from = self.text[..self.from]
+            .iter()
+            .rposition(|byte| *byte == b'A')
+            .unwrap_or(0);
+        piece_at(self.text, from, LF)
+    }
+}
+
+// The piece from a place to the next byte `b`, or to the end.
+fn piece_at(text: &[u8], from: usize, b: u8) -> Piece<'_>
+    requires { from ≤ length text.now }
 {
-    let mut i = at;
-    while i < s.len() {
-        if s[i] == b {
-            return i;
+    let to = scan(text, from, b);
+    Piece { text, from, to }
+}
+
+// Piece k of a text that the byte `b` parts, from 0; nothing at the end, where there are fewer.
+fn piece_of(text: &[u8], k: u64, b: u8) -> Piece<'_> {
+    let mut from = 0;
+    for _ in 0..k {
+        let end = scan(text, from, b);
+        if text.len() <= end {
+            return piece_at(text, end, b);
         }
-        i += 1;
+        from = end + 1;
     }
-    i
-}
-
-// Where piece k of a text that the byte `b` parts begins; at the end, where there are fewer.
-fn start_of(s: &[u8], k: u64, b: u8) -> usize
-    ensures { result ≤ length s.now }
-{
-    let mut at = 0;
-    let mut left = k;
-    while 0 < left {
-        let end = scan(s, at, b);
-        if s.len() <= end {
-            return s.len();
-        }
-        at = end + 1;
-        left -= 1;
-    }
-    at
-}
-
-fn piece_of(s: &[u8], k: u64, b: u8) -> Piece
-    ensures { (result.from ≤ result.to) × (result.to ≤ length s.now) }
-{
-    let from = start_of(s, k, b);
-    Piece {
-        from,
-        to: scan(s, from, b),
-    }
+    piece_at(text, from, b)
 }
 
 // Line k of a text, from 0, without its LF; nothing at the end, where there are fewer.
-pub fn line_of(text: &[u8], k: u64) -> Piece
-    ensures { (result.from ≤ result.to) × (result.to ≤ length text.now) }
-{
+pub fn line_of(text: &[u8], k: u64) -> Piece<'_> {
     piece_of(text, k, LF)
 }
 
 // The line of node k of a listing, from 0; nothing at the end, where there are fewer. Only `N` lines have the letter.
-pub fn node_of(listing: &[u8], k: u64) -> Piece
-    ensures { (result.from ≤ result.to) × (result.to ≤ length listing.now) }
-{
+pub fn node_of(listing: &[u8], k: u64) -> Piece<'_> {
     let before = piece_of(listing, k, b'N');
-    let from = before.to;
-    Piece {
-        from,
-        to: scan(listing, from, LF),
-    }
+    piece_at(before.text, before.to, LF)
 }
 
-// The place of the last `A` in front of `at`, or 0. Only `A` lines have the letter.
-fn entry_before(listing: &[u8], at: usize) -> usize
-    requires { at ≤ length listing.now }
-    ensures { result ≤ length listing.now }
-{
-    let mut i = at;
-    while 0 < i {
-        i -= 1;
-        if listing[i] == b'A' {
-            return i;
-        }
-    }
-    0
-}
-
-// The `A` line of a listing that the line at `at` stands under.
-pub fn entry_of(listing: &[u8], at: usize) -> Piece
-    requires { at ≤ length listing.now }
-    ensures { (result.from ≤ result.to) × (result.to ≤ length listing.now) }
-{
-    let from = entry_before(listing, at);
-    Piece {
-        from,
-        to: scan(listing, from, LF),
-    }
-}
-
-// The number, from 1, of the line that begins at `at`.
-pub fn line_number(text: &[u8], at: usize) -> u64
-    requires { at ≤ length text.now }
-{
-    let mut number: u64 = 1;
-    let mut i = 0;
-    while i < at {
-        if text[i] == LF {
-            number += 1;
-        }
-        i += 1;
-    }
-    number
-}
-
-// Field k of a line, from 0; nothing at the end, where there are fewer.
-pub fn field_of(line: &[u8], k: u64) -> Piece
-    ensures { (result.from ≤ result.to) × (result.to ≤ length line.now) }
-{
-    piece_of(line, k, TAB)
+// Field k of a line, from 0; nothing, where there are fewer.
+pub fn field_of(line: &[u8], k: usize) -> &[u8] {
+    line.split(|byte| *byte == TAB).nth(k).unwrap_or(b"")
 }
 
 // Whether a line has so many fields.
-pub fn has_fields(line: &[u8], count: u64) -> bool {
-    let mut found: u64 = 1;
-    let mut i = 0;
-    while i < line.len() {
-        if line[i] == TAB {
-            found += 1;
-        }
-        i += 1;
-    }
-    found == count
+pub fn has_fields(line: &[u8], count: usize) -> bool {
+    line.split(|byte| *byte == TAB).count() == count
 }
 
 // Whether a line has a byte from `low` to `high`.
 pub fn has_byte(line: &[u8], low: u8, high: u8) -> bool {
-    let mut i = 0;
-    while i < line.len() {
-        let byte = line[i];
-        if low <= byte && byte <= high {
-            return true;
-        }
-        i += 1;
-    }
-    false
+    line.iter().any(|byte| low <= *byte && *byte <= high)
 }
 
 // Whether a tab of a line has no field in front of it, or none behind it.
 pub fn has_gap(line: &[u8]) -> bool {
-    let mut before = TAB;
-    let mut i = 0;
-    while i < line.len() {
-        let byte = line[i];
-        if byte == TAB && before == TAB {
-            return true;
-        }
-        before = byte;
-        i += 1;
-    }
-    before == TAB
-}
-
-// Whether field k of a line is this word.
-pub fn is_word(line: &[u8], k: u64, word: &[u8]) -> bool {
-    let field = field_of(line, k);
-    let from = field.from;
-    let to = field.to;
-    check::same(&line[from..to], word)
+    line.split(|byte| *byte == TAB)
+        .any(|field| field.is_empty())
 }
 
 // Whether field k of a line is a decimal.
-pub fn is_decimal(line: &[u8], k: u64) -> bool {
-    let field = field_of(line, k);
-    let from = field.from;
-    let to = field.to;
-    let Decimal::Value(_) = Decimal::read(&line[from..to]) else {
-        return false;
-    };
-    true
+pub fn is_decimal(line: &[u8], k: usize) -> bool {
+    read_decimal(field_of(line, k)).is_some()
 }
 
 // The depth that a line of a listing has: 0 for an `A` line.
 pub fn depth_of(line: &[u8]) -> u64 {
-    if is_word(line, 0, b"A") {
-        return 0;
+    match field_of(line, 0) {
+        b"A" => 0,
+        _ => read_decimal(field_of(line, 1)).unwrap_or(0),
     }
-    let field = field_of(line, 1);
-    let from = field.from;
-    let to = field.to;
-    let Decimal::Value(depth) = Decimal::read(&line[from..to]) else {
-        return 0;
-    };
-    depth
 }

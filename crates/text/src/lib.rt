@@ -25,9 +25,10 @@ pub enum Line {
 pub const MOST: u64 = 65_535;
 
 // The place of the first byte `b` of `s` from `at` on, or the length of `s`.
-fn scan(s: &[u8], at: usize, b: u8) -> usize
+pub fn scan(s: &[u8], at: usize, b: u8) -> usize
     requires { at ≤ length s.now }
-    ensures { result ≡ at + length (before b (drop at s.now)) }
+    ensures value { result ≡ at + length (before b (drop at s.now)) }
+    ensures within { (at ≤ result) × (result ≤ length s.now) }
 {
     for i in at..s.len() {
         if s[i] == b {

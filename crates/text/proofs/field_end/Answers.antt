@@ -15,7 +15,7 @@ pub returns-then-end-line : goal.returns-then-end-line
 returns-then-end-line c =
     let a = c.args in
     let (next, more, e) = parted_cut TAB a.at a.line.now (omega arith) in
-    rw e (ap Some c.scan-end.ensures)
+    rw e (ap Some c.scan-end.ensures.value)
 
 pub returns-else-end-line : goal.returns-else-end-line
 returns-else-end-line c =

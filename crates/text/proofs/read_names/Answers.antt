@@ -17,7 +17,7 @@ use Rattle.text.proofs.read_names.Goals.{After-scan-end, In_ok-name, Joined-coun
 
 -- the field that is looked at
 ends : (c : After-scan-end) → Scanned c.args.line.now c.loop-from.from c.scan-end.result
-ends c = scanned c.args.line.now c.loop-from.from c.scan-end.result c.loop-from.invariant.0 c.scan-end.ensures
+ends c = scanned c.args.line.now c.loop-from.from c.scan-end.result c.loop-from.invariant.0 c.scan-end.ensures.value
 
 -- its number
 value : (c : In_ok-name) →

@@ -15,7 +15,7 @@ pub returns-then-end-text : goal.returns-then-end-text
 returns-then-end-text c =
     let a = c.args in
     let (next, more, e) = parted_cut LF a.at a.text.now (omega arith) in
-    rw e (ap Whole c.scan-end.ensures)
+    rw e (ap Whole c.scan-end.ensures.value)
 
 pub returns-else-end-text : goal.returns-else-end-text
 returns-else-end-text c =
