@@ -5,7 +5,7 @@ use Rattle.rules.specs.Typing.{from_line, type_named}
 use Rattle.schema.specs.Items.{items_of}
 use Rattle.type_table.specs.Tables.{value_named}
 use Rattle.words.specs.Keys.{searched}
-use Rattle.std.specs.Prelude.{Result, Ok, Err}
+use Rattle.std.specs.Prelude.{Ok, Err}
 use Rattle.node_types.specs.declared.places.Places.{Places}
 
 -- the words between two places
@@ -16,17 +16,15 @@ between words first end = take (end - first) (drop first words)
 abbrev pub entity_place : ℕ → ℕ
 entity_place w = w % 2 ^ 40
 
--- what a search for a name in the table says of the schema's lines
-abbrev pub EntityFound : List ℕ → List ℕ → ℕ → Result ℕ ℕ → Type 0
-EntityFound words entities name (Ok i) =
-    (i < length entities)
-    × (entity_place (get_or entities i 0) < length words)
-    × (from_line entity_line name (items_of words) ≡ items_of (drop (entity_place (get_or entities i 0)) words))
-EntityFound words entities name (Err i) = from_line entity_line name (items_of words) ≡ []
-
--- the table of all entity types of a schema
-abbrev pub EntityTable : List ℕ → List ℕ → Type 0
-EntityTable words entities = (name : ℕ) → EntityFound words entities name (searched entities name)
+-- the table of all entity types of a schema: what a search for a name in it says of the schema's lines
+pub record EntityTable (words entities : List ℕ) : Type 0 where
+  pub found :
+      (name i : ℕ)
+      → searched entities name ≡ Ok i
+      → (i < length entities)
+      × (entity_place (get_or entities i 0) < length words)
+      × (from_line entity_line name (items_of words) ≡ items_of (drop (entity_place (get_or entities i 0)) words))
+  pub missing : (name i : ℕ) → searched entities name ≡ Err i → from_line entity_line name (items_of words) ≡ []
 
 -- the literals stand from one place to another, and from there on the actions
 pub record PlacesFound (words : List ℕ) (places : Places) : Type 0 where

@@ -1,14 +1,15 @@
 -- Laws of the pass over a schema's words that finds its entity types, literals and actions. No contract cites this file.
 use Rattle.std.specs.Prelude.{ℕ, ◌+◌, ◌-◌, ◌*◌, ◌/◌, ◌%◌, ◌^◌, ◌≤◌, ◌<◌, min, true, List, ◌≡◌, refl, length, take, drop, get_or, set}
-use Rattle.std.proofs.Common.{add-one, arith, sym, ap, ◌∙◌, length-take, length-drop, length-set, take_all, take-suc, take-suc-set, length-take-le}
+use Rattle.std.proofs.Common.{add-one, arith, sym, ap, subst, ◌∙◌, length-take, length-drop, length-set, take_all, take-suc, take-suc-set, length-take-le}
 use Rattle.rules.specs.Facts.{compared}
 use Rattle.rules.specs.Schema.{entity_line, attribute_line, literal_line, unknown, lawful_items}
 use Rattle.schema.specs.Items.{items_of, all_items, good_items}
+use Rattle.rules.specs.Typing.{from_line}
 use Rattle.words.specs.Keys.{searched}
-use Rattle.std.specs.Prelude.{Result, Ok, Err}
+use Rattle.std.specs.Prelude.{Ok}
 use Rattle.type_table.specs.TypeTableLaws.{good_all, good_lawful}
 use Rattle.node_types.specs.declared.places.Places.{Places}
-use Rattle.node_types.specs.Named.{entity_place, EntityFound, EntityTable, PlacesFound}
+use Rattle.node_types.specs.Named.{entity_place, EntityTable, PlacesFound}
 use Rattle.node_types.specs.NamedLaws.{
   Border,
   before_literals,
@@ -126,12 +127,19 @@ module _ {words entities : List ℕ} {count at : ℕ} (tabling : Tabling words e
       → length words < 142337
       → length words ≤ at
       → EntityTable words (take count entities)
-  tabling_all good short past name =
-      rw (tabling.there, take_all at words past)
-      (found (searched (entity_table 0 words) name) (entity_searched name 0 unknown words (good_lawful words good) (omega arith)))
+  tabling_all good short past =
+      let says : (name : ℕ) → EntitySays 0 words (entity_table 0 words) name (searched (entity_table 0 words) name) = λ name. entity_searched name 0 unknown words (good_lawful words good) (omega arith) in
+      rw (tabling.there, take_all at words past) record {
+        found = λ name i is. found_there name i (subst (EntitySays 0 words (entity_table 0 words) name) is (says name));
+        missing = λ name i is. subst (EntitySays 0 words (entity_table 0 words) name) is (says name);
+      }
     where
-      found : (s : Result ℕ ℕ) → EntitySays 0 words (entity_table 0 words) name s → EntityFound words (entity_table 0 words) name s
-      found (Ok i) there =
+      found_there :
+          (name i : ℕ)
+          → EntitySays 0 words (entity_table 0 words) name (Ok i)
+          → (i < length (entity_table 0 words))
+          × (entity_place (get_or (entity_table 0 words) i 0) < length words)
+          × (from_line entity_line name (items_of words) ≡ items_of (drop (entity_place (get_or (entity_table 0 words) i 0)) words))
+      found_there name i there =
           let place : entity_place (get_or (entity_table 0 words) i 0) ≡ there.place = omega (arith, there.says) in
           (there.in_table, rw place there.inside, rw place there.from)
-      found (Err i) none_there = none_there

@@ -4,6 +4,8 @@
 mod fate;
 mod places;
 mod shape;
+mod tables;
 
-pub use fate::{Fate, fate_at};
+pub use fate::Fate;
 pub use places::Places;
+pub use tables::SchemaTables;

@@ -1,18 +1,17 @@
 // What a type says of the fields of a node.
-ghost use Rattle.std.specs.Prelude.{◌≡◌, true, ◌-◌, ◌<◌};
+ghost use Rattle.std.specs.Prelude.{◌-◌, ◌<◌};
 ghost use Rattle.rules.specs.Typing.{shape_of, type_shape, entity_shape};
-ghost use Rattle.schema.specs.Items.{items_of, good_items};
-ghost use Rattle.type_table.specs.Tables.{GoodTypes};
-ghost use Rattle.node_types.specs.Named.{EntityTable};
+ghost use Rattle.schema.specs.Items.{items_of};
 ghost use Rattle.node_types.specs.Shapes.{ShapeAt};
 
+use crate::tables::SchemaTables;
 use rows::RequestType;
 use schema::Item;
 use type_table::{attributes_end, size_at};
 use words::search_key;
 
 // Which fields there are, as attributes from a place to a place; that there are none; or nothing, for the type is not strict.
-#[derive(Drop)]
+#[derive(Clone, Copy, PartialEq, Eq, Debug)]
 pub enum Shape {
     Known(usize, usize),
     Leaf,
@@ -24,55 +23,47 @@ pub const OF_PRINCIPAL: u64 = 1_025;
 
 pub const OF_RESOURCE: u64 = 1_026;
 
-// That of an entity type, by its name; a number past all ids stands for several names, which no entity type has.
-fn entity_shape(words: &[u64], entities: &[u64], name: u64) -> Shape
-    requires { (good_items words.now ≡ true) × EntityTable words.now entities.now }
-    ensures { ShapeAt words.now (entity_shape (items_of words.now) name) result }
-{
-    let Ok(i) = search_key(entities, name) else {
-        return Shape::NotStrict;
-    };
-    let first = (entities[i] % 0x100_0000_0000) as usize + 1;
-    Shape::Known(first, attributes_end(words, first))
-}
-
-// That of a type of the schema, by its number.
-fn type_shape(words: &[u64], table: &[u64], types: u64, entities: &[u64], t: u64) -> Shape
-    requires { GoodTypes words.now table.now types × EntityTable words.now entities.now }
-    ensures { ShapeAt words.now (type_shape (items_of words.now) t) result }
-{
-    if types <= t {
-        return Shape::Leaf;
-    }
-    let place = size_at(table, t).place;
-    let item = Item::of(words[place]);
-    let kind = item.tag;
-    match kind {
-        0..=6 => Shape::Leaf,
-        7 | 8 => Shape::Known(place + 1, attributes_end(words, place + 1)),
-        9 => entity_shape(words, entities, item.value),
-        _ => Shape::NotStrict,
-    }
-}
-
-impl Shape {
+impl SchemaTables<'_> {
     // That of a node's type, as a row has it.
-    pub fn of(
-        words: &[u64],
-        table: &[u64],
-        types: u64,
-        entities: &[u64],
-        request: u64,
-        number: u64,
-    ) -> Shape
-        requires good_types { GoodTypes words.now table.now types × EntityTable words.now entities.now }
-        requires number_nonzero { 0 < number }
-        ensures { ShapeAt words.now (shape_of (items_of words.now) request (number - 1)) result }
+    pub fn shape(&self, request: u64, number: u64) -> Shape
+        requires { 0 < number }
+        ensures { ShapeAt self.now.words.now (shape_of (items_of self.now.words.now) request (number - 1)) result }
     {
         match number {
-            OF_PRINCIPAL => entity_shape(words, entities, RequestType::of(request).principal),
-            OF_RESOURCE => entity_shape(words, entities, RequestType::of(request).resource),
-            _ => type_shape(words, table, types, entities, number - 1),
+            OF_PRINCIPAL => self.entity_shape(RequestType::of(request).principal),
+            OF_RESOURCE => self.entity_shape(RequestType::of(request).resource),
+            _ => self.type_shape(number - 1),
         }
+    }
+
+    // That of a type of the schema, by its number.
+    fn type_shape(&self, t: u64) -> Shape
+        ensures { ShapeAt self.now.words.now (type_shape (items_of self.now.words.now) t) result }
+    {
+        if self.types <= t {
+            return Shape::Leaf;
+        }
+        let words = self.words;
+        let place = size_at(self.table, t).place;
+        let item = Item::of(words[place]);
+        let kind = item.tag;
+        match kind {
+            0..=6 => Shape::Leaf,
+            7 | 8 => Shape::Known(place + 1, attributes_end(words, place + 1)),
+            9 => self.entity_shape(item.value),
+            _ => Shape::NotStrict,
+        }
+    }
+
+    // That of an entity type, by its name; a number past all ids stands for several names, which no entity type has.
+    fn entity_shape(&self, name: u64) -> Shape
+        ensures { ShapeAt self.now.words.now (entity_shape (items_of self.now.words.now) name) result }
+    {
+        let entities = self.entities;
+        let Ok(i) = search_key(entities, name) else {
+            return Shape::NotStrict;
+        };
+        let first = (entities[i] % 0x100_0000_0000) as usize + 1;
+        Shape::Known(first, attributes_end(self.words, first))
     }
 }

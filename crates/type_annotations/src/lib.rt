@@ -7,31 +7,20 @@ ghost use Rattle.rules.specs.Typing.{typed as typed_rows};
 ghost use Rattle.rules.specs.Tries.{ordered};
 ghost use Rattle.rows.specs.States.{all_words, rows_of, storing};
 ghost use Rattle.schema.specs.Items.{items_of, good_items};
-ghost use Rattle.type_table.specs.Tables.{GoodTypes};
-ghost use Rattle.node_types.specs.Named.{EntityTable, PlacesFound};
 ghost use Rattle.type_annotations.specs.Outcomes.{typed_in, TypedInto};
 
-use node_types::{Fate, Places, fate_at};
+use node_types::{Fate, Places, SchemaTables};
 use rows::{Kind, Row};
 use schema::Schema;
 use type_table::{TypeSize, fill_table};
 use words::Refusal;
 
-// Writes the rows that stay into `out`, from place 1 on, and answers how many they are; a refusal is at a node. For each depth `above` has the type of the last row there, as a row has it: 0
-// where it is dropped; an entry stands there with 1, since it stays.
-fn type_rows(
-    words: &[u64],
-    table: &[u64],
-    types: u64,
-    entities: &[u64],
-    places: Places,
-    rows: &[u64],
-    out: &mut [u64],
-) -> Result<u64, Refusal>
-    requires good_types { GoodTypes words.now table.now types × EntityTable words.now entities.now }
-    requires places_found { PlacesFound words.now places × (length rows.now < length out.old) }
+// Writes the rows that stay into `out`, from place 1 on, and answers how many they are; a refusal is at a node. For each depth `above` has
+// the type of the last row there, as a row has it: 0 where it is dropped; an entry stands there with 1, since it stays.
+fn type_rows(schema: &SchemaTables, rows: &[u64], out: &mut [u64]) -> Result<u64, Refusal>
+    requires in_bounds { length rows.now < length out.old }
     requires rows_value { (all_words rows.now ≡ true) × (ordered [] (rows_of rows.now) ≡ true) }
-    ensures { TypedInto (typed_rows (items_of words.now) (rows_of rows.now)) out.new result }
+    ensures { TypedInto (typed_rows (items_of schema.now.words.now) (rows_of rows.now)) out.new result }
 {
     let mut above = [0u64; 25];
     let mut request = 0;
@@ -48,9 +37,7 @@ fn type_rows(
             above[depth] = 1;
         } else {
             let up = depth - 1;
-            match fate_at(
-                words, table, types, entities, places, request, above[up], rows, i,
-            ) {
+            match schema.fate_at(request, above[up], rows, i) {
                 Fate::Stays(number) => {
                     count += 1;
                     out[count] = row.with_type(number).word;
@@ -81,17 +68,15 @@ fn type_manifest(words: &[u64], rows: &[u64], out: &mut [u64]) -> Result<(), Ref
     let types = fill_table(words, &mut table);
     let mut entities = [0u64; Places::ENTITIES];
     let places = Places::of(words, &mut entities);
-    let end = places.entities;
-    let mut kept = [0u64; 4_161];
-    let count = type_rows(
+    let tables = SchemaTables {
         words,
-        &table,
+        table: &table,
         types,
-        &entities[..end],
+        entities: &entities[..places.entities],
         places,
-        rows,
-        &mut kept,
-    )?;
+    };
+    let mut kept = [0u64; 4_161];
+    let count = type_rows(&tables, rows, &mut kept)?;
     kept[0] = count;
     words::copy_rows(&kept, out);
     Ok(())

@@ -23,15 +23,17 @@ stayed :
     TypedRows (typed (items_of a.words.now) (rows_of a.rows.now)) c.type_rows.new.out c.in_ok-count.count
 stayed c = rw c.in_ok-count.was at c.type_rows.ensures
 
-pub slice_bounds-entities-end : goal.slice_bounds-entities-end
-slice_bounds-entities-end c = omega (arith, c.of-places.ensures.entities_bound.0, c.of-places.auto.entities)
+pub slice_bounds-tables-end : goal.slice_bounds-tables-end
+slice_bounds-tables-end c = omega (arith, c.of-places.ensures.entities_bound.0, c.of-places.auto.entities)
 
-pub slice_bounds-type_rows-end-2 : goal.slice_bounds-type_rows-end-2
-slice_bounds-type_rows-end-2 c = sym (length-take-le _ _ (omega (arith, c.of-places.ensures.entities_bound.0, c.of-places.auto.entities)))
+pub slice_bounds-tables-end-2 : goal.slice_bounds-tables-end-2
+slice_bounds-tables-end-2 c = sym (length-take-le _ _ (omega (arith, c.of-places.ensures.entities_bound.0, c.of-places.auto.entities)))
 
 pub type_rows-requires : goal.type_rows-requires
-type_rows-requires c =
-    record { good_types = (record { good-items = c.requires.words_value.0; tabled = c.fill_table-types.ensures.1; all_types = c.fill_table-types.ensures.0 }, c.of-places.ensures.entities_bound.1); places_found = (c.of-places.ensures.places_found, omega (arith, c.requires.words_value.1.1)); rows_value = (c.requires.rows_value.0, c.requires.rows_value.1.0) }
+type_rows-requires c = record {
+  in_bounds = omega (arith, c.requires.words_value.1.1);
+  rows_value = (c.requires.rows_value.0, c.requires.rows_value.1.0);
+}
 
 pub copy_rows-requires : goal.copy_rows-requires
 copy_rows-requires c =

@@ -1,4 +1,4 @@
-use Prim.Native.Nat.{◌-◌, ◌≤◌}
+use Prim.Native.Nat.{◌≤◌}
 use lib.ListN.{length}
 use Rattle.rules.specs.Schema.{attribute_line, literal_line}
 use Rattle.node_types.specs.PlacesLaws.{Tabling, Reaches}

@@ -1,4 +1,4 @@
--- `node_types::shape::type_shape` meets its contract, by the kind that the line of the type says.
+-- `node_types::tables::SchemaTables::type_shape` meets its contract, by the kind that the line of the type says.
 use Prim.Native.Nat.{◌/◌, ◌%◌, ◌^◌}
 use native.Mathlib.Omega.{arith}
 use mathlib.Core.Path.{◌≡◌, sym, ap, ◌∙◌}
@@ -6,28 +6,28 @@ use lib.ListN.{get_or}
 use Rattle.rules.specs.Schema.{Item}
 use Rattle.type_table.specs.TypeTableLaws.{TypeStands, tabled_stands, tabled_inside}
 use Rattle.node_types.specs.ShapeLaws.{type_none, type_leaf, type_known, type_entity, type_any}
-use Rattle.node_types.proofs.shape.type_shape.Goals as goal
-use Rattle.node_types.proofs.shape.type_shape.Goals.{After-of-item, After-size_at-place}
+use Rattle.node_types.proofs.tables.SchemaTables.type_shape.Goals as goal
+use Rattle.node_types.proofs.tables.SchemaTables.type_shape.Goals.{After-of-item, After-size_at-place}
 
 -- the type stands there
-there : (c : After-size_at-place) → TypeStands c.args.words.now c.args.t c.size_at-place.result.place
+there : (c : After-size_at-place) → TypeStands c.args.self.now.words.now c.args.t c.size_at-place.result.place
 there c =
-    tabled_stands c.args.words.now c.args.table.now c.requires.0.good-items c.requires.0.tabled c.if-types-t.false c.size_at-place.ensures.0
+    tabled_stands c.args.self.now.words.now c.args.self.now.table.now c.args.self.now.good_types.good-items c.args.self.now.good_types.tabled c.if-self-t.false c.size_at-place.ensures.0
 
 -- what its line says
-kind : (c : After-of-item) → c.of-item.result.tag ≡ get_or c.args.words.now c.size_at-place.result.place 0 % 16
+kind : (c : After-of-item) → c.of-item.result.tag ≡ get_or c.args.self.now.words.now c.size_at-place.result.place 0 % 16
 kind c = ap (λ (it : Item). it.tag) c.of-item.ensures
 
-name : (c : After-of-item) → c.of-item.result.value ≡ get_or c.args.words.now c.size_at-place.result.place 0 / 16 % 2 ^ 36
+name : (c : After-of-item) → c.of-item.result.value ≡ get_or c.args.self.now.words.now c.size_at-place.result.place 0 / 16 % 2 ^ 36
 name c = ap (λ (it : Item). it.value) c.of-item.ensures
 
-pub returns-then-types-t : goal.returns-then-types-t
-returns-then-types-t c =
-    type_none _ _ c.requires.0.good-items (omega (arith, c.requires.0.all_types, c.if-types-t.true))
+pub returns-then-self-t : goal.returns-then-self-t
+returns-then-self-t c =
+    type_none _ _ c.args.self.now.good_types.good-items (omega (arith, c.args.self.now.good_types.all_types, c.if-self-t.true))
 
 pub size_at-place-requires : goal.size_at-place-requires
 size_at-place-requires c =
-    tabled_inside c.args.words.now c.args.table.now c.requires.0.good-items c.requires.0.tabled c.if-types-t.false
+    tabled_inside c.args.self.now.words.now c.args.self.now.table.now c.args.self.now.good_types.good-items c.args.self.now.good_types.tabled c.if-self-t.false
 
 pub offset_bounds-words-place : goal.offset_bounds-words-place
 offset_bounds-words-place c = omega (arith, (there (goal.at.offset_bounds-words-place c).After-size_at-place).inside)
