@@ -1,14 +1,11 @@
 -- `words::search_key` meets its contract: the words that are passed have lower keys.
 use native.Mathlib.Omega.{arith}
 use mathlib.Core.Path.{◌≡◌, sym, ◌∙◌}
-use Rattle.words.specs.KeyLaws.{sought_none, sought_all, sought_found, sought_missing, sought_next}
+use Rattle.words.specs.KeyLaws.{sought_all, sought_found, sought_missing, sought_next}
 use lib.ListN.{length, get_or}
 use Rattle.words.specs.Keys.{key_in}
 use Rattle.words.proofs.search_key.Goals as goal
 use Rattle.words.proofs.search_key.Goals.{After-key_of-there}
-
-pub loop-i-init : goal.loop-i-init
-loop-i-init c = sought_none c.args.words.now c.args.key
 
 -- the key of the next word
 there :

@@ -19,6 +19,3 @@ write_node-requires c = (
   node_word_kind _ c.depth-depth.ensures c.step-step.ensures c.requires.0 c.if-depth-eq0.false,
   rw (node_row (goal.at.write_node-requires c).After-is_marked) at c.requires.1,
 )
-
-pub returns : goal.returns
-returns c = rw (node_row (goal.at.returns c).After-is_marked) c.write_node.ensures
