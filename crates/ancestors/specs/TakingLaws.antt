@@ -17,13 +17,13 @@ use Rattle.rows.specs.States.{rows_of}
 use Rattle.values.specs.ValueWords.{depth_from, number_from, value_row_in, value_rows_of, row_asked}
 use Rattle.row_walk.specs.RowWalks.{ancestors_at}
 use Rattle.row_walk.specs.ScanLaws.{rows_left}
-use Rattle.row_walk.specs.Meetings.{going, met_then, Meets}
+use Rattle.row_walk.specs.Meetings.{going, met_then, MeetsAt}
 use Rattle.row_walk.specs.Batches.{yields}
 use Rattle.row_walk.specs.BatchLaws.{yields_ids, remaining_past}
 use Rattle.values.specs.ValueWordLaws.{request_again}
 use Rattle.row_walk.specs.declared.walk.Meeting.{Meeting}
-use Rattle.row_walk.specs.declared.walk.Met.{Met}
-use Rattle.row_walk.specs.declared.walk.Met.TheVariants.{Row as RowMet, Ids, Bad, End}
+use Rattle.row_walk.specs.declared.rule.Met.{Met}
+use Rattle.row_walk.specs.declared.rule.Met.TheVariants.{Row as RowMet, Ids, Bad}
 use Rattle.ancestors.specs.Sets.{ids_of, IsSet, Holds, PutAs, IsPut}
 use Rattle.slices.specs.Slices.{rows_asked}
 use Rattle.ancestors.specs.Takings.{wanted_in, put_at, Puts, Takes}
@@ -224,7 +224,7 @@ module _ {events : List Event} {set₀ : AncestorSet} {out₀ : List ℕ} {to : 
 -- The walk over the words of nodes and values goes on from a row, with what is kept for each depth.
 pub record TakingBelow
     (nodes values : List ℕ) (depth from : ℕ) (set₀ : AncestorSet) (out₀ : List ℕ) (to : ℕ)
-    (out kept : List ℕ) (len : ℕ) (set : AncestorSet) (i at : ℕ) : Type 0 where
+    (out : List ℕ) (kept : List (Maybe ℕ)) (len : ℕ) (set : AncestorSet) (i at : ℕ) : Type 0 where
   pub within : i ≤ length nodes
   pub counts : len ≤ length kept
   pub depths : length kept ≡ 32
@@ -232,17 +232,16 @@ pub record TakingBelow
       Taking (walk_rows depth (some (value_rows_of values) ∷ []) from (rows_of (drop from nodes))) set₀ out₀ to
       (going nodes values depth kept len i) set out at
 
-module _ {nodes values : List ℕ} {depth from : ℕ} {set₀ : AncestorSet} {out₀ : List ℕ} {to : ℕ} {out kept : List ℕ} {len : ℕ}
+module _ {nodes values : List ℕ} {depth from : ℕ} {set₀ : AncestorSet} {out₀ : List ℕ} {to : ℕ} {out : List ℕ} {kept : List (Maybe ℕ)} {len : ℕ}
     {more : AncestorSet} {i at : ℕ} (sofar : TakingBelow nodes values depth from set₀ out₀ to out kept len more i at) where
   abbrev whole : ℕ → LoadAnswer Wanted
   whole place = take_events place (walk_rows depth (some (value_rows_of values) ∷ []) from (rows_of (drop from nodes))) (wanted_in set₀ out₀ to)
 
-  -- no node is left
-  pub below_last : length nodes ≤ i → Takes whole out (Ok (record { set = more; end = at }))
-  unfolding walk_rows
-  below_last h = taken_all (rw (drop_of_length-le nodes h) at sofar.taking)
+  -- nothing more is met
+  pub below_end : going nodes values depth kept len i ≡ [] → Takes whole out (Ok (record { set = more; end = at }))
+  below_end e = taken_all (rw e at sofar.taking)
 
-  module _ {kept' : List ℕ} {r : Meeting} (meets : Meets nodes values depth kept len i kept' r) (same : length kept' ≡ length kept) where
+  module _ {kept' : List (Maybe ℕ)} {r : Meeting} (meets : MeetsAt nodes values depth kept len i kept' r) (same : length kept' ≡ length kept) where
     -- the next that is met, and the rest
     next : {met : Met} → r.met ≡ met →
         Taking (walk_rows depth (some (value_rows_of values) ∷ []) from (rows_of (drop from nodes))) set₀ out₀ to
@@ -252,14 +251,11 @@ module _ {nodes values : List ℕ} {depth from : ℕ} {set₀ : AncestorSet} {ou
     pub below_bad : r.met ≡ Bad → Takes whole out (Err 14)
     below_bad is = taken_bad _ (next is)
 
-    pub below_end : r.met ≡ End → Takes whole out (Ok (record { set = more; end = at }))
-    below_end is = taken_all (next is)
-
     -- a row is met at a node, its id is small, and there is room for it
     pub below_room : {e : ℕ} → r.met ≡ RowMet e → (r.node < length nodes) × (e < ids) × (at < length out)
     below_room {e} is =
-        let (inside, small) : (r.node < length nodes) × (e < ids) = rw is at meets.inside in
-        (inside, small, taking_room (record { id = e; node = r.node }) _ (next is))
+        let small : e < ids = rw is at meets.small in
+        (meets.inside, small, taking_room (record { id = e; node = r.node }) _ (next is))
 
     pub below_row : {e : ℕ} → r.met ≡ RowMet e →
         TakingBelow nodes values depth from set₀ out₀ to (set out at (e + r.node * ids)) kept' r.len more (r.node + 1) (at + 1)
@@ -278,9 +274,8 @@ module _ {nodes values : List ℕ} {depth from : ℕ} {set₀ : AncestorSet} {ou
 
       pub below_ids : {met : AncestorSet} → put ≡ Some met → TakingBelow nodes values depth from set₀ out₀ to out kept' r.len met (r.node + 1) at
       below_ids e =
-          let inside : r.node < length nodes = rw is at meets.inside in
           record {
-            within = omega arith;
+            within = omega (arith, meets.inside);
             counts = meets.counts;
             depths = same ∙ sofar.depths;
             taking = taking_ids d (value_rows_of (drop p values)) _ (next is) puts e;

@@ -56,17 +56,15 @@ fn take_below(
     ensures { Takes (λ place. take_events place (walk_rows depth (some (value_rows_of values.now) ∷ [])
         from (rows_of (drop from nodes.now))) (wanted_in set out.old to)) out.new result }
 {
-    let mut kept = [0u64; 32];
-    kept[0] = 1;
+    let mut kept: [Option<usize>; 32] = [None; 32];
+    kept[0] = Some(0);
     let mut len: usize = 1;
     let mut more = set;
     let mut i = from;
     let mut at = to;
-    while i < nodes.len() {
-        let meeting = next_event(nodes, values, depth, &mut kept[..], len, i);
+    while let Some(meeting) = next_event(nodes, values, depth, &mut kept[..], len, i) {
         let node = meeting.node;
-        let met = meeting.met;
-        match met {
+        match meeting.met {
             Met::Row(id) => {
                 let request = EntityRequest {
                     id,
@@ -79,7 +77,6 @@ fn take_below(
                 more = put_all(more, values, place, below).ok_or(15u64)?;
             }
             Met::Bad => return Err(14),
-            Met::End => return Ok(Taken { set: more, end: at }),
         }
         len = meeting.len;
         i = node + 1;

@@ -19,12 +19,12 @@ use Rattle.words.specs.SeqLaws.{take-sets}
 use Rattle.words.specs.RunLaws.{wrote_length, wrote_ended}
 use Rattle.row_walk.specs.RowWalks.{ancestors_at}
 use Rattle.row_walk.specs.ScanLaws.{rows_left}
-use Rattle.row_walk.specs.Meetings.{going, met_then, Meets}
+use Rattle.row_walk.specs.Meetings.{going, met_then, MeetsAt}
 use Rattle.row_walk.specs.Batches.{met_below, yields, BatchWritten}
-use Rattle.std.specs.Prelude.{Some, None}
+use Rattle.std.specs.Prelude.{Option as Maybe, Some, None}
 use Rattle.row_walk.specs.declared.walk.Meeting.{Meeting}
-use Rattle.row_walk.specs.declared.walk.Met.{Met}
-use Rattle.row_walk.specs.declared.walk.Met.TheVariants.{Row as RowMet, Ids, Bad, End}
+use Rattle.row_walk.specs.declared.rule.Met.{Met}
+use Rattle.row_walk.specs.declared.rule.Met.TheVariants.{Row as RowMet, Ids, Bad}
 
 -- a batch drops ancestor ids
 batch_ids : (depth : ℕ) (rows : List ValueRow) (rest : List Event) → batch_of (ancestors_at depth rows ++ rest) ≡ batch_of rest
@@ -98,7 +98,7 @@ module _ {events : List Event} {out : List ℕ} {to : ℕ} {out' : List ℕ} {at
   gathered_all sofar = rw (sofar.whole, append-nil sofar.rows) sofar.wrote
 
 -- A batch is gathered from the words of nodes and values: the rest of what is met is that of the walk, and there is room for its rows.
-pub record Gathering (nodes values : List ℕ) (depth from : ℕ) (out : List ℕ) (to : ℕ) (out' kept : List ℕ) (len i at : ℕ) : Type 0 where
+pub record Gathering (nodes values : List ℕ) (depth from : ℕ) (out : List ℕ) (to : ℕ) (out' : List ℕ) (kept : List (Maybe ℕ)) (len i at : ℕ) : Type 0 where
   pub within : i ≤ length nodes
   pub counts : len ≤ length kept
   pub depths : length kept ≡ 32
@@ -108,21 +108,20 @@ pub record Gathering (nodes values : List ℕ) (depth from : ℕ) (out : List �
 
 -- what is written has the length that it had
 pub gathering_length :
-    {nodes values : List ℕ} {depth from : ℕ} {out : List ℕ} {to : ℕ} {out' kept : List ℕ} {len i at : ℕ}
+    {nodes values : List ℕ} {depth from : ℕ} {out : List ℕ} {to : ℕ} {out' : List ℕ} {kept : List (Maybe ℕ)} {len i at : ℕ}
     → Gathering nodes values depth from out to out' kept len i at
     → length out' ≡ length out
 gathering_length sofar = wrote_length sofar.gathered.wrote
 
-module _ {nodes values : List ℕ} {depth from : ℕ} {out : List ℕ} {to : ℕ} {out' kept : List ℕ} {len i at : ℕ}
+module _ {nodes values : List ℕ} {depth from : ℕ} {out : List ℕ} {to : ℕ} {out' : List ℕ} {kept : List (Maybe ℕ)} {len i at : ℕ}
     (sofar : Gathering nodes values depth from out to out' kept len i at) where
-  -- no node is left
-  pub gathering_last :
-      length nodes ≤ i
+  -- nothing more is met
+  pub gathering_end :
+      going nodes values depth kept len i ≡ []
       → BatchWritten out to out' (batch_of (met_below nodes depth from values)) (Some at)
-  unfolding walk_rows
-  gathering_last h = gathered_all (rw (drop_of_length-le nodes h) at sofar.gathered)
+  gathering_end e = gathered_all (rw e at sofar.gathered)
 
-  module _ {kept' : List ℕ} {r : Meeting} (meets : Meets nodes values depth kept len i kept' r) (same : length kept' ≡ length kept) where
+  module _ {kept' : List (Maybe ℕ)} {r : Meeting} (meets : MeetsAt nodes values depth kept len i kept' r) (same : length kept' ≡ length kept) where
     -- the next that is met, and the rest
     next : {met : Met} → r.met ≡ met →
         Gathered (met_below nodes depth from values) out to
@@ -138,17 +137,11 @@ module _ {nodes values : List ℕ} {depth from : ℕ} {out : List ℕ} {to : ℕ
         → BatchWritten out to out' (batch_of (met_below nodes depth from values)) None
     gathering_bad is = gathered_bad _ (next is)
 
-    pub gathering_end :
-        r.met ≡ End
-        → BatchWritten out to out' (batch_of (met_below nodes depth from values)) (Some at)
-    gathering_end is = gathered_all (next is)
-
     -- a row is met at a node, its id is small, and there is room for it
     pub row_inside : {e : ℕ} → r.met ≡ RowMet e → (r.node < length nodes) × (e < ids) × (at < length out)
     unfolding yields
     row_inside {e} is =
-        let (inside, small) : (r.node < length nodes) × (e < ids) = rw is at meets.inside in
-        (inside, small, omega (arith, next_room is))
+        let small : e < ids = rw is at meets.small in (meets.inside, small, omega (arith, next_room is))
 
     pub gathering_row : {e : ℕ} → r.met ≡ RowMet e →
         Gathering nodes values depth from out to (set out' at (e + r.node * ids)) kept' r.len (r.node + 1) (at + 1)
@@ -165,9 +158,8 @@ module _ {nodes values : List ℕ} {depth from : ℕ} {out : List ℕ} {to : ℕ
 
     pub gathering_ids : {p d : ℕ} → r.met ≡ Ids p d → Gathering nodes values depth from out to out' kept' r.len (r.node + 1) at
     gathering_ids {p} {d} is =
-        let inside : r.node < length nodes = rw is at meets.inside in
         record {
-          within = omega arith;
+          within = omega (arith, meets.inside);
           counts = meets.counts;
           depths = same ∙ sofar.depths;
           room = rw (yields_ids d (value_rows_of (drop p values)) (going nodes values depth kept' r.len (r.node + 1))) at (next_room is);

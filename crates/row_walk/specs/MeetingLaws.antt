@@ -2,6 +2,7 @@
 use Rattle.std.specs.Prelude.{ℕ, zero, suc, ◌+◌, ◌-◌, ◌≤◌, ◌<◌, min, ◌≡◌, refl, List, [], ◌∷◌, ◌++◌, map, length, take, drop, get_or, set}
 use Rattle.std.proofs.Common.{add-one, arith, ap, ◌∙◌, length-set, length-take, drop_of_length-le, take-take, take_all, take-suc-set}
 use Rattle.std.proofs.lemmas.List.{map-append}
+use Rattle.std.specs.Prelude.{Option as Maybe, None}
 use Rattle.std.proofs.Math.Option.{Option}
 use borrow.Author.Tests.{le-leb, lt-leb}
 use Rattle.rules.specs.Facts.{compared}
@@ -13,13 +14,14 @@ use Rattle.rows.specs.Words.{row_in, depth_in}
 use Rattle.rows.specs.States.{rows_of}
 use Rattle.row_walk.specs.RowWalks.{kept_in, kept_by, met_by, MeansRule}
 use Rattle.row_walk.specs.ScanLaws.{rows_left}
-use Rattle.row_walk.specs.Meetings.{kept_for, going, Visited, Meets}
+use Rattle.row_walk.specs.Meetings.{kept_for, going, Visited, MeetsAt}
 use Rattle.row_walk.specs.declared.rule.Rule.{Rule}
-use Rattle.row_walk.specs.declared.rule.Rule.TheVariants.{Kept, Row as RowRule, Ids as IdsRule, Bad as BadRule}
-use Rattle.row_walk.specs.declared.walk.Met.TheVariants.{Row, Ids, Bad, End}
+use Rattle.row_walk.specs.declared.rule.Rule.TheVariants.{Kept, Met as MetRule}
+use Rattle.row_walk.specs.declared.rule.Met.{Met}
 
 -- what is kept at a place
-kept_place : (values kept : List ℕ) (at : ℕ) → kept_rows_at (map (kept_in values) kept) at ≡ kept_in values (get_or kept at 0)
+kept_place :
+    (values : List ℕ) (kept : List (Maybe ℕ)) (at : ℕ) → kept_rows_at (map (kept_in values) kept) at ≡ kept_in values (get_or kept at None)
 unfolding kept_rows_at
 kept_place values [] at = refl
 kept_place values (k ∷ kept) zero = refl
@@ -28,13 +30,11 @@ kept_place values (k ∷ kept) (suc at) = kept_place values kept at
 -- what a row keeps
 kept_met : (values : List ℕ) (node : ℕ) (rule : Rule) → (met_by values node rule).kept ≡ kept_in values (kept_by rule)
 kept_met values node (Kept k) = refl
-kept_met values node (RowRule e) = refl
-kept_met values node (IdsRule p depth) = refl
-kept_met values node BadRule = refl
+kept_met values node (MetRule met) = refl
 
 -- a store at a place, or behind the last that is kept, keeps one more
 kept_more :
-    (values kept : List ℕ) (len at k : ℕ)
+    (values : List ℕ) (kept : List (Maybe ℕ)) (len at : ℕ) (k : Maybe ℕ)
     → len ≤ length kept
     → min at len < length kept
     → take at (kept_for values kept len) ++ (kept_in values k ∷ []) ≡ kept_for values (set kept (min at len) k) (min at len + 1)
@@ -56,14 +56,14 @@ unfolding walk_rows
 walk_row depth kept node row rows below e = rw (lt-leb row.depth depth below, ← e)
 
 -- a row is visited: it is looked up in what is kept above it, and what it keeps is stored
-module _ (nodes values : List ℕ) (depth : ℕ) (kept : List ℕ) (len node : ℕ) (inside : node < length nodes) where
+module _ (nodes values : List ℕ) (depth : ℕ) (kept : List (Maybe ℕ)) (len node : ℕ) (inside : node < length nodes) where
   pub visited :
-      (below above : ℕ) (rule : Rule)
+      (below : ℕ) (above : Maybe ℕ) (rule : Rule)
       → depth < depth_in (get_or nodes node 0)
       → len ≤ length kept
       → 32 ≤ length kept
       → below ≡ depth_in (get_or nodes node 0) - depth
-      → above ≡ get_or (take len kept) (below - 1) 0
+      → above ≡ get_or (take len kept) (below - 1) None
       → MeansRule values node rule (at_node_rows below (kept_in values above) (row_in (get_or nodes node 0)) (rows_of (drop (node + 1) nodes)) node)
       → Visited nodes values depth kept len node (set kept (min below len) (kept_by rule)) (min below len + 1) rule
   visited below above rule deeper fits room is_below is-above means =
@@ -85,47 +85,36 @@ module _ (nodes values : List ℕ) (depth : ℕ) (kept : List ℕ) (len node : �
       }
 
 -- Nothing is met up to a node: the rest of the walk is all of it.
-pub record NothingMet (nodes values : List ℕ) (depth : ℕ) (kept : List ℕ) (len from : ℕ) (kept' : List ℕ) (len' node : ℕ) : Type 0 where
+pub record NothingMet (nodes values : List ℕ) (depth : ℕ) (kept : List (Maybe ℕ)) (len from : ℕ) (kept' : List (Maybe ℕ)) (len' node : ℕ) : Type 0 where
   pub rest : going nodes values depth kept len from ≡ going nodes values depth kept' len' node
   pub onward : from ≤ node
   pub counts : len' ≤ length kept'
   pub same : length kept' ≡ length kept
 
-module _ {nodes values : List ℕ} {depth : ℕ} {kept : List ℕ} {len from : ℕ} {kept' : List ℕ} {len' node : ℕ}
+module _ {nodes values : List ℕ} {depth : ℕ} {kept : List (Maybe ℕ)} {len from : ℕ} {kept' : List (Maybe ℕ)} {len' node : ℕ}
     (sofar : NothingMet nodes values depth kept len from kept' len' node) where
-  meets_end : going nodes values depth kept' len' node ≡ [] → Meets nodes values depth kept len from kept' (record { node = node; len = len'; met = End })
-  meets_end e = record { meets = sofar.rest ∙ e; onward = sofar.onward; inside = tt; counts = sofar.counts }
-
   -- no row is left
-  pub meets_last : length nodes ≤ node → Meets nodes values depth kept len from kept' (record { node = node; len = len'; met = End })
+  pub meets_last : length nodes ≤ node → going nodes values depth kept len from ≡ []
   unfolding walk_rows
-  meets_last h = meets_end (rw (drop_of_length-le nodes h))
+  meets_last h = sofar.rest ∙ rw (drop_of_length-le nodes h)
 
   -- the next row is not below the depth
-  pub meets_above :
-      node < length nodes
-      → depth_in (get_or nodes node 0) ≤ depth
-      → Meets nodes values depth kept len from kept' (record { node = node; len = len'; met = End })
+  pub meets_above : node < length nodes → depth_in (get_or nodes node 0) ≤ depth → going nodes values depth kept len from ≡ []
   unfolding walk_rows
-  meets_above inside h = meets_end (rw (rows_left row_in nodes node inside, le-leb (depth_in (get_or nodes node 0)) depth h))
+  meets_above inside h = sofar.rest ∙ rw (rows_left row_in nodes node inside, le-leb (depth_in (get_or nodes node 0)) depth h)
 
   -- something is met at the node, or nothing
-  module _ {kept'' : List ℕ} {len'' : ℕ} {rule : Rule} (visit : Visited nodes values depth kept' len' node kept'' len'' rule) (inside : node < length nodes) where
-    pub meets_row : {e : ℕ} → rule ≡ RowRule e → Meets nodes values depth kept len from kept'' (record { node = node; len = len''; met = Row e })
-    meets_row is = record {
+  module _ {kept'' : List (Maybe ℕ)} {len'' : ℕ} {rule : Rule} (visit : Visited nodes values depth kept' len' node kept'' len'' rule) (inside : node < length nodes) where
+    pub meets_met : {met : Met} → rule ≡ MetRule met → MeetsAt nodes values depth kept len from kept'' (record { node = node; len = len''; met = met })
+    meets_met is = record {
       meets = sofar.rest ∙ visit.comes ∙ rw is;
       onward = sofar.onward;
-      inside = (inside, rw is at visit.small);
+      inside = inside;
+      small = rw is at visit.small;
       counts = visit.counts;
     }
 
-    pub meets_ids : {p d : ℕ} → rule ≡ IdsRule p d → Meets nodes values depth kept len from kept'' (record { node = node; len = len''; met = Ids p d })
-    meets_ids is = record { meets = sofar.rest ∙ visit.comes ∙ rw is; onward = sofar.onward; inside = inside; counts = visit.counts }
-
-    pub meets_bad : rule ≡ BadRule → Meets nodes values depth kept len from kept'' (record { node = node; len = len''; met = Bad })
-    meets_bad is = record { meets = sofar.rest ∙ visit.comes ∙ rw is; onward = sofar.onward; inside = inside; counts = visit.counts }
-
-    pub nothing_more : {k : ℕ} → rule ≡ Kept k → length kept'' ≡ length kept' → NothingMet nodes values depth kept len from kept'' len'' (node + 1)
+    pub nothing_more : {k : Maybe ℕ} → rule ≡ Kept k → length kept'' ≡ length kept' → NothingMet nodes values depth kept len from kept'' len'' (node + 1)
     nothing_more is same = record {
       rest = sofar.rest ∙ visit.comes ∙ rw is;
       onward = omega (arith, sofar.onward);

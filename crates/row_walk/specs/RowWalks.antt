@@ -1,5 +1,6 @@
 -- What the walk over the words of nodes and of values answers, by the walk of `WalkRows`.
-use Rattle.std.specs.Prelude.{ℕ, zero, suc, ◌<◌, ◌≡◌, Bool, true, false, cond, not, List, [], ◌∷◌, ltb, eqb, drop}
+use Rattle.std.specs.Prelude.{ℕ, ◌<◌, ◌≡◌, Bool, true, false, cond, not, List, [], ◌∷◌, ltb, eqb, drop}
+use Rattle.std.specs.Prelude.{Option as Maybe, Some, None}
 use Rattle.std.proofs.Math.Option.{Option, none, some}
 use Rattle.rules.specs.Tries.{ids}
 use Rattle.rules.specs.ValueRows.{ValueRow}
@@ -8,7 +9,9 @@ use Rattle.rules.specs.Loading.{Event, yielded, ancestor, bad}
 use Rattle.rules.specs.WalkRows.{MetRows, comes_to}
 use Rattle.values.specs.ValueWords.{value_rows_of}
 use Rattle.row_walk.specs.declared.rule.Rule.{Rule}
-use Rattle.row_walk.specs.declared.rule.Rule.TheVariants.{Kept, Row, Ids, Bad}
+use Rattle.row_walk.specs.declared.rule.Rule.TheVariants.{Kept, Met as Meets}
+use Rattle.row_walk.specs.declared.rule.Met.{Met}
+use Rattle.row_walk.specs.declared.rule.Met.TheVariants.{Row, Ids, Bad}
 
 -- which children are asked for: fields, or the roots of an ancestors trie
 abbrev pub child_test : Bool → ℕ → Bool
@@ -26,24 +29,31 @@ ancestors_at depth (x ∷ rows) =
 abbrev pub ids_if_held : Bool → ℕ → List ValueRow → Option (List Event)
 ids_if_held held depth rows = cond held (some (ancestors_at depth rows)) none
 
--- the rows that are kept, by the word that stands for them: 0 for none, p + 1 for those from place p on
-abbrev pub kept_in : List ℕ → ℕ → Option (List ValueRow)
-kept_in values zero = none
-kept_in values (suc p) = some (value_rows_of (drop p values))
+-- the rows that are kept: those from a place on, if any
+abbrev pub kept_in : List ℕ → Maybe ℕ → Option (List ValueRow)
+kept_in values None = none
+kept_in values (Some p) = some (value_rows_of (drop p values))
+
+-- what is met at a node
+abbrev pub met_at : List ℕ → ℕ → Met → List Event
+met_at values node (Row e) = yielded (record { id = e; node = node }) ∷ []
+met_at values node (Ids p depth) = ancestors_at depth (value_rows_of (drop p values))
+met_at values node Bad = bad ∷ []
 
 -- what a node comes to, as the rule says it
 abbrev pub met_by : List ℕ → ℕ → Rule → MetRows
 met_by values node (Kept k) = comes_to [] (kept_in values k)
-met_by values node (Row e) = comes_to (yielded (record { id = e; node = node }) ∷ []) none
-met_by values node (Ids p depth) = comes_to (ancestors_at depth (value_rows_of (drop p values))) none
-met_by values node Bad = comes_to (bad ∷ []) none
+met_by values node (Meets met) = comes_to (met_at values node met) none
 
 -- an entity's id is small
+abbrev pub SmallMet : Met → Type 0
+SmallMet (Row e) = e < ids
+SmallMet (Ids p depth) = Unit
+SmallMet Bad = Unit
+
 abbrev pub SmallId : Rule → Type 0
 SmallId (Kept k) = Unit
-SmallId (Row e) = e < ids
-SmallId (Ids p depth) = Unit
-SmallId Bad = Unit
+SmallId (Meets met) = SmallMet met
 
 -- A rule says what a node comes to.
 pub record MeansRule (values : List ℕ) (node : ℕ) (rule : Rule) (met : MetRows) : Type 0 where
@@ -51,8 +61,6 @@ pub record MeansRule (values : List ℕ) (node : ℕ) (rule : Rule) (met : MetRo
   pub small : SmallId rule
 
 -- what a node keeps
-abbrev pub kept_by : Rule → ℕ
+abbrev pub kept_by : Rule → Maybe ℕ
 kept_by (Kept k) = k
-kept_by (Row e) = 0
-kept_by (Ids p depth) = 0
-kept_by Bad = 0
+kept_by (Meets met) = None

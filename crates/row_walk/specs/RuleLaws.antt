@@ -1,5 +1,5 @@
 -- Laws of the value rule, case by case. No contract cites this file.
-use Rattle.std.specs.Prelude.{ℕ, zero, suc, ◌+◌, ◌-◌, ◌≤◌, ◌<◌, ◌≡◌, refl, Bool, true, false, cond, ◌||◌, List, [], ◌∷◌, ltb, eqb, drop}
+use Rattle.std.specs.Prelude.{ℕ, suc, ◌+◌, ◌≤◌, ◌<◌, ◌≡◌, refl, Bool, true, false, cond, ◌||◌, List, [], ◌∷◌, ltb, eqb}
 use Rattle.std.proofs.Common.{arith, lt-ltb, le-ltb, eq-eqb, ne_eqb}
 use Rattle.std.proofs.Math.Option.{none, some}
 use Rattle.rules.specs.Facts.{compared}
@@ -7,12 +7,7 @@ use Rattle.rules.specs.Tries.{Row, kind_of, id_of}
 use Rattle.rules.specs.ValueRows.{ValueRow}
 use Rattle.rules.specs.Loading.{yielded, bad, has_field_child, has_ancestors_trie}
 use Rattle.rules.specs.WalkRows.{field_row, ids_at, MetRows, comes_to, comes_to_nothing, or14, row_rule, rule_at, at_node_rows}
-use Rattle.values.specs.ValueWords.{value_rows_of}
-use Rattle.row_walk.specs.RowWalks.{kept_in, ancestors_at, ids_if_held}
-
--- what is kept from behind a row on
-pub kept_from : (values : List ℕ) (at : ℕ) → kept_in values (at + 2) ≡ some (value_rows_of (drop (at + 1) values))
-kept_from values at = let e : at + 2 ≡ suc (at + 1) = omega arith in rw e
+use Rattle.row_walk.specs.RowWalks.{ancestors_at, ids_if_held}
 
 module _ (row : Row) (rows : List Row) (node depth : ℕ) (x : ValueRow) (behind : List ValueRow) where
   -- an entity's id
@@ -79,10 +74,6 @@ module _ (row : Row) (rows : List Row) (node depth : ℕ) (x : ValueRow) (behind
               go false = refl
 
 -- At a node: what is kept is some rows, the node is a root, or its field is looked up.
-
-pub kept_some : (values : List ℕ) (kept : ℕ) → (kept ≡ 0 → ⊥) → kept_in values kept ≡ some (value_rows_of (drop (kept - 1) values))
-kept_some values zero other = absurd (other refl)
-kept_some values (suc p) other = let e : suc p - 1 ≡ p = omega arith in rw e
 
 module _ (depth : ℕ) (run : List ValueRow) (row : Row) (rows : List Row) (node : ℕ) where
   pub node_root : (kind_of row.step ≡ 0 → ⊥) → at_node_rows depth (some run) row rows node ≡ comes_to_nothing

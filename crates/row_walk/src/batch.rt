@@ -6,7 +6,8 @@ ghost use Rattle.rows.specs.States.{rows_of};
 ghost use Rattle.values.specs.ValueWords.{value_rows_of};
 ghost use Rattle.row_walk.specs.Batches.{met_below, yields, BatchWritten};
 
-use crate::walk::{Met, next_event};
+use crate::rule::Met;
+use crate::walk::next_event;
 use rows::Row;
 use values::EntityRequest;
 
@@ -24,16 +25,14 @@ fn batch_below(
     ensures { BatchWritten out.old to out.new
         (batch_of (met_below nodes.now depth from values.now)) result }
 {
-    let mut kept = [0u64; 32];
-    kept[0] = 1;
+    let mut kept: [Option<usize>; 32] = [None; 32];
+    kept[0] = Some(0);
     let mut len: usize = 1;
     let mut i = from;
     let mut at = to;
-    while i < nodes.len() {
-        let meeting = next_event(nodes, values, depth, &mut kept[..], len, i);
+    while let Some(meeting) = next_event(nodes, values, depth, &mut kept[..], len, i) {
         let node = meeting.node;
-        let met = meeting.met;
-        match met {
+        match meeting.met {
             Met::Row(id) => {
                 let request = EntityRequest {
                     id,
@@ -45,9 +44,6 @@ fn batch_below(
             Met::Ids(_, _) => {}
             Met::Bad => {
                 return None;
-            }
-            Met::End => {
-                return Some(at);
             }
         }
         len = meeting.len;

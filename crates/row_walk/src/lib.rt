@@ -9,5 +9,6 @@ mod walk;
 
 pub use batch::find_remaining_entities;
 pub use initial::{Request, ask_roots, context_root, initial_entities_to_load};
+pub use rule::Met;
 pub use scan::has_child;
-pub use walk::{Meeting, Met, next_event};
+pub use walk::{Meeting, next_event};

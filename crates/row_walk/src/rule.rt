@@ -10,14 +10,20 @@ use crate::scan::{field_row, has_child, holds_ids};
 use rows::{Row, StepParts};
 use values::ValueRow;
 
-// What a node comes to: nothing is met, and what is kept; an entity id; a marked set of ids, by the place behind its row and the depth of
-// its elements; or 14. What is kept is 0 for nothing, and p + 1 for the rows of the values from place p on.
+// What is met at a node: an entity to ask for, by its id; the ids in a marked set, by the place behind its row and the depth of its elements;
+// or 14.
 #[derive(Clone, Copy, PartialEq, Eq, Debug)]
-pub enum Rule {
-    Kept(u64),
+pub enum Met {
     Row(u64),
     Ids(usize, u64),
     Bad,
+}
+
+// What a node comes to: something is met, or the rows of the values from a place on are kept for its children, or nothing is.
+#[derive(Clone, Copy, PartialEq, Eq, Debug)]
+pub enum Rule {
+    Kept(Option<usize>),
+    Met(Met),
 }
 
 // A node's rule at the row of its value.
@@ -31,30 +37,30 @@ fn row_rule(nodes: &[u64], node: usize, values: &[u64], at: usize, depth: u64) -
     let value = ValueRow { word: values[at] };
     let kind = value.kind();
     if kind == ValueRow::ENTITY {
-        return Rule::Row(value.number());
+        return Rule::Met(Met::Row(value.number()));
     }
     if has_child(nodes, node + 1, row.depth(), false) {
-        return Rule::Bad;
+        return Rule::Met(Met::Bad);
     }
     if ValueRow::SET < kind {
         if row.is_marked() {
-            return Rule::Bad;
+            return Rule::Met(Met::Bad);
         }
-        return Rule::Kept(at as u64 + 2);
+        return Rule::Kept(Some(at + 1));
     }
     if has_child(nodes, node + 1, row.depth(), true) {
-        return Rule::Bad;
+        return Rule::Met(Met::Bad);
     }
     if !row.is_marked() {
-        return Rule::Kept(0);
+        return Rule::Kept(None);
     }
     if kind < ValueRow::ENTITY {
-        return Rule::Bad;
+        return Rule::Met(Met::Bad);
     }
     if holds_ids(values, at + 1, depth + 1) {
-        return Rule::Ids(at + 1, depth + 1);
+        return Rule::Met(Met::Ids(at + 1, depth + 1));
     }
-    Rule::Bad
+    Rule::Met(Met::Bad)
 }
 
 // The rule at a node: a field is looked up at its depth in what its parent kept, and an absent one is skipped.
@@ -62,25 +68,24 @@ pub fn find_remaining_entities_value(
     nodes: &[u64],
     node: usize,
     values: &[u64],
-    kept: u64,
+    kept: Option<usize>,
     depth: u64,
 ) -> Rule
     requires { (node < length nodes.now) × (depth < 32) }
     ensures { MeansRule values.now node result (at_node_rows depth (kept_in values.now kept)
         (row_in (get_or nodes.now node 0)) (rows_of (drop (node + 1) nodes.now)) node) }
 {
-    if kept == 0 {
-        return Rule::Kept(0);
-    }
+    let Some(from) = kept else {
+        return Rule::Kept(None);
+    };
     let row = Row { word: nodes[node] };
     let step = StepParts::of(row.step());
     if step.kind != 0 {
-        return Rule::Kept(0);
+        return Rule::Kept(None);
     }
-    let from = (kept - 1) as usize;
     let at = field_row(values, from, depth, step.id);
     if at < values.len() {
         return row_rule(nodes, node, values, at, depth);
     }
-    Rule::Kept(0)
+    Rule::Kept(None)
 }

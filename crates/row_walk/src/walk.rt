@@ -4,18 +4,8 @@ ghost use Rattle.rows.specs.Words.{depth_in};
 ghost use Rattle.row_walk.specs.RowWalks.{kept_by};
 ghost use Rattle.row_walk.specs.Meetings.{Visited, Meets};
 
-use crate::rule::{Rule, find_remaining_entities_value};
+use crate::rule::{Met, Rule, find_remaining_entities_value};
 use rows::Row;
-
-// What a walk meets: an entity to ask for, by its id; the ids in a marked set, by the place behind its row and their depth; 14; or nothing
-// more.
-#[derive(Clone, Copy, PartialEq, Eq, Debug)]
-pub enum Met {
-    Row(u64),
-    Ids(usize, u64),
-    Bad,
-    End,
-}
 
 // What is met, the node at which it is met, and for how many depths something is kept then.
 #[derive(Clone, Copy, PartialEq, Eq, Debug)]
@@ -32,26 +22,24 @@ struct Visits {
     rule: Rule,
 }
 
-// What is kept at a place, 0 past the last.
-fn kept_at(kept: &[u64], len: usize, at: usize) -> u64
+// What is kept at a place, nothing past the last.
+fn kept_at(kept: &[Option<usize>], len: usize, at: usize) -> Option<usize>
     requires { len ≤ length kept.now }
-    ensures { result ≡ get_or (take len kept.now) at 0 }
+    ensures { result ≡ get_or (take len kept.now) at None }
 {
     if at < len {
         return kept[at];
     }
-    0
+    None
 }
 
 // What a row keeps.
-fn kept_by(rule: Rule) -> u64
+fn kept_by(rule: Rule) -> Option<usize>
     ensures { result ≡ kept_by rule }
 {
     match rule {
-        Rule::Kept(word) => word,
-        Rule::Row(_) => 0,
-        Rule::Ids(_, _) => 0,
-        Rule::Bad => 0,
+        Rule::Kept(place) => place,
+        Rule::Met(_) => None,
     }
 }
 
@@ -61,7 +49,7 @@ fn visit(
     node: usize,
     values: &[u64],
     depth: u64,
-    kept: &mut [u64],
+    kept: &mut [Option<usize>],
     len: usize,
 ) -> Visits
     requires node_in_bounds { (node < length nodes.now) × (depth < depth_in (get_or nodes.now node 0)) }
@@ -79,62 +67,37 @@ fn visit(
     Visits { len: to + 1, rule }
 }
 
-// Goes on from a row below a depth until something is met. What is kept is the first `len` words of `kept`: 0 for nothing, and p + 1 for
-// the rows of the values from place p on.
+// Goes on from a row below a depth until something is met, if anything is. What is kept is the first `len` of `kept`, for each depth the place
+// from which on the rows of the values are kept.
 pub fn next_event(
     nodes: &[u64],
     values: &[u64],
     depth: u64,
-    kept: &mut [u64],
+    kept: &mut [Option<usize>],
     len: usize,
     from: usize,
-) -> Meeting
+) -> Option<Meeting>
     requires { (len ≤ length kept.old) × (32 ≤ length kept.old) }
     ensures { Meets nodes.now values.now depth kept.old len from kept.new result }
 {
     let mut count = len;
-    let mut node = from;
-    while node < nodes.len() {
+    for node in from..nodes.len() {
         let row = Row { word: nodes[node] };
         if row.depth() <= depth {
-            return Meeting {
-                node,
-                len: count,
-                met: Met::End,
-            };
+            return None;
         }
         let visited = visit(nodes, node, values, depth, kept, count);
-        let rule = visited.rule;
-        match rule {
+        match visited.rule {
+            Rule::Met(met) => {
+                return Some(Meeting {
+                    node,
+                    len: visited.len,
+                    met,
+                });
+            }
             Rule::Kept(_) => {}
-            Rule::Row(id) => {
-                return Meeting {
-                    node,
-                    len: visited.len,
-                    met: Met::Row(id),
-                };
-            }
-            Rule::Ids(place, below) => {
-                return Meeting {
-                    node,
-                    len: visited.len,
-                    met: Met::Ids(place, below),
-                };
-            }
-            Rule::Bad => {
-                return Meeting {
-                    node,
-                    len: visited.len,
-                    met: Met::Bad,
-                };
-            }
         }
         count = visited.len;
-        node += 1;
     }
-    Meeting {
-        node,
-        len: count,
-        met: Met::End,
-    }
+    None
 }

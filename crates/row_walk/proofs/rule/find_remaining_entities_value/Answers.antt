@@ -10,7 +10,7 @@ use Rattle.rows.specs.States.{rows_of}
 use Rattle.values.specs.ValueWords.{value_row_in, value_rows_of}
 use Rattle.row_walk.specs.RowWalks.{kept_in}
 use Rattle.row_walk.specs.ScanLaws.{rows_left}
-use Rattle.row_walk.specs.RuleLaws.{kept_some, node_root, node_field}
+use Rattle.row_walk.specs.RuleLaws.{node_root, node_field}
 use Rattle.row_walk.proofs.rule.find_remaining_entities_value.Goals as goal
 use Rattle.row_walk.proofs.rule.find_remaining_entities_value.Goals.{After-field_row-at, After-of-step}
 
@@ -24,16 +24,16 @@ looked : (c : After-field_row-at) → (let step = (row_in (get_or c.args.nodes.n
     ≡ rule_at (row_in (get_or c.args.nodes.now c.args.node 0)) (rows_of (drop (c.args.node + 1) c.args.nodes.now)) c.args.node c.args.depth (value_rows_of (drop c.field_row-at.result c.args.values.now))
 looked c parts-here =
     let (kind, id) = parts-here in
-    rw (kept_some c.args.values.now c.args.kept c.if-kept-eq0.false)
+    rw c.in-Some.is
     (node_field c.args.depth _ (row_in (get_or c.args.nodes.now c.args.node 0)) (rows_of (drop (c.args.node + 1) c.args.nodes.now)) c.args.node (omega arith) (rw id at c.field_row-at.ensures.values_value))
 
-pub returns-then-kept-eq0 : goal.returns-then-kept-eq0
-returns-then-kept-eq0 c = record { means = rw c.if-kept-eq0.true; small = tt }
+pub returns-in_default : goal.returns-in_default
+returns-in_default c = record { means = rw c.in_default.is; small = tt }
 
 pub returns-then-step-ne0 : goal.returns-then-step-ne0
 returns-then-step-ne0 c =
     record {
-      means = rw (kept_some c.args.values.now c.args.kept c.if-kept-eq0.false) (sym (node_root c.args.depth _ (row_in (get_or c.args.nodes.now c.args.node 0)) _ c.args.node (λ e. c.if-step-ne0.true ((parts (goal.at.returns-then-step-ne0 c).After-of-step).0 ∙ e))));
+      means = rw c.in-Some.is (sym (node_root c.args.depth _ (row_in (get_or c.args.nodes.now c.args.node 0)) _ c.args.node (λ e. c.if-step-ne0.true ((parts (goal.at.returns-then-step-ne0 c).After-of-step).0 ∙ e))));
       small = tt;
     }
 

@@ -12,7 +12,7 @@ use Rattle.rows.specs.Words.{row_in}
 use Rattle.rows.specs.States.{rows_of}
 use Rattle.values.specs.ValueWords.{value_row_in, value_rows_of}
 use Rattle.row_walk.specs.RowWalks.{ancestors_at}
-use Rattle.row_walk.specs.RuleLaws.{kept_from, rule_entity, rule_roots, rule_record, rule_fields, rule_unmarked, rule_plain, rule_set}
+use Rattle.row_walk.specs.RuleLaws.{rule_entity, rule_roots, rule_record, rule_fields, rule_unmarked, rule_plain, rule_set}
 use Rattle.row_walk.proofs.rule.row_rule.Goals as goal
 use Rattle.row_walk.proofs.rule.row_rule.Goals.{After-has_child, After-has_child-2, After-holds_ids, Else-has_child, Else-has_child-2}
 
@@ -67,7 +67,7 @@ pub returns-then-kind-gt-SET : goal.returns-then-kind-gt-SET
 returns-then-kind-gt-SET c =
     let (none_there, other) = no-roots (goal.at.returns-then-kind-gt-SET c).Else-has_child (roots (goal.at.returns-then-kind-gt-SET c).After-has_child) in
     record {
-      means = rw (kept_from c.args.values.now c.args.at) (sym (rule_record (row_in (get_or c.args.nodes.now c.args.node 0)) (rows_of (drop (c.args.node + 1) c.args.nodes.now)) _ _ (value_row_in (get_or c.args.values.now c.args.at 0)) (value_rows_of (drop (c.args.at + 1) c.args.values.now)) other none_there (omega arith) ∙ rw (sym c.is_marked.ensures ∙ c.if-is_marked.false)));
+      means = sym (rule_record (row_in (get_or c.args.nodes.now c.args.node 0)) (rows_of (drop (c.args.node + 1) c.args.nodes.now)) _ _ (value_row_in (get_or c.args.values.now c.args.at 0)) (value_rows_of (drop (c.args.at + 1) c.args.values.now)) other none_there (omega arith) ∙ rw (sym c.is_marked.ensures ∙ c.if-is_marked.false));
       small = tt;
     }
 

@@ -2,7 +2,7 @@
 use native.Mathlib.Omega.{arith}
 use mathlib.Core.Path.{◌≡◌, refl, ◌∙◌}
 use lib.ListN.{length}
-use Rattle.row_walk.specs.MeetingLaws.{meets_last, meets_above, meets_row, meets_ids, meets_bad, nothing_more}
+use Rattle.row_walk.specs.MeetingLaws.{meets_last, meets_above, meets_met, nothing_more}
 use Rattle.row_walk.proofs.walk.next_event.Goals as goal
 use Rattle.row_walk.proofs.walk.next_event.Goals.{After-visit-visited}
 
@@ -23,23 +23,11 @@ visit-visited-requires c = record { node_in_bounds = (c.loop-node-test.true, ome
 same_after : (c : After-visit-visited) → length c.visit-visited.new.kept ≡ length c.args.kept.now
 same_after c = c.visit-visited.auto.kept ∙ c.loop-node.invariant.same
 
-pub shape_of-kept-in-Row : goal.shape_of-kept-in-Row
-shape_of-kept-in-Row c = same_after (goal.at.shape_of-kept-in-Row c).After-visit-visited
+pub shape_of-kept-in-Met : goal.shape_of-kept-in-Met
+shape_of-kept-in-Met c = same_after (goal.at.shape_of-kept-in-Met c).After-visit-visited
 
-pub returns-in-Row : goal.returns-in-Row
-returns-in-Row c = meets_row c.loop-node.invariant c.visit-visited.ensures c.loop-node-test.true c.in-Row.is
-
-pub shape_of-kept-in-Ids : goal.shape_of-kept-in-Ids
-shape_of-kept-in-Ids c = same_after (goal.at.shape_of-kept-in-Ids c).After-visit-visited
-
-pub returns-in-Ids : goal.returns-in-Ids
-returns-in-Ids c = meets_ids c.loop-node.invariant c.visit-visited.ensures c.loop-node-test.true c.in-Ids.is
-
-pub shape_of-kept-in-Bad : goal.shape_of-kept-in-Bad
-shape_of-kept-in-Bad c = same_after (goal.at.shape_of-kept-in-Bad c).After-visit-visited
-
-pub returns-in-Bad : goal.returns-in-Bad
-returns-in-Bad c = meets_bad c.loop-node.invariant c.visit-visited.ensures c.loop-node-test.true c.in-Bad.is
+pub returns-in-Met : goal.returns-in-Met
+returns-in-Met c = meets_met c.loop-node.invariant c.visit-visited.ensures c.loop-node-test.true c.in-Met.is
 
 pub loop-node-preserved : goal.loop-node-preserved
 loop-node-preserved c = nothing_more c.loop-node.invariant c.visit-visited.ensures c.loop-node-test.true c.in-Kept.is c.visit-visited.auto.kept

@@ -1,10 +1,5 @@
-use Prim.Native.Nat.{◌-◌}
-use lib.ListN.{length}
 use Rattle.row_walk.specs.MeetingLaws.{NothingMet}
 use Rattle.row_walk.proofs.walk.next_event.Given as goal
 
 abbrev pub invariant-loop-node : goal.invariant-loop-node
 invariant-loop-node l = NothingMet l.nodes l.values l.depth l.initial.kept l.len l.from l.kept l.count l.node
-
-abbrev pub decreases-loop-node : goal.decreases-loop-node
-decreases-loop-node l = length l.nodes - l.node
