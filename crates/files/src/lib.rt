@@ -8,10 +8,10 @@ use std::fmt::Display;
 use std::io::{Error, ErrorKind, Print, Read};
 use std::os::fd::AsFd;
 use std::rt::{Stderr, Stdout};
-use std::{fs, str};
+use std::{fs, io, str};
 
-// How a job ends that is not done, once what there is to say of that is said: a text is refused, or the command line, a file or standard
-// output cannot be used.
+// Why a job is not done, once what there is to say of that is said: a text is refused, or the command line, a file or standard output cannot
+// be used.
 #[derive(Clone, Copy, PartialEq, Eq, Debug)]
 pub enum Failure {
     Refused,
@@ -51,21 +51,21 @@ pub enum Stream {
 }
 
 impl Print for Stream {
-    fn print<D: Display + Drop>(&self, value: D) -> Result<(), Error> {
+    fn print<D: Display + Drop>(&self, value: D) -> io::Result<()> {
         match self {
             Stream::Out(out) => out.print(value),
             Stream::Err(err) => err.print(value),
         }
     }
 
-    fn println<D: Display + Drop>(&self, value: D) -> Result<(), Error> {
+    fn println<D: Display + Drop>(&self, value: D) -> io::Result<()> {
         match self {
             Stream::Out(out) => out.println(value),
             Stream::Err(err) => err.println(value),
         }
     }
 
-    fn write_all(&self, bytes: &[u8]) -> Result<(), Error> {
+    fn write_all(&self, bytes: &[u8]) -> io::Result<()> {
         match self {
             Stream::Out(out) => out.write_all(bytes),
             Stream::Err(err) => err.write_all(bytes),
@@ -157,12 +157,12 @@ fn argument(rt: HostRuntime, i: usize) -> Word {
     Word { room, length }
 }
 
-// Word i of a line.
+// Word i of a line, if there is one.
 fn part_of(line: &[u8], i: usize) -> Option<&[u8]> {
     line.split(|byte| *byte == b' ').nth(i.checked_sub(1)?)
 }
 
-// The same in room of its own, and nothing where there is no such word.
+// The same in room of its own, and an empty word where there is none.
 fn part(line: &[u8], i: usize) -> Word {
     let part = part_of(line, i).unwrap_or(&[]);
     let length = part.len().min(LONG);
@@ -239,7 +239,7 @@ fn say_long(fd: Stream, name: &[u8]) {
 }
 
 // Reads to the end of a file, or until `text` is full; answers how many bytes were read.
-fn read_all<R: Read>(from: &mut R, text: &mut [u8]) -> Result<usize, Error>
+fn read_all<R: Read>(from: &mut R, text: &mut [u8]) -> io::Result<usize>
     ensures { IfOk result (λ n. n ≤ length text.new) }
 {
     let mut n = 0;
@@ -254,7 +254,7 @@ fn read_all<R: Read>(from: &mut R, text: &mut [u8]) -> Result<usize, Error>
 }
 
 // Opens a file and reads it, once.
-fn read_path(rt: HostRuntime, path: &str, text: &mut [u8]) -> Result<usize, Error>
+fn read_path(rt: HostRuntime, path: &str, text: &mut [u8]) -> io::Result<usize>
     ensures { IfOk result (λ n. n ≤ length text.new) }
 {
     let mut file = fs::open(&rt, path)?;
@@ -262,7 +262,7 @@ fn read_path(rt: HostRuntime, path: &str, text: &mut [u8]) -> Result<usize, Erro
 }
 
 // Reads a file, once. Standard input is open: to open it again by its name would fail where it is a socket or another user's.
-fn read_file(rt: HostRuntime, name: &[u8], text: &mut [u8]) -> Result<usize, Error>
+fn read_file(rt: HostRuntime, name: &[u8], text: &mut [u8]) -> io::Result<usize>
     ensures { IfOk result (λ n. n ≤ length text.new) }
 {
     if is_input(name) {
@@ -286,7 +286,7 @@ fn is_input(name: &[u8]) -> bool {
 #[derive(Clone, Copy)]
 pub struct CommandLine<'a> {
     pub to: To,
-    pub words: Words<'a>,
+    words: Words<'a>,
     pub count: usize,
 }
 
@@ -348,7 +348,7 @@ impl<'a> CommandLine<'a> {
     }
 }
 
-// Says that standard output does not take a result.
+// Says that a result cannot be written.
 fn unwritten(err: Stream, error: Error) -> Failure {
     say_unwritten(err, error);
     Failure::Cannot
@@ -361,8 +361,8 @@ pub fn write(to: To, bytes: &[u8]) -> Result<(), Failure> {
         .map_err(|error| unwritten(to.err, error))
 }
 
-// The error of a stream that is not open.
-fn check_open(stream: Stream) -> Result<(), Error> {
+// Sees that a stream is open.
+fn check_open(stream: Stream) -> io::Result<()> {
     let copied = match stream {
         Stream::Out(out) => out.as_fd().try_clone_to_owned(),
         Stream::Err(err) => err.as_fd().try_clone_to_owned(),
@@ -387,7 +387,7 @@ fn is_loss(error: Error) -> bool {
 }
 
 // Waits until a file has what was written to it. One that cannot be opened a second time is let be.
-fn sync(rt: HostRuntime, name: &str) -> Result<(), Error> {
+fn sync(rt: HostRuntime, name: &str) -> io::Result<()> {
     let Ok(file) = fs::open(&rt, name) else {
         return Ok(());
     };
@@ -399,7 +399,7 @@ fn sync(rt: HostRuntime, name: &str) -> Result<(), Error> {
 
 // Sees that a stream is open, and that it has kept what was written to it: some file systems say only then that they are full. One that is no
 // file has nothing to keep.
-fn settle(rt: HostRuntime, stream: Stream) -> Result<(), Error> {
+fn settle(rt: HostRuntime, stream: Stream) -> io::Result<()> {
     check_open(stream)?;
     let name = match stream {
         Stream::Out(_) => "/dev/stdout",
@@ -411,7 +411,7 @@ fn settle(rt: HostRuntime, stream: Stream) -> Result<(), Error> {
     Ok(())
 }
 
-// Sees that what results were written to is open, and has kept them.
+// Sees that standard output is open and has kept the results, or says why not.
 pub fn finish(to: To) -> Result<(), Failure> {
     settle(to.rt, to.out).map_err(|error| unwritten(to.err, error))
 }

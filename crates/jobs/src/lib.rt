@@ -1,5 +1,5 @@
-// What all jobs share: a refusal told, a text read and taken, a schema, a listing and a name table among them, a listing written, also of a
-// manifest that is typed first.
+// What all jobs share: a refusal told, a text read and taken, a manifest drawn with names, a listing written, also of a manifest that is typed
+// first.
 #![tactic(auto)]
 
 use entity_manifest::{Kind, Refusal};
@@ -80,13 +80,8 @@ fn load_names<'r>(
         });
     }
     let text = line.load(3, room)?;
-    name_table::read_names(text, words).map_err(|refusal| refuse_text(
-        line,
-        3,
-        Form::Names,
-        refusal,
-        text,
-    ))?;
+    let reply = name_table::read_names(text, words);
+    reply.map_err(|refusal| refuse_text(line, 3, Form::Names, refusal, text))?;
     Ok(Names { text, words })
 }
 
@@ -132,8 +127,7 @@ fn refuse_node(to: To, name: &[u8], manifest: &[u64], refusal: Refusal) -> Failu
 // Types a manifest and writes the listing of what stays; `name` is what a message calls the manifest.
 pub fn write_typed(to: To, name: &[u8], schema: &[u64], manifest: &[u64]) -> Result<(), Failure> {
     let mut typed = [0u64; WORDS];
-    entity_manifest::to_typed(schema, manifest, &mut typed).map_err(|refusal| refuse_node(
-        to, name, manifest, refusal,
-    ))?;
+    let reply = entity_manifest::to_typed(schema, manifest, &mut typed);
+    reply.map_err(|refusal| refuse_node(to, name, manifest, refusal))?;
     write_listing(to, Kind::Manifest, &typed)
 }
