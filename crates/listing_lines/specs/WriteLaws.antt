@@ -91,10 +91,6 @@ room_left {field} {more} {fields} room w =
 pub record Leads (start words out : List ℕ) (at i : ℕ) : Type 0 where
   pub left : Wrote out at (listing (rows_of (drop i words))) (sets start 0 (listing (rows_of words))) (length (listing (rows_of words)))
 
--- before the first
-pub leads_first : (start words : List ℕ) → Leads start words start 0 0
-leads_first start words = record { left = record { after = omega arith; text = refl } }
-
 module _ {start words out : List ℕ} {at i : ℕ} (leads : Leads start words out at i) where
   -- the length stays
   pub leads_length : length out ≡ length start
@@ -127,9 +123,6 @@ node_kind row whole e = leb-true _ _ (both_true (leb (kind_of row.step) 5) _ (no
 
 -- The line of a word, by the parts that were read from it.
 module _ (w : ℕ) {depth step : ℕ} (depths : depth ≡ depth_in w) (steps : step ≡ step_in w) where
-  pub entry_line : depth ≡ 0 → line_for (row_in w) ≡ line_for (read 0 step false)
-  entry_line e = rw (steps, sym depths ∙ e)
-
   pub node_line : {mark : Bool} → mark ≡ mark_in w → line_for (row_in w) ≡ line_for (read depth step mark)
   node_line marks = rw (depths, steps, marks)
 

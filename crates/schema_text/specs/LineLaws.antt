@@ -25,13 +25,6 @@ named_one field = by_option (decimal_of field) (λ e. rw e) (λ n e. rw (e, le-l
 
 -- names, by the first and whether it is the only one
 module _ (fields : List (List ℕ)) {name : ℕ} {others : List ℕ} (e : ascending 0 fields ≡ some (name ∷ others)) where
-  pub named_alone : length others ≡ 0 → named_by fields ≡ some name
-  named_alone h = rw e (go others h)
-    where
-      go : (others : List ℕ) → length others ≡ 0 → names_of (name ∷ others) ≡ some name
-      go [] h = refl
-      go (next ∷ others) h = absurd (omega arith)
-
   pub named_more : 0 < length others → named_by fields ≡ some (name + 65536)
   named_more h = rw e (go others h)
     where
@@ -92,16 +85,6 @@ value_more kind more (Some end) e others k =
 pub value_none : (kind : ℕ) (field : List ℕ) (fields : List (List ℕ)) → kind ≢ 9 → kind ≢ 6 → value_of kind (field ∷ fields) ≡ none
 value_none kind field [] h k = rw (ne_eqb kind 6 k, ne_eqb kind 9 h)
 value_none kind field (next ∷ fields) h k = rw (ne_eqb kind 9 h)
-
--- ---- whether a field is the last
-
-pub last_field : (r : Maybe ℕ) → is_some r ≡ false → r ≡ None
-last_field None e = refl
-last_field (Some end) e = absurd (false≢true (sym e))
-
-pub field_before : (r : Maybe ℕ) → is_some r ≡ true → (end : ℕ) × (r ≡ Some end)
-field_before None e = absurd (false≢true e)
-field_before (Some end) e = (end, refl)
 
 -- ---- a type's line
 

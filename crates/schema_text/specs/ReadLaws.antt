@@ -16,7 +16,7 @@ use Rattle.rules.proofs.ListingLaws.{bind_some}
 use Rattle.rules.specs.Schema.{Item, Known, item, unknown, value_of, type_of, pair_of, item_of, fits, beyond, read_schema}
 use Rattle.text.specs.Answers.{line_at}
 use Rattle.text.proofs.Laws.{whole_line, cut_line}
-use Rattle.text.proofs.FoldLaws.{CameTo, came_start, came_end, came_cut, came_refused, came_next}
+use Rattle.text.proofs.FoldLaws.{CameTo, came_end, came_cut, came_refused, came_next}
 use Rattle.text.specs.declared.Line.{Line}
 use Rattle.text.specs.declared.Line.TheVariants.{Whole}
 use Rattle.words.specs.Runs.{refusing}
@@ -28,7 +28,7 @@ use Rattle.schema.specs.Items.{item_word}
 use Rattle.schema_text.specs.Outcomes.{storing_items, read_schema_in}
 use Rattle.schema.specs.Bounds.{known_for, Bounded}
 use Rattle.schema_text.specs.Reads.{kept_at, kept_from, ItemRoom, LinePassed, RefusedLine, how_many, ItemsRead}
-use Rattle.schema.specs.KnownLaws.{most-lines, bounded_beyond, counted_beyond}
+use Rattle.schema.specs.KnownLaws.{most-lines, counted_beyond}
 use Rattle.schema_text.specs.LineLaws.{named_most}
 
 -- ---- the numbers of an item
@@ -110,15 +110,6 @@ kept_next false out words count word e = refl
 
 -- ---- a line that is taken
 
--- there is room for the word of a line that may come
-pub room_next : (count : ℕ) (kept : Kept) (out : List ℕ) (it : Item) → ItemRoom count kept out → fits (known_for kept) it ≡ true → count + 1 < 142337
-room_next count kept out it room may =
-    omega (
-      arith,
-      counted_beyond (known_for kept) it room.bounded may count room.counted,
-      most-lines (beyond (known_for kept) it) (bounded_beyond (known_for kept) it room.bounded may),
-    )
-
 pub item_passed :
     (count : ℕ) (kept : Kept) (line : List ℕ) (stores : Bool) (out : List ℕ) (it : Item) {word : ℕ} {out' : List ℕ} {next : Kept} →
     ItemRoom count kept out →
@@ -156,18 +147,6 @@ pub record ReadingItems (text : List ℕ) (stores : Bool) (start : List ℕ) (ke
   pub as_many : length passed ≡ count
   pub in_out : out ≡ kept_from stores start (map item_word passed)
   pub came : CameTo (gathering item_line) (unknown, []) text at count (known_for kept, passed)
-
-pub items_none : (text : List ℕ) (stores : Bool) (out : List ℕ) (kept : Kept) → known_for kept ≡ unknown → Bounded unknown → 142337 ≤ length out →
-    ReadingItems text stores out kept out 0 0
-items_none text stores out kept start bounded fits =
-    let none_left : kept.room ≡ 0 = ap (λ (k : Known). k.room) start in
-    record {
-      room = record { bounded = rw start bounded; long = fits; counted = rw none_left (omega arith) };
-      passed = [];
-      as_many = refl;
-      in_out = kept_none stores out;
-      came = rw start (came_start (gathering item_line) (unknown, []) text);
-    }
 
 -- a line that may not come is where reading ends
 line_refused : (place : ℕ) (known : Known) (o : Option Item) → RefusedLine known o → item_after place known o ≡ refused 1 place

@@ -1,28 +1,29 @@
 -- Laws of a line of a step text as a step (Lines): its word, and the names of a record. No contract cites this file.
-use Rattle.std.specs.Prelude.{ℕ, ◌-◌, ◌≤◌, ◌<◌, ◌≡◌, refl, Bool, true, false, List, [], ◌∷◌, length, take, drop}
+use Rattle.std.specs.Prelude.{ℕ, ◌-◌, ◌≤◌, ◌≡◌, refl, Bool, true, false, List, [], ◌∷◌, length, take, drop}
 use Rattle.std.proofs.Math.Nat.{sub-zero}
-use Rattle.std.proofs.Common.{arith, le-leb, drop_of_length-le, take_all}
-use Rattle.std.proofs.Math.Option.{none, some}
-use Rattle.std.proofs.lemmas.Bool.{lt-leb}
+use Rattle.std.proofs.Common.{arith, sym, ◌∙◌, drop_of_length-le}
+use Rattle.std.proofs.Math.Option.{none}
 use Rattle.std.proofs.Math.Seq.{take-length}
-use Rattle.rules.specs.Facts.{by_test, same_test}
+use Rattle.std.specs.Str.{bytes_eq}
+use Rattle.rules.specs.Facts.{by_test}
 use Rattle.rules.specs.Text.{bytes, fields_of, decimal_of, TAB}
 use Rattle.rules.proofs.TextLaws.{parted_some}
 use Rattle.rules.specs.Tries.{same_list}
 use Rattle.rules.proofs.PlaceLaws.{same-list}
-use Rattle.rules.specs.Schema.{ascending}
-use Rattle.text.specs.Answers.{NamesRead}
-use Rattle.text.specs.declared.Names.{Names}
-use Rattle.text.specs.declared.Names.TheVariants.{Of as OfNames, Bad as BadNames}
-use Rattle.text.proofs.NameLaws.{no_names, names_kept}
-use Rattle.rules.specs.Steps.{rec, reversed, is_text, rec_of, bare_step, step_with, step_from}
+use Rattle.rules.specs.Steps.{is_text, rec_of, bare_step, step_with, step_from}
 
 -- ---- the word of a line
 
 -- what a comparison of a field with a word says
-pub text_same : {r : Bool} {given word : List ℕ} → (r ≡ true → given ≡ word) × (given ≡ word → r ≡ true) → is_text word given ≡ r
-text_same {r} {given} {word} same =
-    same_test (same_list given word) r (λ e. same.1 ((same-list given word).0 e), λ e. (same-list given word).1 (same.0 e))
+same_bytes : (xs ys : List ℕ) → same_list xs ys ≡ bytes_eq xs ys
+unfolding same_list
+same_bytes [] [] = refl
+same_bytes [] (y ∷ ys) = refl
+same_bytes (x ∷ xs) [] = refl
+same_bytes (x ∷ xs) (y ∷ ys) = rw (same_bytes xs ys)
+
+pub text_same : (given : List ℕ) {r : Bool} {lent word : List ℕ} → r ≡ bytes_eq given lent → lent ≡ word → is_text word given ≡ r
+text_same given {word} tested is = same_bytes given word ∙ rw (← is) (sym tested)
 
 -- no name is kept behind all of them
 pub no_name : (names : List ℕ) → length names ≡ 32 → drop 32 names ≡ []
@@ -59,24 +60,3 @@ unfolding step_from
 many_fields word second line at e =
     let (first, others, some-field) = parted_some TAB (drop at line) in
     rw (some-field, e)
-
--- ---- the names of a record
-
-module _ (fields : List (List ℕ)) (names : List ℕ) {r : Names} (room : length names ≡ 32) (names-read : NamesRead (ascending 0 fields) r names) where
-  -- no names
-  pub rec_bad : r ≡ BadNames → rec_of fields ≡ none
-  rec_bad e = rw (no_names names-read e)
-
-  module _ {count : ℕ} (e : r ≡ OfNames count) where
-    -- too many
-    pub rec_over : 32 < count → rec_of fields ≡ none
-    rec_over h =
-        let (ns, ascend, size, kept) = names_kept names-read e in
-        rw (ascend, size, lt-leb count 32 h)
-
-    -- so many, which are kept
-    pub rec_kept : count ≤ 32 → rec_of fields ≡ some (rec (drop (32 - count) names))
-    rec_kept h =
-        let (ns, ascend, size, kept) = names_kept names-read e in
-        let all : drop (32 - count) names ≡ reversed ns = rw (room, take_all 32 ns (omega arith)) at kept in
-        rw (ascend, size, le-leb count 32 h, all)

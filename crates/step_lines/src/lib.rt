@@ -4,12 +4,12 @@
 ghost use Rattle.std.specs.Prelude.{◌≡◌, ◌≤◌, false, length};
 ghost use Rattle.rules.specs.Text.{bytes, fields_of};
 ghost use Rattle.rules.specs.Steps.{is_text, rec_of, bare_step, step_with, step_from};
-ghost use Rattle.step_lines.specs.Lines.{step_read, name_count, Bare, var_step};
+ghost use Rattle.step_lines.specs.Lines.{line_read, names_read, Bare, var_step};
 
-use text::{Decimal, Field, Names};
+use text::{field_end, letter_place, read_decimal, read_names};
 
 // A step; the names of `rec` are kept beside it, so many of them.
-#[derive(Drop)]
+#[derive(Clone, Copy, PartialEq, Eq, Debug)]
 pub enum Step {
     Root(u64),
     None,
@@ -20,7 +20,6 @@ pub enum Step {
     In,
     Set,
     Rec(usize),
-    Bad,
 }
 
 impl Step {
@@ -29,100 +28,89 @@ impl Step {
 }
 
 // A step of one word.
-fn bare_step(word: &[u8]) -> Step
+fn bare_step(word: &[u8]) -> Option<Step>
     ensures { Bare result (bare_step word.now) }
 {
-    if check::same(word, b"none") {
-        return Step::None;
+    if word == b"none".as_slice() {
+        return Some(Step::None);
     }
-    if check::same(word, b"union") {
-        return Step::Union;
+    if word == b"union".as_slice() {
+        return Some(Step::Union);
     }
-    if check::same(word, b"drop") {
-        return Step::Drop;
+    if word == b"drop".as_slice() {
+        return Some(Step::Drop);
     }
-    if check::same(word, b"in") {
-        return Step::In;
+    if word == b"in".as_slice() {
+        return Some(Step::In);
     }
-    if check::same(word, b"set") {
-        return Step::Set;
+    if word == b"set".as_slice() {
+        return Some(Step::Set);
     }
-    if check::same(word, b"rec") {
-        return Step::Rec(0);
+    if word == b"rec".as_slice() {
+        return Some(Step::Rec(0));
     }
-    Step::Bad
+    None
 }
 
 // The root that a variable's letter names: p, a, r, c.
-fn var_step(field: &[u8]) -> Step
+fn var_step(field: &[u8]) -> Option<Step>
     ensures { Bare result (var_step field.now) }
 {
-    if field.len() != 1 {
-        return Step::Bad;
-    }
-    let b = field[0];
-    match b {
-        b'p' => Step::Root(0x1_0000),
-        b'a' => Step::Root(0x2_0000),
-        b'r' => Step::Root(0x3_0000),
-        b'c' => Step::Root(0x4_0000),
-        _ => Step::Bad,
-    }
+    let place = letter_place(b"parc", field)? as u64;
+    Some(Step::Root((place + 1) * 0x1_0000))
 }
 
 // A step of a word and one field, other than `rec`.
-fn step_with(word: &[u8], field: &[u8]) -> Step
+fn step_with(word: &[u8], field: &[u8]) -> Option<Step>
     requires { is_text (bytes "rec") word.now ≡ false }
     ensures { Bare result (step_with word.now field.now) }
 {
-    if check::same(word, b"var") {
+    if word == b"var".as_slice() {
         return var_step(field);
     }
-    let Decimal::Value(n) = Decimal::read(field) else {
-        return Step::Bad;
-    };
-    if check::same(word, b"lit") {
-        return Step::Root(0x5_0000 + n);
+    let number = read_decimal(field)?;
+    if word == b"lit".as_slice() {
+        return Some(Step::Root(0x5_0000 + number));
     }
-    if check::same(word, b"attr") {
-        return Step::Attr(n);
+    if word == b"attr".as_slice() {
+        return Some(Step::Attr(number));
     }
-    if check::same(word, b"full") {
-        return Step::Full(n);
+    if word == b"full".as_slice() {
+        return Some(Step::Full(number));
     }
-    Step::Bad
+    None
 }
 
 // A record literal with the fields of those names, at most NAMES of them.
-fn rec_step(fields: &[u8], names: &mut [u64]) -> Step
+fn rec_step(fields: &[u8], names: &mut [u64]) -> Option<Step>
     requires { length names.old ≡ 32 }
-    ensures names_after { step_read result names.new ≡ rec_of (fields_of fields.now) }
-    ensures result_bound { name_count result ≤ 32 }
+    ensures names_after { line_read result names.new ≡ rec_of (fields_of fields.now) }
+    ensures result_bound { names_read result ≤ 32 }
 {
-    let Names::Of(count) = Names::read(fields, names) else {
-        return Step::Bad;
-    };
+    let count = read_names(fields, names)?;
     if Step::NAMES < count {
-        return Step::Bad;
+        return None;
     }
-    Step::Rec(count)
+    Some(Step::Rec(count))
 }
 
 // The step of a line, by its fields.
-pub fn parse(line: &[u8], names: &mut [u64]) -> Step
+pub fn parse(line: &[u8], names: &mut [u64]) -> Option<Step>
     requires { length names.old ≡ 32 }
-    ensures names_after { step_read result names.new ≡ step_from (fields_of line.now) }
-    ensures result_bound { name_count result ≤ 32 }
+    ensures names_after { line_read result names.new ≡ step_from (fields_of line.now) }
+    ensures result_bound { names_read result ≤ 32 }
 {
-    let Field::More(word_end) = Field::at(line, 0) else {
+    let Some(word_end) = field_end(line, 0) else {
         return bare_step(line);
     };
+    let word = &line[..word_end];
     let second = word_end + 1;
-    if check::same(&line[..word_end], b"rec") {
-        return rec_step(&line[second..], names);
+    let rest = &line[second..];
+    if word == b"rec".as_slice() {
+        return rec_step(rest, names);
     }
-    let Field::Last = Field::at(line, second) else {
-        return Step::Bad;
-    };
-    step_with(&line[..word_end], &line[second..])
+    if field_end(line, second).is_some() {
+        return None;
+    }
+    step_with(word, rest)
 }

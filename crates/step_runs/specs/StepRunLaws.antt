@@ -30,7 +30,7 @@ use Rattle.full_types.specs.FullLaws.{item_keys}
 use Rattle.result_stack.specs.StackLaws.{trie_count, trie_rows, at_within, at_few, code_left, tries_left, top_trie, top_at}
 use Rattle.step_runs.specs.StepRuns.{Ready, NotLarge, TookLine, Finished}
 use Rattle.step_lines.specs.declared.Step.{Step as StepRead}
-use Rattle.step_lines.specs.declared.Step.TheVariants.{Root, None, Attr, Union, Drop, Full, In, Set, Rec, Bad}
+use Rattle.step_lines.specs.declared.Step.TheVariants.{Root, None, Attr, Union, Drop, Full, In, Set, Rec}
 use Rattle.result_stack.specs.declared.Stack.{Stack}
 
 -- ---- a step that is accepted leaves at most 32 results
@@ -92,7 +92,6 @@ read_good (Full t) names fields e = tt
 read_good In names fields e = tt
 read_good Set names fields e = tt
 read_good (Rec count) names fields e = step_good fields (rec (drop (32 - count) names)) (sym e)
-read_good Bad names fields e = tt
 
 pub schema_good : (words : List ℕ) → good_items words ≡ true → GoodSchema (items_of words)
 schema_good words e = (good_lawful words e, item_keys words (good_all words e))

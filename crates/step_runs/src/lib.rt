@@ -65,7 +65,9 @@ pub fn step_line(
     if stack.tries < Stack::TRIES_ROOM {
         return StepTaken::Full;
     }
-    let step = parse(line, names);
+    let Some(step) = parse(line, names) else {
+        return StepTaken::Refused(1);
+    };
     match apply(
         step, names, words, table, types, code, tries, paths, trie, stack,
     ) {

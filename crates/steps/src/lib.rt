@@ -43,6 +43,5 @@ pub fn apply(
         Step::In => in_step(code, tries, trie, stack),
         Step::Set => set_step(code, tries, trie, stack),
         Step::Rec(count) => rec_step(count, names, code, tries, trie, stack),
-        Step::Bad => Stepped::Refused(1),
     }
 }

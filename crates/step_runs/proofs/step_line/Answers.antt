@@ -13,14 +13,17 @@ returns-then-stack-lt-TRIES_ROOM c = held_full c.requires.ready.held (inr c.if-s
 
 pub apply-requires : goal.apply-requires
 apply-requires c =
-    record { good_types = c.requires.good_types; step_bound = (c.parse-step.ensures.result_bound, (c.parse-step.auto.names ∙ c.requires.ready.names-length, read_good c.parse-step.result c.parse-step.new.names _ c.parse-step.ensures.names_after)); working = (record { holding = ready_holds c.requires.ready (omega (arith, c.if-stack-lt-CODE_ROOM.false)) (omega (arith, c.if-stack-lt-TRIES_ROOM.false)); trie_length = c.requires.ready.trie_length }, c.requires.ready.scratch) }
+    record { good_types = c.requires.good_types; step_bound = (rw c.in-Some.is at c.parse.ensures.result_bound, (c.parse.auto.names ∙ c.requires.ready.names-length, read_good c.in-Some.step c.parse.new.names _ (rw c.in-Some.is at c.parse.ensures.names_after))); working = (record { holding = ready_holds c.requires.ready (omega (arith, c.if-stack-lt-CODE_ROOM.false)) (omega (arith, c.if-stack-lt-TRIES_ROOM.false)); trie_length = c.requires.ready.trie_length }, c.requires.ready.scratch) }
 
 pub returns-in-Next : goal.returns-in-Next
 returns-in-Next c =
     λ results held.
-    line_took c.args.words.now c.args.line.now c.requires.good_types.good-items c.parse-step.ensures.names_after held
+    line_took c.args.words.now c.args.line.now c.requires.good_types.good-items (rw c.in-Some.is at c.parse.ensures.names_after) held
     ((rw c.in-Next.is at c.apply.ensures) results held)
 
 pub returns-in-Refused : goal.returns-in-Refused
 returns-in-Refused c =
-    λ results held place. rw c.parse-step.ensures.names_after at ((rw c.in-Refused.is at c.apply.ensures) results held place)
+    λ results held place. rw (rw c.in-Some.is at c.parse.ensures.names_after) at ((rw c.in-Refused.is at c.apply.ensures) results held place)
+
+pub returns-in_default : goal.returns-in_default
+returns-in_default c = λ results held place. rw (← (rw c.in_default.is at c.parse.ensures.names_after)) refl

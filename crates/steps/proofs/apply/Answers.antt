@@ -3,7 +3,7 @@ use mathlib.Core.Path.{refl}
 use Rattle.rules.specs.Steps.{apply as applied}
 use Rattle.schema.specs.Items.{items_of}
 use Rattle.result_stack.specs.declared.Stepped.TheVariants.{Refused}
-use Rattle.step_lines.specs.declared.Step.TheVariants.{Root, None, Attr, Union, Drop, Full, In, Set, Rec, Bad}
+use Rattle.step_lines.specs.declared.Step.TheVariants.{Root, None, Attr, Union, Drop, Full, In, Set, Rec}
 use Rattle.steps.specs.StepsLaws.{step_is}
 use Rattle.steps.proofs.apply.Goals as goal
 
@@ -77,9 +77,3 @@ returns-in-Rec c results held =
     step_is (items_of c.args.words.now) c.args.names.now results c.rec_step.new.code c.rec_step.new.tries c.rec_step.result c.args.step (Rec c.in-Rec.count)
     c.in-Rec.is
     (c.rec_step.ensures results held)
-
-pub returns-in-Bad : goal.returns-in-Bad
-returns-in-Bad c results held =
-    step_is (items_of c.args.words.now) c.args.names.now results c.args.code.now c.args.tries.now (Refused 1) c.args.step Bad
-    c.in-Bad.is
-    (λ place. refl)

@@ -6,9 +6,9 @@ use lib.ListN.{length, take, drop, length-drop}
 use mathlib.Core.List.{[], ◌∷◌}
 use Rattle.rules.specs.Text.{fields_of, TAB}
 use Rattle.rules.proofs.TextLaws.{parted_some}
-use Rattle.text.proofs.FieldLaws.{Ends, field_ends, fields_last}
+use Rattle.text.proofs.FieldLaws.{Ends, field_ends, fields_last, no_field, some_field}
 use Rattle.rules.specs.Schema.{item_of}
-use Rattle.schema_text.specs.LineLaws.{last_field, field_before, type_line}
+use Rattle.schema_text.specs.LineLaws.{type_line}
 use lib.Seq.{length-take-le, take_all}
 use native.Mathlib.Nat.{sub-zero}
 use Rattle.schema_text.proofs.line.parse.Goals as goal
@@ -73,13 +73,13 @@ returns-then-is_letter c =
 pub returns-then-is_some : goal.returns-then-is_some
 unfolding item_of
 returns-then-is_some c =
-    let (end, found) = field_before _ (sym c.is_some.ensures ∙ c.if-is_some.true) in
+    let (end, found) = some_field _ (sym c.is_some.ensures ∙ c.if-is_some.true) in
     let rest = parted_some TAB (drop (end + 1) c.args.line.now) in
     rw (more_fields (goal.at.returns-then-is_some c).In-Some (word-ends (goal.at.returns-then-is_some c).In_ok-word_end), (field_ends c.args.line.now _ end _ c.field_end-3.ensures found).2, rest.2, sym c.is_letter.ensures ∙ c.if-is_letter.false)
 
 pub returns : goal.returns
 unfolding item_of
 returns c =
-    let alone = last_field _ (sym c.is_some.ensures ∙ c.if-is_some.false) in
+    let alone = no_field _ (sym c.is_some.ensures ∙ c.if-is_some.false) in
     c.pair.ensures
     ∙ sym (rw (more_fields (goal.at.returns c).In-Some (word-ends (goal.at.returns c).In_ok-word_end), fields_last c.args.line.now _ _ c.field_end-3.ensures alone, sym c.is_letter.ensures ∙ c.if-is_letter.false))
