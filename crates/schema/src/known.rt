@@ -7,7 +7,7 @@ ghost use Rattle.schema.specs.Bounds.{known_for, Bounded};
 use crate::item::Item;
 
 // The section and what its next line may be, the number of types, and what the next attribute may be.
-#[derive(Clone, Copy)]
+#[derive(Clone, Copy, PartialEq, Eq, Debug, Default)]
 pub struct Known {
     pub section: u64,
     pub lines: u64,
@@ -64,15 +64,7 @@ impl Known {
     pub fn new() -> Known
         ensures { known_for result ≡ unknown }
     {
-        Known {
-            section: 0,
-            lines: 0,
-            least: 0,
-            types: 0,
-            room: 0,
-            field: 0,
-            bound: 0,
-        }
+        Known::default()
     }
 
     // The same in a section, at its start where it is a later one.
@@ -84,12 +76,8 @@ impl Known {
         }
         Known {
             section,
-            lines: 0,
-            least: 0,
             types: self.types,
-            room: 0,
-            field: 0,
-            bound: 0,
+            ..Known::default()
         }
     }
 
@@ -152,13 +140,9 @@ impl Known {
     {
         if item.tag == Item::ATTRIBUTE_LINE {
             return Known {
-                section: self.section,
-                lines: self.lines,
-                least: self.least,
-                types: self.types,
                 room: self.room - 1,
                 field: item.key + 1,
-                bound: self.bound,
+                ..self
             };
         }
         let section = section_of(item.tag);

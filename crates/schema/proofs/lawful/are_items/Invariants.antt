@@ -1,7 +1,5 @@
-use Prim.Native.Nat.{◌-◌}
 use Rattle.schema.specs.Bounds.{known_for}
 use Rattle.schema.specs.ItemLaws.{ItemsJudged}
-use lib.ListN.{length}
 use Rattle.schema.proofs.lawful.are_items.Given as goal
 
 abbrev pub invariant-loop-word : goal.invariant-loop-word

@@ -9,5 +9,5 @@ returns-then-self-section c =
 
 pub returns : goal.returns
 returns c =
-    let a = c.args in
-    rw (ne_eqb a.self.section a.section c.if-self-section.false)
+    let (_, (lines, (least, (_, (room, (field, bound)))))) = c.default.ensures in
+    rw (ne_eqb c.args.self.section c.args.section c.if-self-section.false, lines, least, room, field, bound)
