@@ -1,5 +1,5 @@
 -- Laws of the merge over words: of the set that the pass is inside, of each turn, and of the pass under way. No contract cites this file.
-use Rattle.std.specs.Prelude.{ℕ, zero, suc, ◌+◌, ◌≤◌, ◌<◌, ◌≡◌, refl, true, false, ◌&&◌, List, [], ◌∷◌, ◌++◌, map, eqb, length, drop, get_or, set}
+use Rattle.std.specs.Prelude.{ℕ, ◌+◌, ◌≤◌, ◌<◌, ◌≡◌, refl, true, false, ◌&&◌, List, [], ◌∷◌, ◌++◌, map, eqb, length, drop, get_or, set}
 use Rattle.std.proofs.Common.{le_refl, add-one, arith, sym, ap, ◌∙◌, lt-ltb, le-ltb, eq-eqb, ne_eqb, eqb-true, length-append, drop_of_length-le, drop-cons}
 use Rattle.std.proofs.lemmas.Bool.{not-true, not-false}
 use Rattle.std.proofs.Math.Bool.{not}
@@ -19,6 +19,7 @@ use Rattle.values.specs.ValueWords.{depth_from, key_from, kind_from, number_from
 use Rattle.values.specs.ValueWordLaws.{word_again}
 use Rattle.merging.specs.Merges.{inside_in, order_of, Chosen, alone_turn, rest_of, RowsTaken, MergeTurned, MergedInto, merged_entity_rows}
 use Rattle.merging.specs.declared.Turn.{Turn}
+use Rattle.std.specs.Option.{is_some}
 use Rattle.std.specs.Ordering.{MatchOrdering, ordering_then}
 use Rattle.std.specs.declared.cmp.Ordering.{Ordering}
 use Rattle.std.specs.declared.cmp.Ordering.TheVariants.{Less, Equal, Greater}
@@ -34,28 +35,28 @@ words_same (x ∷ xs) (y ∷ ys) = ap (λ more. eqb x y && more) (words_same xs 
 -- ---- the set that the pass is inside
 
 -- a row no deeper than the set ends it, and a deeper one stays inside
-pub inside_ended : (inside word : ℕ) → depth_from word < inside → none ≡ inside_at (inside_in inside) (value_row_in word)
-inside_ended zero word h = refl
-inside_ended (suc depth) word h = rw (le-ltb depth (depth_from word) (omega arith))
+pub inside_ended : (depth word : ℕ) {inside : Maybe ℕ} → inside ≡ Some depth → depth_from word ≤ depth → none ≡ inside_at (inside_in inside) (value_row_in word)
+inside_ended depth word e h = rw (e, le-ltb depth (depth_from word) h)
 
-pub inside_kept : (inside word : ℕ) → inside ≤ depth_from word → inside_in inside ≡ inside_at (inside_in inside) (value_row_in word)
-inside_kept zero word h = refl
-inside_kept (suc depth) word h = rw (lt-ltb depth (depth_from word) (omega arith))
+pub inside_kept : (depth word : ℕ) {inside : Maybe ℕ} → inside ≡ Some depth → depth < depth_from word → inside_in inside ≡ inside_at (inside_in inside) (value_row_in word)
+inside_kept depth word e h = rw (e, lt-ltb depth (depth_from word) h)
 
 -- inside a set none is opened, and outside one a set's row opens it
-pub opened_inside : (here word : ℕ) {now : Option ℕ} → inside_in here ≡ now → 0 < here → inside_in here ≡ opened now (value_row_in word)
-opened_inside zero word e h = absurd (omega arith)
-opened_inside (suc depth) word e h = rw (← e)
+pub opened_inside : (here : Maybe ℕ) (word : ℕ) {now : Option ℕ} → inside_in here ≡ now → is_some here ≡ true → inside_in here ≡ opened now (value_row_in word)
+opened_inside None word e h = let z : ◌≡◌ {A = ℕ} 0 1 = cc in absurd (omega arith)
+opened_inside (Some depth) word e h = rw (← e)
 
 pub opened_set :
-    (here word : ℕ) {now : Option ℕ} → inside_in here ≡ now → here ≤ 0 → kind_from word ≡ 3 → inside_in (depth_from word + 1) ≡ opened now (value_row_in word)
-opened_set zero word e h k = rw (← e, add-one, eq-eqb (kind_from word) 3 k)
-opened_set (suc depth) word e h k = absurd (omega arith)
+    (here : Maybe ℕ) (word : ℕ) {now : Option ℕ}
+    → inside_in here ≡ now → is_some here ≡ false → kind_from word ≡ 3 → some (depth_from word) ≡ opened now (value_row_in word)
+opened_set None word e h k = rw (← e, eq-eqb (kind_from word) 3 k)
+opened_set (Some depth) word e h k = let z : ◌≡◌ {A = ℕ} 0 1 = cc in absurd (omega arith)
 
 pub opened_none :
-    (here word : ℕ) {now : Option ℕ} → inside_in here ≡ now → here ≤ 0 → (kind_from word ≡ 3 → ⊥) → none ≡ opened now (value_row_in word)
-opened_none zero word e h k = rw (← e, ne_eqb (kind_from word) 3 k)
-opened_none (suc depth) word e h k = absurd (omega arith)
+    (here : Maybe ℕ) (word : ℕ) {now : Option ℕ}
+    → inside_in here ≡ now → is_some here ≡ false → (kind_from word ≡ 3 → ⊥) → none ≡ opened now (value_row_in word)
+opened_none None word e h k = rw (← e, ne_eqb (kind_from word) 3 k)
+opened_none (Some depth) word e h k = let z : ◌≡◌ {A = ℕ} 0 1 = cc in absurd (omega arith)
 
 -- ---- two rows at one depth with one key
 
@@ -118,37 +119,40 @@ module _ (left right : List ℕ) (i j : ℕ) where
       go second says = (k, rw (rest_rows left i h) says)
       go same says = (h, k, says.depths, says.steps)
 
--- a row alone: by the set that the pass is inside, as a number
-pub alone_outside : (here word i j : ℕ) {now : Option ℕ} → inside_in here ≡ now → here ≡ 0 → ◌≡◌ {A = Maybe Turn} (Some (record { word = word; left = i; right = j; inside = 0 })) (alone_turn word i j now)
-alone_outside zero word i j e h = rw (← e)
-alone_outside (suc here) word i j e h = absurd (omega arith)
+-- a row alone: by the set that the pass is inside
+pub alone_outside :
+    (here : Maybe ℕ) (word i j : ℕ) {now : Option ℕ}
+    → inside_in here ≡ now → is_some here ≡ false
+    → ◌≡◌ {A = Maybe Turn} (Some (record { word = word; left = i; right = j; inside = None })) (alone_turn word i j now)
+alone_outside None word i j e h = rw (← e)
+alone_outside (Some depth) word i j e h = let z : ◌≡◌ {A = ℕ} 0 1 = cc in absurd (omega arith)
 
-pub alone_inside : (here word i j : ℕ) {now : Option ℕ} → inside_in here ≡ now → (here ≡ 0 → ⊥) → None ≡ alone_turn word i j now
-alone_inside zero word i j e h = absurd (h refl)
-alone_inside (suc here) word i j e h = rw (← e)
+pub alone_inside : (here : Maybe ℕ) (word i j : ℕ) {now : Option ℕ} → inside_in here ≡ now → is_some here ≡ true → None ≡ alone_turn word i j now
+alone_inside None word i j e h = let z : ◌≡◌ {A = ℕ} 0 1 = cc in absurd (omega arith)
+alone_inside (Some depth) word i j e h = rw (← e)
 
 -- ---- a turn
 
-module _ (left right : List ℕ) (i j inside : ℕ) (in_left : i ≤ length left) (in_right : j ≤ length right) where
+module _ (left right : List ℕ) (i j : ℕ) (inside : Maybe ℕ) (in_left : i ≤ length left) (in_right : j ≤ length right) where
   -- a row that one run alone has
   turned_alone :
       (word i' j' : ℕ)
       → i' ≤ length left
       → j' ≤ length right
       → i + j < i' + j'
-      → rest_of left right i j inside ≡ alone_row (inside_in inside) (value_row_in word) (rest_of left right i' j' 0)
+      → rest_of left right i j inside ≡ alone_row (inside_in inside) (value_row_in word) (rest_of left right i' j' None)
       → MergeTurned left right i j inside (alone_turn word i' j' (inside_at (inside_in inside) (value_row_in word)))
   turned_alone word i' j' in-left' in-right' more turn =
       by_option (inside_at (inside_in inside) (value_row_in word))
       (λ e.
       rw e
       (record {
-        rows = turn ∙ alone_taken (inside_in inside) (value_row_in word) (rest_of left right i' j' 0) e;
+        rows = turn ∙ alone_taken (inside_in inside) (value_row_in word) (rest_of left right i' j' None) e;
         in_left = in-left';
         in_right = in-right';
         more = more;
       }))
-      (λ s e. rw e (turn ∙ alone_none (inside_in inside) (value_row_in word) (rest_of left right i' j' 0) s e))
+      (λ s e. rw e (turn ∙ alone_none (inside_in inside) (value_row_in word) (rest_of left right i' j' None) s e))
 
   -- the left run, and the right run
   pub turned_left : Chosen left right i j Less → MergeTurned left right i j inside (alone_turn (get_or left i 0) (i + 1) j (inside_at (inside_in inside) (value_row_in (get_or left i 0))))
@@ -173,7 +177,7 @@ module _ (left right : List ℕ) (i j inside : ℕ) (in_left : i ≤ length left
 
   -- one word on both sides
   pub turned_both :
-      (inside' : ℕ)
+      (inside' : Maybe ℕ)
       → Chosen left right i j Equal
       → get_or left i 0 ≡ get_or right j 0
       → inside_in inside' ≡ inside_after (inside_in inside) (value_row_in (get_or left i 0))
@@ -193,7 +197,7 @@ module _ (left right : List ℕ) (i j inside : ℕ) (in_left : i ≤ length left
 -- ---- the pass under way
 
 -- words are written, i and j rows are passed, and what the pass gives for the rows that are left follows them
-pub record MergePassed (left right out : List ℕ) (to : ℕ) (out' : List ℕ) (i j inside at : ℕ) : Type 0 where
+pub record MergePassed (left right out : List ℕ) (to : ℕ) (out' : List ℕ) (i j : ℕ) (inside : Maybe ℕ) (at : ℕ) : Type 0 where
   pub in_left : i ≤ length left
   pub in_right : j ≤ length right
   pub words : List ℕ
@@ -203,7 +207,7 @@ pub record MergePassed (left right out : List ℕ) (to : ℕ) (out' : List ℕ) 
   pub wrote : Wrote out to words out' at
   pub few : length words ≤ i + j
 
-pub passing_begun : (left right out : List ℕ) (to : ℕ) → MergePassed left right out to out 0 0 0 to
+pub passing_begun : (left right out : List ℕ) (to : ℕ) → MergePassed left right out to out 0 0 None to
 passing_begun left right out to = record {
   in_left = omega arith;
   in_right = omega arith;
@@ -218,9 +222,9 @@ words_again : (words : List ℕ) → map value_word (value_rows_of words) ≡ wo
 words_again [] = refl
 words_again (w ∷ words) = rw (word_again w, words_again words)
 
-module _ {left right out out' : List ℕ} {to i j inside at : ℕ} (passing : MergePassed left right out to out' i j inside at) where
+module _ {left right out out' : List ℕ} {to i j : ℕ} {inside : Maybe ℕ} {at : ℕ} (passing : MergePassed left right out to out' i j inside at) where
   -- a turn writes its row
-  pub passing_more : {word i' j' inside' : ℕ} → RowsTaken left right i j inside word i' j' inside' → MergePassed left right out to (set out' at word) i' j' inside' (at + 1)
+  pub passing_more : {word i' j' : ℕ} {inside' : Maybe ℕ} → RowsTaken left right i j inside word i' j' inside' → MergePassed left right out to (set out' at word) i' j' inside' (at + 1)
   passing_more {word} {i'} {j'} {inside'} takes = record {
     in_left = takes.in_left;
     in_right = takes.in_right;

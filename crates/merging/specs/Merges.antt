@@ -1,5 +1,5 @@
 -- What a merge over words answers and writes (`merge_values`, `merge_entities`), and what each turn of its pass does.
-use Rattle.std.specs.Prelude.{ℕ, zero, suc, ◌+◌, ◌≤◌, ◌<◌, ◌≡◌, cond, List, map, length, take, drop, get_or}
+use Rattle.std.specs.Prelude.{ℕ, ◌+◌, ◌≤◌, ◌<◌, ◌≡◌, cond, List, map, length, take, drop, get_or}
 use Rattle.std.specs.Prelude.{Option as Maybe, Some, None}
 use Rattle.std.proofs.Math.Option.{Option, none, some}
 use Rattle.std.proofs.lemmas.List.Edits.{sets}
@@ -32,10 +32,10 @@ abbrev pub merged_entity_rows : List ℕ → List ℕ → List ℕ → List ℕ 
 merged_entity_rows left_parents left right_parents right =
     cond (same_list left_parents right_parents) (merge_rows none (value_rows_of left) (value_rows_of right)) none
 
--- The set that the pass is inside, as a number: 0 for none, and otherwise one more than the set's depth.
-abbrev pub inside_in : ℕ → Option ℕ
-inside_in zero = none
-inside_in (suc depth) = some depth
+-- The set that the pass is inside, by its depth.
+abbrev pub inside_in : Maybe ℕ → Option ℕ
+inside_in None = none
+inside_in (Some depth) = some depth
 
 -- how two rows are ordered, by which comes next
 abbrev pub order_of : Next → Ordering
@@ -55,20 +55,20 @@ Chosen left right i j Equal =
 
 -- A row that one side alone has is taken outside a set, and so many rows are passed then; inside one the two differ.
 abbrev pub alone_turn : ℕ → ℕ → ℕ → Option ℕ → Maybe Turn
-alone_turn word left right none = Some (record { word = word; left = left; right = right; inside = 0 })
+alone_turn word left right none = Some (record { word = word; left = left; right = right; inside = None })
 alone_turn word left right (some depth) = None
 
 -- what the pass gives for the rows that are left
-abbrev pub rest_of : List ℕ → List ℕ → ℕ → ℕ → ℕ → Option (List ValueRow)
+abbrev pub rest_of : List ℕ → List ℕ → ℕ → ℕ → Maybe ℕ → Option (List ValueRow)
 rest_of left right i j inside = merge_rows (inside_in inside) (value_rows_of (drop i left)) (value_rows_of (drop j right))
 
 -- A turn takes a row: it is in front of what the pass gives for the rows that are left then.
-pub record RowsTaken (left right : List ℕ) (i j inside word i' j' inside' : ℕ) : Type 0 where
+pub record RowsTaken (left right : List ℕ) (i j : ℕ) (inside : Maybe ℕ) (word i' j' : ℕ) (inside' : Maybe ℕ) : Type 0 where
   pub rows : rest_of left right i j inside ≡ onto_rows (value_row_in word) (rest_of left right i' j' inside')
   pub in_left : i' ≤ length left
   pub in_right : j' ≤ length right
   pub more : i + j < i' + j'
 
-abbrev pub MergeTurned : List ℕ → List ℕ → ℕ → ℕ → ℕ → Maybe Turn → Type 0
+abbrev pub MergeTurned : List ℕ → List ℕ → ℕ → ℕ → Maybe ℕ → Maybe Turn → Type 0
 MergeTurned left right i j inside (Some turn) = RowsTaken left right i j inside turn.word turn.left turn.right turn.inside
 MergeTurned left right i j inside None = rest_of left right i j inside ≡ none

@@ -17,31 +17,29 @@ struct Turn {
     word: u64,
     left: usize,
     right: usize,
-    inside: u64,
+    inside: Option<u64>,
 }
 
-// The set that the pass is inside at a row: 0 for none, and otherwise one more than the set's depth. A row no deeper than the set ends it.
-fn inside_at(inside: u64, row: ValueRow) -> u64
+// The set that the pass is inside at a row, by its depth. A row no deeper than the set ends it.
+fn inside_at(inside: Option<u64>, row: ValueRow) -> Option<u64>
     ensures { inside_in result ≡ inside_at (inside_in inside) (value_row_in row.word) }
 {
-    if row.depth() < inside {
-        return 0;
-    }
-    inside
+    let depth = inside?;
+    if depth < row.depth() { inside } else { None }
 }
 
 // The set that the pass is inside after a row that both have: a set's row opens that set, unless it lies inside one.
-fn inside_after(inside: u64, row: ValueRow) -> u64
+fn inside_after(inside: Option<u64>, row: ValueRow) -> Option<u64>
     ensures { inside_in result ≡ inside_after (inside_in inside) (value_row_in row.word) }
 {
     let here = inside_at(inside, row);
-    if 0 < here {
+    if here.is_some() {
         return here;
     }
     if row.kind() == ValueRow::SET {
-        return row.depth() + 1;
+        return Some(row.depth());
     }
-    0
+    None
 }
 
 // How two next rows are ordered: the deeper comes first, and at one depth the one with the smaller key.
@@ -67,22 +65,22 @@ fn next_order(left: &[u64], right: &[u64], i: usize, j: usize) -> Ordering
 }
 
 // A row that one side alone has is taken outside a set; inside one the two differ.
-fn take_alone(word: u64, left: usize, right: usize, inside: u64) -> Option<Turn>
+fn take_alone(word: u64, left: usize, right: usize, inside: Option<u64>) -> Option<Turn>
     ensures { result ≡ alone_turn word left right (inside_at (inside_in inside) (value_row_in word)) }
 {
-    if inside_at(inside, ValueRow { word }) == 0 {
-        return Some(Turn {
-            word,
-            left,
-            right,
-            inside: 0,
-        });
+    if inside_at(inside, ValueRow { word }).is_some() {
+        return None;
     }
-    None
+    Some(Turn {
+        word,
+        left,
+        right,
+        inside: None,
+    })
 }
 
 // A turn: the next row of either run, or of both where they have the same; none where the two differ.
-fn next_turn(left: &[u64], right: &[u64], i: usize, j: usize, inside: u64) -> Option<Turn>
+fn next_turn(left: &[u64], right: &[u64], i: usize, j: usize, inside: Option<u64>) -> Option<Turn>
     requires { (i ≤ length left.now) × (j ≤ length right.now) × (i + j < length left.now + length right.now) }
     ensures { MergeTurned left.now right.now i j inside result }
 {
@@ -112,7 +110,7 @@ pub fn merge_values(left: &[u64], right: &[u64], out: &mut [u64], to: usize) -> 
 {
     let mut i = 0;
     let mut j = 0;
-    let mut inside: u64 = 0;
+    let mut inside: Option<u64> = None;
     let mut at = to;
     while i + j < left.len() + right.len() {
         let turn = next_turn(left, right, i, j, inside)?;

@@ -3,11 +3,15 @@ use mathlib.Core.Path.{sym, ◌∙◌}
 use Rattle.merging.specs.MergeLaws.{opened_inside, opened_set, opened_none}
 use Rattle.merging.proofs.inside_after.Goals as goal
 
-pub returns-then-here-gt0 : goal.returns-then-here-gt0
-returns-then-here-gt0 c = opened_inside _ c.args.row.word c.inside_at-here.ensures c.if-here-gt0.true
+pub returns-then-is_some : goal.returns-then-is_some
+returns-then-is_some c = opened_inside _ c.args.row.word c.inside_at-here.ensures (sym c.is_some.ensures ∙ c.if-is_some.true)
 
 pub returns-then-kind-eq-SET : goal.returns-then-kind-eq-SET
-returns-then-kind-eq-SET c = rw c.depth.ensures (opened_set _ c.args.row.word c.inside_at-here.ensures c.if-here-gt0.false (sym c.kind.ensures ∙ c.if-kind-eq-SET.true))
+returns-then-kind-eq-SET c =
+    rw c.depth.ensures
+    (opened_set _ c.args.row.word c.inside_at-here.ensures (sym c.is_some.ensures ∙ c.if-is_some.false) (sym c.kind.ensures ∙ c.if-kind-eq-SET.true))
 
 pub returns : goal.returns
-returns c = opened_none _ c.args.row.word c.inside_at-here.ensures c.if-here-gt0.false (λ e. c.if-kind-eq-SET.false (c.kind.ensures ∙ e))
+returns c =
+    opened_none _ c.args.row.word c.inside_at-here.ensures (sym c.is_some.ensures ∙ c.if-is_some.false)
+    (λ e. c.if-kind-eq-SET.false (c.kind.ensures ∙ e))

@@ -3,8 +3,11 @@ use native.Mathlib.Omega.{arith}
 use Rattle.merging.specs.MergeLaws.{inside_ended, inside_kept}
 use Rattle.merging.proofs.inside_at.Goals as goal
 
-pub returns-then-depth-inside : goal.returns-then-depth-inside
-returns-then-depth-inside c = inside_ended c.args.inside c.args.row.word (omega (arith, c.if-depth-inside.true, c.depth.ensures))
+pub returns-in_err-depth : goal.returns-in_err-depth
+returns-in_err-depth c = rw (c.from_residual.ensures, c.in_err-depth.was)
 
-pub returns : goal.returns
-returns c = inside_kept c.args.inside c.args.row.word (omega (arith, c.if-depth-inside.false, c.depth.ensures))
+pub returns-then-depth : goal.returns-then-depth
+returns-then-depth c = inside_kept _ c.args.row.word c.in_ok-depth.was (omega (arith, c.depth.ensures))
+
+pub returns-else-depth : goal.returns-else-depth
+returns-else-depth c = inside_ended _ c.args.row.word c.in_ok-depth.was (omega (arith, c.depth.ensures))
