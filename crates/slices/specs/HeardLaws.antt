@@ -1,6 +1,8 @@
 -- Laws of rows and their answers in words. No contract cites this file.
 use Rattle.std.specs.Prelude.{ℕ, suc, ◌+◌, ◌%◌, ◌≤◌, ◌<◌, ◌≡◌, refl, ◌≢◌, true, false, cond, not, List, [], ◌∷◌, ◌++◌, eqb, length, drop, get_or}
 use Rattle.std.proofs.Common.{add-one, arith, sym, ap, ◌∙◌, drop_of_length-le, drop-cons}
+use Rattle.std.specs.Prelude.{Option as Maybe, Some, None}
+use Rattle.std.specs.Option.{is_some}
 use Rattle.std.proofs.Math.Option.{none, some}
 use Rattle.std.proofs.lemmas.Bool.{eqb-false, not-true}
 use Rattle.rules.specs.Facts.{by_test, both_true}
@@ -13,7 +15,7 @@ use Rattle.rules.proofs.SliceLaws.{answer_to, answers_to, answers_good as good-a
 use Rattle.values.specs.ValueWords.{row_asked}
 use Rattle.answers.specs.AnswerLaws.{set_ids}
 use Rattle.slices.specs.Slices.{entity_at, answer_in, rows_asked, answers_in, EntityStands, Heard, answers_for}
-use Rattle.slices.specs.Writing.{asks_for, answers_after, FirstAnswer}
+use Rattle.slices.specs.Writing.{asks_for, answers_after, FirstAnswer, AnswerFound}
 
 -- ---- a row and its answer
 
@@ -110,3 +112,12 @@ module _ {words rows places : List ℕ} {e from k : ℕ} (sofar : Passed words r
 -- the first answer is one
 pub first_some : {words rows places : List ℕ} {e k : ℕ} → FirstAnswer words rows places e 0 k → answers_for words rows places e ≢ []
 first_some found none_there = let n = ap length (sym found.answers ∙ none_there) in omega arith
+
+-- a search tells whether there is one
+pub answer_some : (words rows places : List ℕ) (e : ℕ) (r : Maybe ℕ) → AnswerFound words rows places e 0 r → is_some r ≡ true → answers_for words rows places e ≢ []
+answer_some words rows places e (Some k) found t = first_some found
+answer_some words rows places e None found t = let z : ◌≡◌ {A = ℕ} 0 1 = cc in absurd (omega arith)
+
+pub answer_none : (words rows places : List ℕ) (e : ℕ) (r : Maybe ℕ) → AnswerFound words rows places e 0 r → is_some r ≡ false → answers_for words rows places e ≡ []
+answer_none words rows places e (Some k) found t = let z : ◌≡◌ {A = ℕ} 0 1 = cc in absurd (omega arith)
+answer_none words rows places e None found t = found

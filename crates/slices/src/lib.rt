@@ -49,7 +49,7 @@ pub fn build_slice(
         let entity = sorted[from] % IDS;
         let behind = group_end(sorted, from);
         let group = &sorted[from..behind];
-        if let Some(_) = next_answer(words, group, places, entity, 0) {
+        if next_answer(words, group, places, entity, 0).is_some() {
             end = write_entity(
                 words, group, places, sets, set_places, entity, out, end, scratch,
             );

@@ -4,7 +4,7 @@ use borrow.Author.Rules.{rules}
 use mathlib.Core.Path.{refl, sym, ap, ◌∙◌}
 use lib.ListN.{length}
 use lib.Seq.{length-take-le}
-use Rattle.slices.specs.HeardLaws.{first_some}
+use Rattle.slices.specs.HeardLaws.{answer_some, answer_none}
 use Rattle.slices.specs.GroupLaws.{sorted_many, keys_sort, keys_sorted}
 use Rattle.slices.specs.BuildLaws.{fit_again, groups_none, groups_all, own_heard, groups_passed, group_counts, group_fit, groups_next}
 use Rattle.slices.proofs.build_slice.Goals as goal
@@ -51,19 +51,19 @@ next_answer-requires c = (rw c.loop-from.invariant.0 (own_heard (fit_again c.req
 
 pub write_entity-end-requires : goal.write_entity-end-requires
 write_entity-end-requires c =
-    rw c.loop-from.invariant.0 (group_fit (fit_again c.requires c.sort_keys.auto.spare) c.loop-from.invariant.2 (rw c.loop-from.invariant.0 at c.group_end-behind.ensures) (first_some (rw (c.loop-from.invariant.0, c.in-Some.is) at c.next_answer.ensures)))
+    rw c.loop-from.invariant.0 (group_fit (fit_again c.requires c.sort_keys.auto.spare) c.loop-from.invariant.2 (rw c.loop-from.invariant.0 at c.group_end-behind.ensures) (answer_some _ _ _ _ _ (rw c.loop-from.invariant.0 at c.next_answer.ensures) (sym c.is_some.ensures ∙ c.if-is_some.true)))
 
 pub overflow_add-count : goal.overflow_add-count
 overflow_add-count c = omega (arith, group_counts (fit_again c.requires c.sort_keys.auto.spare) c.loop-from.invariant.2 (rw c.loop-from.invariant.0 at c.group_end-behind.ensures))
 
-pub loop-from-smaller-in-Some : goal.loop-from-smaller-in-Some
-loop-from-smaller-in-Some c = omega (arith, c.loop-from-test.true, c.group_end-behind.ensures.some)
+pub loop-from-smaller-then-is_some : goal.loop-from-smaller-then-is_some
+loop-from-smaller-then-is_some c = omega (arith, c.loop-from-test.true, c.group_end-behind.ensures.some)
 
-pub loop-from-preserved-in-Some : goal.loop-from-preserved-in-Some
-loop-from-preserved-in-Some c = (
+pub loop-from-preserved-then-is_some : goal.loop-from-preserved-then-is_some
+loop-from-preserved-then-is_some c = (
   c.loop-from.invariant.0,
   c.loop-from.invariant.1,
-  groups_next (fit_again c.requires c.sort_keys.auto.spare) c.loop-from.invariant.2 (rw c.loop-from.invariant.0 at c.group_end-behind.ensures) (first_some (rw (c.loop-from.invariant.0, c.in-Some.is) at c.next_answer.ensures)) _ _ _ (search rules) (search rules) (rw c.loop-from.invariant.0 at c.write_entity-end.ensures),
+  groups_next (fit_again c.requires c.sort_keys.auto.spare) c.loop-from.invariant.2 (rw c.loop-from.invariant.0 at c.group_end-behind.ensures) (answer_some _ _ _ _ _ (rw c.loop-from.invariant.0 at c.next_answer.ensures) (sym c.is_some.ensures ∙ c.if-is_some.true)) _ _ _ (search rules) (search rules) (rw c.loop-from.invariant.0 at c.write_entity-end.ensures),
 )
 
 pub loop-from-smaller : goal.loop-from-smaller
@@ -73,7 +73,7 @@ pub loop-from-preserved : goal.loop-from-preserved
 loop-from-preserved c = (
   c.loop-from.invariant.0,
   c.loop-from.invariant.1,
-  groups_passed (fit_again c.requires c.sort_keys.auto.spare) c.loop-from.invariant.2 (rw c.loop-from.invariant.0 at c.group_end-behind.ensures) (rw (c.loop-from.invariant.0, c.in_default.is) at c.next_answer.ensures),
+  groups_passed (fit_again c.requires c.sort_keys.auto.spare) c.loop-from.invariant.2 (rw c.loop-from.invariant.0 at c.group_end-behind.ensures) (answer_none _ _ _ _ _ (rw c.loop-from.invariant.0 at c.next_answer.ensures) (sym c.is_some.ensures ∙ c.if-is_some.false)),
 )
 
 pub shape_of-out : goal.shape_of-out
