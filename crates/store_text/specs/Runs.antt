@@ -1,5 +1,14 @@
 -- The parts of a store's words, for the contracts of `runs`.
 use Rattle.std.specs.Prelude.{ℕ, suc, ◌/◌, ◌^◌, cond, List, [], ◌∷◌, ltb, eqb}
+use Rattle.store_text.specs.declared.runs.Part.{Part}
+use Rattle.store_text.specs.declared.runs.Part.TheVariants.{Own, Parents, Ancestors, Rows}
+
+-- the parts by their numbers
+abbrev pub part_number : Part → ℕ
+part_number Own = 0
+part_number Parents = 1
+part_number Ancestors = 2
+part_number Rows = 3
 
 -- which part a word is of: 0 the entity's own, 1 its parents', 2 its ancestors', 3 the rows of its attributes
 abbrev pub part_of : ℕ → ℕ

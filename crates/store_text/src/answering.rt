@@ -4,7 +4,7 @@ ghost use Rattle.rules.specs.MergeLaws.{IdsFrom};
 ghost use Rattle.words.specs.Runs.{Wrote};
 ghost use Rattle.store_text.specs.Answering.{id_in, among_of, FoundEntity, EntityAnswered, AnsweredRow, AnsweredAncestors};
 
-use crate::runs::{ANCESTORS, PARENTS, ROWS, run_end};
+use crate::runs::{Part, run_end};
 
 // Where the entity of an id stands: the place of its own word, if it is there. No word of a parent, an ancestor or a row is an id.
 fn find_entity(words: &[u64], id: u64) -> Option<usize>
@@ -31,9 +31,9 @@ fn write_entity(words: &[u64], at: usize, out: &mut [u64], to: usize) -> Option<
     ensures { EntityAnswered words.now at out.old to out.new result }
 {
     let parents = at + 1;
-    let ancestors = run_end(words, parents, PARENTS);
-    let rows = run_end(words, ancestors, ANCESTORS);
-    let end = run_end(words, rows, ROWS);
+    let ancestors = run_end(words, parents, Part::Parents);
+    let rows = run_end(words, ancestors, Part::Ancestors);
+    let end = run_end(words, rows, Part::Rows);
     let parent_count = ancestors - parents;
     let row_count = end - rows;
     if out.len() - to <= parent_count + row_count {
@@ -107,8 +107,8 @@ pub fn answer_ancestors(
         out[to] = 0;
         return Some(to + 1);
     };
-    let start = run_end(words, at + 1, PARENTS);
-    let end = run_end(words, start, ANCESTORS);
+    let start = run_end(words, at + 1, Part::Parents);
+    let end = run_end(words, start, Part::Ancestors);
     let behind = write_among(&words[start..end], asked, out, to + 1);
     out[to] = (behind - to - 1) as u64;
     Some(behind)
