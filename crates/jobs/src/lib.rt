@@ -33,9 +33,8 @@ pub fn refuse_text(
     refusal: Refusal,
     text: &[u8],
 ) -> Failure {
-    let Refusal { number, place } = refusal;
     refuse(line, i, |name| {
-        messages::say_refused(line.to.err, name, form, number, place, text)
+        messages::say_refused(line.to.err, name, form, refusal, text)
     })
 }
 
@@ -116,10 +115,9 @@ pub fn write_listing(to: To, kind: Kind, state: &[u64]) -> Result<(), Failure> {
 
 // Says that a node of a manifest cannot be typed, with its line in the manifest's listing.
 fn refuse_node(to: To, name: &[u8], manifest: &[u64], refusal: Refusal) -> Failure {
-    let Refusal { number, place } = refusal;
     let mut room = [0u8; LISTING];
     if let Ok(listing) = listing_of(Kind::Manifest, manifest, &mut room) {
-        messages::say_untyped(to.err, name, number, place, listing);
+        messages::say_untyped(to.err, name, refusal, listing);
     }
     Failure::Refused
 }

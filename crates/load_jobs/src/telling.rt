@@ -1,5 +1,5 @@
 // What comes of a load, and its refusal told.
-use entity_manifest::LoadReply;
+use entity_manifest::{LoadReply, Refusal};
 use files::{CommandLine, Failure, To};
 use load_log::write_line;
 
@@ -41,11 +41,14 @@ fn end_log(to: To, reply: LoadReply) -> Result<(), Failure> {
 fn say(line: CommandLine, word: usize, is_asking: bool, reply: LoadReply) {
     let err = line.to.err;
     let name = line.word(word);
-    let LoadReply::Refused(number, place) = reply else {
-        messages::say_unloaded(err, name.bytes(), 12, 0, is_asking);
-        return;
+    let refusal = match reply {
+        LoadReply::Refused(number, place) => Refusal { number, place },
+        LoadReply::Done(_, _, _) | LoadReply::Counted(_, _) => Refusal {
+            number: 12,
+            place: 0,
+        },
     };
-    messages::say_unloaded(err, name.bytes(), number, place, is_asking);
+    messages::say_unloaded(err, name.bytes(), refusal, is_asking);
 }
 
 // What a load comes to; a refusal ends its log, and is said.

@@ -4,6 +4,7 @@
 use files::{Stream, say, say_line, say_name, say_number};
 use forms::Form;
 use pieces::{Piece, depth_of, field_of, line_of, node_of};
+use words::Refusal;
 
 // As much of a line as a message shows.
 const SHOWN: usize = 80;
@@ -141,7 +142,8 @@ fn say_number_of(err: Stream, name: &[u8], number: u64) {
 }
 
 // `terbagyl: FILE: refused N at P (line L): what was expected; met LINE`
-pub fn say_refused(err: Stream, name: &[u8], form: Form, number: u64, place: u64, text: &[u8]) {
+pub fn say_refused(err: Stream, name: &[u8], form: Form, refusal: Refusal, text: &[u8]) {
+    let Refusal { number, place } = refusal;
     say_number_of(err, name, number);
     say(err, b" at ");
     say_number(err, place);
@@ -195,7 +197,8 @@ fn say_untypable(err: Stream, number: u64, node: &[u8]) {
 }
 
 // `terbagyl: NAME: refused N at P (line L): reason; met LINE under A LINE`: node P of a listing cannot be typed.
-pub fn say_untyped(err: Stream, name: &[u8], number: u64, place: u64, listing: &[u8]) {
+pub fn say_untyped(err: Stream, name: &[u8], refusal: Refusal, listing: &[u8]) {
+    let Refusal { number, place } = refusal;
     let node = node_of(listing, place);
     say_number_of(err, name, number);
     say(err, b" at ");
@@ -235,7 +238,8 @@ fn say_unloadable(err: Stream, number: u64, is_asking: bool) {
 }
 
 // `terbagyl: FILE: refused N at P: reason`: a load cannot go on for what FILE says.
-pub fn say_unloaded(err: Stream, name: &[u8], number: u64, place: u64, is_asking: bool) {
+pub fn say_unloaded(err: Stream, name: &[u8], refusal: Refusal, is_asking: bool) {
+    let Refusal { number, place } = refusal;
     say_number_of(err, name, number);
     say(err, b" at ");
     say_number(err, place);
