@@ -65,18 +65,16 @@ fn read_lines(text: &[u8], words: &mut [u64]) -> Result<usize, Refusal>
     let mut count: usize = 0;
     let mut at = 0;
     while at < text.len() {
+        let refusal = Refusal {
+            number: 1,
+            place: count as u64,
+        };
         let Line::Whole(end) = Line::at(text, at) else {
-            return Err(Refusal {
-                number: 1,
-                place: count as u64,
-            });
+            return Err(refusal);
         };
         let next = count + 1;
         let Some(word) = take_line(text, at, end, &words[1..next], least) else {
-            return Err(Refusal {
-                number: 1,
-                place: count as u64,
-            });
+            return Err(refusal);
         };
         words[next] = word;
         least = key_of(word) + 1;
