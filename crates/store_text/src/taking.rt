@@ -36,8 +36,7 @@ fn take_id(before: Standing, word: u64) -> Option<Standing>
     }
     Some(Standing {
         last: word,
-        next: before.next,
-        levels: before.levels,
+        ..before
     })
 }
 
@@ -52,8 +51,8 @@ fn take_attribute(before: Standing, row: ValueRow, levels: &mut [u64]) -> Option
     }
     Some(Standing {
         last: row.word,
-        next: before.next,
         levels: values::open_levels(levels, row),
+        ..before
     })
 }
 
