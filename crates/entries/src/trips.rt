@@ -29,7 +29,7 @@ fn bound_of(nodes: &[u64]) -> TripBound
         let row = Row { word: *word };
         let depth = row.depth();
         if depth <= primary {
-            let parts = StepParts::of(row.step());
+            let parts = StepParts::from(row.step());
             primary = depth;
             if depth == 1 || parts.kind == 0 {
                 primary = depth + 1;

@@ -51,7 +51,7 @@ fn write_entry(out: &mut [u8], at: usize, request: u64) -> usize
     requires { at + length (line_for (read 0 request false)) ≤ length out.old }
     ensures { Wrote out.old at (line_for (read 0 request false)) out.new result }
 {
-    let parts = RequestType::of(request);
+    let parts = RequestType::from(request);
     let principal = put_byte(out, at, b'A', text::TAB);
     let action = put_number(out, principal, parts.principal, text::TAB);
     let resource = put_number(out, action, parts.action, text::TAB);
@@ -63,7 +63,7 @@ fn write_node(out: &mut [u8], at: usize, depth: u64, step: u64, marked: bool) ->
     requires { (0 < depth) × (kind_of step ≤ 5) × (at + length (line_for (read depth step marked)) ≤ length out.old) }
     ensures { Wrote out.old at (line_for (read depth step marked)) out.new result }
 {
-    let parts = StepParts::of(step);
+    let parts = StepParts::from(step);
     let number = put_byte(out, at, b'N', text::TAB);
     let kind = put_number(out, number, depth, text::TAB);
     let id = put_byte(out, kind, letter(parts.kind), text::TAB);

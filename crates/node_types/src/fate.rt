@@ -33,7 +33,7 @@ fn has_fields(rows: &[u64], i: usize) -> bool
     if below.depth() != row.depth() + 1 {
         return false;
     }
-    StepParts::of(below.step()).kind == 0
+    StepParts::from(below.step()).kind == 0
 }
 
 impl SchemaTables<'_> {
@@ -47,7 +47,7 @@ impl SchemaTables<'_> {
         }
         let children = has_fields(rows, i);
         let step = Row { word: rows[i] }.step();
-        let parts = StepParts::of(step);
+        let parts = StepParts::from(step);
         if parts.kind == 0 {
             let number = self.field_type(request, above, parts.id);
             if number == 0 {
@@ -67,8 +67,8 @@ impl SchemaTables<'_> {
         ensures { result ≡ number_for (root_type (items_of self.now.words.now) request step) }
     {
         let words = self.words;
-        let action = RequestType::of(request).action;
-        let parts = StepParts::of(step);
+        let action = RequestType::from(request).action;
+        let parts = StepParts::from(step);
         let kind = parts.kind;
         let first = self.places.literals;
         let end = self.places.actions;

@@ -30,8 +30,8 @@ impl SchemaTables<'_> {
         ensures { ShapeAt self.now.words.now (shape_of (items_of self.now.words.now) request (number - 1)) result }
     {
         match number {
-            OF_PRINCIPAL => self.entity_shape(RequestType::of(request).principal),
-            OF_RESOURCE => self.entity_shape(RequestType::of(request).resource),
+            OF_PRINCIPAL => self.entity_shape(RequestType::from(request).principal),
+            OF_RESOURCE => self.entity_shape(RequestType::from(request).resource),
             _ => self.type_shape(number - 1),
         }
     }

@@ -38,7 +38,7 @@ fn put_enclosed(sink: &mut Sink, names: Names, words: &[u8], key: u64) -> Result
 
 // A request type.
 pub fn put_entry(sink: &mut Sink, names: Names, request: u64) -> Result<(), Failure> {
-    let parts = RequestType::of(request);
+    let parts = RequestType::from(request);
     put_named(sink, names, b"principal type ", parts.principal)?;
     put_named(sink, names, b", action ", ENTITIES + parts.action)?;
     put_named(sink, names, b", resource type ", parts.resource)
@@ -47,8 +47,8 @@ pub fn put_entry(sink: &mut Sink, names: Names, request: u64) -> Result<(), Fail
 // A step by its kind (docs/FORMS.md, 'Words'), with the name of its field or entity, or of the request's principal type, action or resource
 // type.
 fn put_step(sink: &mut Sink, names: Names, request: u64, step: u64) -> Result<(), Failure> {
-    let parts = StepParts::of(step);
-    let asked = RequestType::of(request);
+    let parts = StepParts::from(step);
+    let asked = RequestType::from(request);
     match parts.kind {
         0 => put_named(sink, names, b"field ", FIELDS + parts.id),
         1 => put_enclosed(sink, names, b"principal (", asked.principal),
@@ -69,7 +69,7 @@ fn put_mark(sink: &mut Sink) -> Result<(), Failure> {
 
 // Whether a node enters an ancestors trie: it is a root below depth 1, and no field.
 pub fn is_ancestors(row: Row) -> bool {
-    1 < row.depth() && StepParts::of(row.step()).kind != 0
+    1 < row.depth() && StepParts::from(row.step()).kind != 0
 }
 
 // A node: whether it enters an ancestors trie, its step, and its mark.

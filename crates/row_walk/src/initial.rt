@@ -24,12 +24,12 @@ pub struct Request {
 fn entity_named(request: Request, step: u64) -> u64
     ensures { result ≡ entity_named (request_with request []) step }
 {
-    let parts = StepParts::of(step);
+    let parts = StepParts::from(step);
     if parts.kind == 1 {
         return request.principal;
     }
     if parts.kind == 2 {
-        return RequestType::of(request.triple).action;
+        return RequestType::from(request.triple).action;
     }
     if parts.kind == 3 {
         return request.resource;
@@ -48,7 +48,7 @@ fn asks(row: Row, depth: u64) -> bool
     if there - 1 != depth {
         return false;
     }
-    let kind = StepParts::of(row.step()).kind;
+    let kind = StepParts::from(row.step()).kind;
     if kind == 0 {
         return false;
     }
@@ -66,7 +66,7 @@ pub fn context_root(nodes: &[u64], from: usize, depth: u64) -> usize
             return nodes.len();
         }
         if there - 1 == depth {
-            if StepParts::of(row.step()).kind == 4 {
+            if StepParts::from(row.step()).kind == 4 {
                 return i;
             }
         }

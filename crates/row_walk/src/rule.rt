@@ -79,7 +79,7 @@ pub fn find_remaining_entities_value(
         return Rule::Kept(None);
     };
     let row = Row { word: nodes[node] };
-    let step = StepParts::of(row.step());
+    let step = StepParts::from(row.step());
     if step.kind != 0 {
         return Rule::Kept(None);
     }

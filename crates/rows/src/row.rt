@@ -39,8 +39,8 @@ pub struct RequestType {
     pub resource: u64,
 }
 
-impl RequestType {
-    pub fn of(request: u64) -> RequestType
+impl From<u64> for RequestType {
+    fn from(request: u64) -> RequestType
         ensures { (result.principal ≡ principal_of request) × (result.action ≡ action_of request) × (result.resource ≡ resource_of request) }
     {
         RequestType {
@@ -58,8 +58,8 @@ pub struct StepParts {
     pub id: u64,
 }
 
-impl StepParts {
-    pub fn of(step: u64) -> StepParts
+impl From<u64> for StepParts {
+    fn from(step: u64) -> StepParts
         ensures { (result.kind ≡ kind_of step) × (result.id ≡ id_of step) }
     {
         StepParts {

@@ -40,7 +40,7 @@ loop-word-preserved c =
           let kept_field : 2 ≤ depth_in word → is_field (step_in word) ≡ true = λ deep.
           elim w.then-depth-eq1.branch [
             | then-depth-eq1-via-then-depth-eq1 v ↦ absurd (omega (arith, c.depth-depth.ensures))
-            | then-depth-eq1-via-else-depth-eq1+then-parts-eq0 v ↦ rw (← w.step.ensures, ← w.of-parts.ensures.0) (eq-eqb _ 0 v.if-parts-eq0.true)
+            | then-depth-eq1-via-else-depth-eq1+then-parts-eq0 v ↦ rw (← w.step.ensures, ← w.from-parts.ensures.0) (eq-eqb _ 0 v.if-parts-eq0.true)
           ] in (
             omega arith,
             λ request h.
@@ -51,7 +51,7 @@ loop-word-preserved c =
         omega arith,
         λ request h.
             rw (w.primary-is, w.rows-is, w.batches-is, c.depth-depth.ensures)
-            (bounding_other (next request h) (omega arith) (λ e. w.if-depth-eq1.false (c.depth-depth.ensures ∙ e)) (rw (← w.step.ensures, ← w.of-parts.ensures.0) (ne_eqb _ 0 w.if-parts-eq0.false))),
+            (bounding_other (next request h) (omega arith) (λ e. w.if-depth-eq1.false (c.depth-depth.ensures ∙ e)) (rw (← w.step.ensures, ← w.from-parts.ensures.0) (ne_eqb _ 0 w.if-parts-eq0.false))),
       )
       | else-depth-primary w ↦ (omega arith, λ request h. rw (w.primary-is, w.rows-is, w.batches-is) (bounding_below (next request h) (omega arith)))
     ]

@@ -14,6 +14,6 @@ returns-then-depth c =
 
 pub returns : goal.returns
 returns c =
-    rw (c.of.ensures.0, c.step.ensures)
+    rw (c.from.ensures.0, c.step.ensures)
     (fields_kind c.args.rows.now c.args.i c.if-rows-next.false
     (sym c.depth.ensures ∙ c.if-depth.false ∙ ap (λ d. d + 1) c.depth-2.ensures))

@@ -4,7 +4,7 @@ use mathlib.Core.Path.{refl, ap, ◌∙◌}
 use Rattle.rules.specs.Tries.{kind_of}
 use Rattle.row_walk.specs.InitialLaws.{context_none, context_above, context_here, context_other, context_deeper}
 use Rattle.row_walk.proofs.initial.context_root.Goals as goal
-use Rattle.row_walk.proofs.initial.context_root.Goals.{else-there-depth-2, then-there-depth-2+else-of-eq4}
+use Rattle.row_walk.proofs.initial.context_root.Goals.{else-there-depth-2, then-there-depth-2+else-from-eq4}
 
 pub loop-i-init : goal.loop-i-init
 loop-i-init c = λ run. refl
@@ -13,16 +13,16 @@ pub returns-then-there-depth : goal.returns-then-there-depth
 returns-then-there-depth c =
     context_above c.args.nodes.now c.args.depth c.args.from c.loop-i.i c.loop-i.invariant c.loop-i-test.true (omega arith)
 
-pub returns-then-of-eq4 : goal.returns-then-of-eq4
-returns-then-of-eq4 c =
+pub returns-then-from-eq4 : goal.returns-then-from-eq4
+returns-then-from-eq4 c =
     context_here c.args.nodes.now c.args.depth c.args.from c.loop-i.i c.loop-i.invariant c.loop-i-test.true (omega arith) (omega arith)
-    (rw (← c.step.ensures, ← c.of.ensures.0) c.if-of-eq4.true)
+    (rw (← c.step.ensures, ← c.from.ensures.0) c.if-from-eq4.true)
 
 pub loop-i-preserved : goal.loop-i-preserved
 loop-i-preserved c =
     elim c.if-there-depth-2.branch [
-      | then-there-depth-2+else-of-eq4 w ↦ context_other c.args.nodes.now c.args.depth c.args.from c.loop-i.i c.loop-i.invariant c.loop-i-test.true (omega arith)
-          (λ e. w.if-of-eq4.false (w.of.ensures.0 ∙ ap kind_of w.step.ensures ∙ e))
+      | then-there-depth-2+else-from-eq4 w ↦ context_other c.args.nodes.now c.args.depth c.args.from c.loop-i.i c.loop-i.invariant c.loop-i-test.true (omega arith)
+          (λ e. w.if-from-eq4.false (w.from.ensures.0 ∙ ap kind_of w.step.ensures ∙ e))
       | else-there-depth-2 w ↦ context_deeper c.args.nodes.now c.args.depth c.args.from c.loop-i.i c.loop-i.invariant c.loop-i-test.true (omega arith) (λ e. omega arith)
     ]
 

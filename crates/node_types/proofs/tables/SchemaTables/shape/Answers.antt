@@ -9,7 +9,7 @@ returns-in-1025 c =
     let args = c.args in
     rw (
       shape_principal (items_of args.self.now.words.now) args.request args.number c.in-1025.is,
-      ← c.of.ensures.0,
+      ← c.from.ensures.0,
     )
     c.entity_shape.ensures
 
@@ -18,7 +18,7 @@ returns-in-1026 c =
     let args = c.args in
     rw (
       shape_resource (items_of args.self.now.words.now) args.request args.number c.in-1026.is,
-      ← c.of-in-1026.ensures.2,
+      ← c.from-in-1026.ensures.2,
     )
     c.entity_shape-in-1026.ensures
 
