@@ -1,12 +1,11 @@
 -- The rows of a batch as structs: what `load_batch_rows` answers and leaves.
-use Rattle.std.specs.Prelude.{ℕ, ◌≤◌, ◌≡◌, cond, List, [], map, ◌++◌, leb, length, take, drop, replicate}
+use Rattle.std.specs.Prelude.{ℕ, ◌≡◌, cond, List, [], map, ◌++◌, leb, length, take, drop, replicate}
 use Rattle.values.specs.ValueWords.{row_asked}
 use Rattle.values.specs.declared.request.EntityRequest.{EntityRequest}
 use Rattle.load_state.specs.Outcomes.{HandedOut, refusing_out}
 use Rattle.load_state.specs.declared.LoadReply.{LoadReply}
 use Rattle.load_state.specs.declared.LoadReply.TheVariants.{Done, Refused, Counted}
 use Rattle.load_batch.specs.Handing.{batch_words, batch_in}
-use Rattle.batch_rows.specs.declared.handing.Batch.{Batch}
 
 -- the row that a word is, as its struct
 abbrev pub request_of : ℕ → EntityRequest
@@ -48,11 +47,3 @@ batch_rows_in state out = lent_rows (handed_in state (length out)) out
 
 abbrev pub RowsAs : RowsOut → LoadReply → List ℕ → List EntityRequest → Type 0
 RowsAs outcome reply state out = (reply ≡ outcome.reply) × (state ≡ outcome.state) × (out ≡ outcome.out)
-
--- a batch by value is what is handed out, within its own rows and the room
-pub record BatchOf (handed : HandedOut) (room : ℕ) (batch : Batch) (state : List ℕ) : Type 0 where
-  pub replied : batch.reply ≡ handed.reply
-  pub stored : state ≡ handed.state
-  pub rows_are : take batch.count batch.rows ≡ rows_in handed
-  pub within : batch.count ≤ length batch.rows
-  pub room_for : batch.count ≤ room

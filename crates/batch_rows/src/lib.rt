@@ -1,7 +1,6 @@
 // The rows of a batch as structs, each an entity and its node, in a slice that the caller lends.
 #![tactic(auto)]
 
-mod handing;
 mod lent;
 
-pub use lent::{AskedRows, ask_rows, load_batch_rows};
+pub use lent::load_batch_rows;

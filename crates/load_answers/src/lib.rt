@@ -1,61 +1,44 @@
-// What stores answer to a load: row and request of one number by one store, all stores in turn. Stores stand in words, their number first, each
-// in STORE words of its own (docs/FORMS.md, 'Store').
+// What stores answer to a load: row and request of one number by one store, all stores in turn.
 #![tactic(auto)]
 
-ghost use Rattle.std.specs.Prelude.{◌≡◌, ◌+◌, ◌<◌, ◌≤◌, length};
+ghost use Rattle.std.specs.Prelude.{◌<◌, ◌≤◌, length};
 
-use load_log::{BATCH, RequestPlace, count_of};
+use load_log::{RequestPlace, count_of};
 use values::EntityRequest;
 
-// How many stores may answer, the words of one, and those of all with their number.
+// How many stores may answer.
 pub const STORES: usize = 8;
 
+// The words of a store: its lines behind their count (docs/FORMS.md, 'Store').
 pub const STORE: usize = 16_385;
 
-pub const WORDS: usize = 131_081;
+pub type Store = [u64; STORE];
 
 // How many words a load takes in one call beside the count and the heads: more are refused with 15.
 const TAKEN: usize = 8_192;
 
 // Which store answers what is k behind the first.
-pub fn turn_of(stores: &[u64], first: u64, k: u64) -> usize
-    requires { length stores.now ≡ 131081 }
-    ensures { result < 8 }
+pub fn turn_of(stores: &[Store], first: u64, k: u64) -> usize
+    requires { 0 < length stores.now }
+    ensures { result < length stores.now }
 {
-    let n = stores[0];
-    if n == 0 {
-        return 0;
-    }
-    let turn = std::num::wrapping_add_u64(first, k) % n;
-    if turn < 8 {
-        return turn as usize;
-    }
-    0
-}
-
-// Where the words of a store begin.
-pub fn start_of(turn: usize) -> usize
-    requires { turn < 8 }
-    ensures { result + 16385 ≤ 131081 }
-{
-    1 + turn * STORE
+    (first.wrapping_add(k) % stores.len() as u64) as usize
 }
 
 // Whether so many answers, up to a place, are refused with 15, so that those behind them need say nothing, and all of them have room.
 fn is_enough(count: usize, at: usize) -> bool {
-    std::num::wrapping_add_usize(count, TAKEN + 1) < at
+    count.wrapping_add(TAKEN + 1) < at
 }
 
-// The end of a store's lines: behind its count and as many words.
-fn lines_end(store: &[u64]) -> usize
-    requires { length store.now ≡ 16385 }
-    ensures { (1 ≤ result) × (result ≤ 16385) }
+// The lines of a store: as many words as its count says.
+fn lines_of(store: &Store) -> &[u64]
+    ensures { length result.now ≤ 16384 }
 {
     let count = store[0];
     if 16_384 < count {
-        return 1;
+        return &[];
     }
-    count as usize + 1
+    &store[1..count as usize + 1]
 }
 
 // Puts the answer that an entity is absent, or an empty set, where there is room.
@@ -75,99 +58,80 @@ fn behind(put: Option<usize>, out: &mut [u64], at: usize) -> usize
     requires { at ≤ length out.old }
     ensures { result ≤ length out.new }
 {
-    let Some(next) = put else {
-        return put_nothing(out, at);
-    };
-    if out.len() < next {
-        return put_nothing(out, at);
+    match put {
+        Some(next) if next <= out.len() => next,
+        _ => put_nothing(out, at),
     }
-    next
 }
 
 // Puts a store's answer to a row, whose entity is below 65,536, or nothing where enough was said.
 fn answer_row(
-    store: &[u64],
+    store: &Store,
     row: EntityRequest,
     is_full: bool,
     answers: &mut [u64],
     at: usize,
 ) -> usize
-    requires { (length store.now ≡ 16385) × (at ≤ length answers.old) }
+    requires { at ≤ length answers.old }
     ensures { result ≤ length answers.new }
 {
     if is_full {
         return put_nothing(answers, at);
     }
-    let end = lines_end(store);
     let id = row.id % 0x1_0000;
-    let put = store_text::answer_row(&store[1..end], id, answers, at);
+    let put = store_text::answer_row(lines_of(store), id, answers, at);
     behind(put, answers, at)
 }
 
 // Answers the rows of a batch, before which `first` were asked for, behind their count.
-pub fn answer_rows(
-    stores: &[u64],
-    first: u64,
-    rows: [EntityRequest; BATCH],
-    count: usize,
-    answers: &mut [u64],
-)
-    requires { (length stores.now ≡ 131081) × (count ≤ 4096) × (1 ≤ length answers.old) }
+pub fn answer_rows(stores: &[Store], first: u64, rows: &[EntityRequest], answers: &mut [u64])
+    requires { (0 < length stores.now) × (1 ≤ length answers.old) }
 {
     let mut at = 1;
-    let mut i = 0;
-    while i < count {
-        let from = start_of(turn_of(stores, first, i as u64));
-        let end = from + STORE;
-        let is_full = is_enough(i, at);
-        at = answer_row(&stores[from..end], rows[i], is_full, answers, at);
-        i += 1;
+    for i in 0..rows.len() {
+        let store = &stores[turn_of(stores, first, i as u64)];
+        at = answer_row(store, rows[i], is_enough(i, at), answers, at);
     }
 }
 
 // Puts a store's answer to an ancestors request, or nothing where enough was said.
 fn answer_request(
-    store: &[u64],
+    store: &Store,
     id: u64,
     asked: &[u64],
     is_full: bool,
     sets: &mut [u64],
     at: usize,
 ) -> usize
-    requires { (length store.now ≡ 16385) × (id ≤ 65535) × (at ≤ length sets.old) }
+    requires { (id ≤ 65535) × (at ≤ length sets.old) }
     ensures { result ≤ length sets.new }
 {
     if is_full {
         return put_nothing(sets, at);
     }
-    let end = lines_end(store);
-    let put = store_text::answer_ancestors(&store[1..end], id, asked, sets, at);
+    let put = store_text::answer_ancestors(lines_of(store), id, asked, sets, at);
     behind(put, sets, at)
 }
 
 // Answers the ancestors requests, behind their count.
-pub fn answer_requests(stores: &[u64], requests: &[u64], sets: &mut [u64])
-    requires { (length stores.now ≡ 131081) × (4097 ≤ length requests.now) × (1 ≤ length sets.old) }
+pub fn answer_requests(stores: &[Store], requests: &[u64], sets: &mut [u64])
+    requires { (0 < length stores.now) × (4097 ≤ length requests.now) × (1 ≤ length sets.old) }
 {
     let count = count_of(requests);
     let mut at = 1;
     let mut ids = 1 + count;
-    let mut i = 0;
-    while i < count {
+    for i in 0..count {
         let request = RequestPlace::at(requests, i, ids);
         let stop = request.end;
-        let from = start_of(turn_of(stores, 0, i as u64));
-        let end = from + STORE;
-        let is_full = is_enough(i, at);
+        let store = &stores[turn_of(stores, 0, i as u64)];
         at = answer_request(
-            &stores[from..end],
+            store,
             request.id,
             &requests[ids..stop],
-            is_full,
+            is_enough(i, at),
             sets,
             at,
         );
         ids = stop;
-        i += 1;
     }
 }

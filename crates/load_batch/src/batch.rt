@@ -17,15 +17,13 @@ fn write_batch(rows: &[u64], first: u64, out: &mut [u64])
     requires by_index { (k : ℕ) → k < length rows.now → get_or rows.now k 0 < 2 ^ 32 }
     ensures { out.new ≡ sets out.old 0 (map (λ w. request_word (numbered first (row_asked w))) rows.now) }
 {
-    let mut i = 0;
-    while i < rows.len() {
+    for i in 0..rows.len() {
         let row = EntityRequest::of(rows[i]);
         let asked = EntityRequest {
             id: row.id,
             node: first + row.node,
         };
         out[i] = asked.word();
-        i += 1;
     }
 }
 

@@ -12,6 +12,7 @@ use crate::telling::tell;
 use crate::texts::{CONTEXT, read_request, read_stores};
 use files::{CommandLine, Failure};
 use jobs::{WORDS, load_listing};
+use load_answers::STORE;
 pub use load_answers::STORES;
 
 // `load MANIFEST REQUEST STORE...`: runs a load against the stores, and writes its log.
@@ -22,8 +23,8 @@ pub fn load(line: CommandLine) -> Result<(), Failure>
     load_listing(line, 2, &mut manifest)?;
     let mut context = [0u64; CONTEXT];
     let asked = read_request(line, &mut context)?;
-    let mut stores = [0u64; load_answers::WORDS];
-    stores[0] = (line.count - 4) as u64;
-    read_stores(line, &mut stores)?;
-    tell(line, run(line.to, asked, &manifest, &context, &stores))
+    let mut room = [[0u64; STORE]; STORES];
+    let stores = &mut room[..line.count - 4];
+    read_stores(line, stores)?;
+    tell(line, run(line.to, asked, &manifest, &context, stores))
 }

@@ -3,29 +3,38 @@ use entity_manifest::{LoadReply, Refusal};
 use files::{CommandLine, Failure, To};
 use load_log::write_line;
 
-// What came of a part of a load: it is done, or it ended with a failure that was told, or a call refused what a word of the command line names,
-// as it asked for ancestors or not.
+// Why a load ends early: a failure was told, or a call refused what a word of the command line names, as it asked for ancestors or not.
 #[derive(Drop)]
-pub enum Ran {
-    Done,
-    Ended(Failure),
-    Refused(usize, bool, LoadReply),
+pub enum Stop {
+    Told(Failure),
+    Refused {
+        word: usize,
+        is_asking: bool,
+        reply: LoadReply,
+    },
 }
 
-// What came of writing to the log.
-pub fn wrote(written: Result<(), Failure>) -> Ran {
-    match written {
-        Ok(()) => Ran::Done,
-        Err(failure) => Ran::Ended(failure),
+impl From<Failure> for Stop {
+    fn from(failure: Failure) -> Stop {
+        Stop::Told(failure)
+    }
+}
+
+// A refusal of what a word names, by a call that does not ask for ancestors.
+pub fn refused(word: usize, reply: LoadReply) -> Stop {
+    Stop::Refused {
+        word,
+        is_asking: false,
+        reply,
     }
 }
 
 // What came of a call that hands nothing out.
-pub fn called(word: usize, reply: LoadReply) -> Ran {
-    let LoadReply::Done(_, _, _) = reply else {
-        return Ran::Refused(word, false, reply);
-    };
-    Ran::Done
+pub fn called(word: usize, reply: LoadReply) -> Result<(), Stop> {
+    match reply {
+        LoadReply::Done(_, _, _) => Ok(()),
+        _ => Err(refused(word, reply)),
+    }
 }
 
 // Ends the log with the numbers of a refusal.
@@ -52,11 +61,17 @@ fn say(line: CommandLine, word: usize, is_asking: bool, reply: LoadReply) {
 }
 
 // What a load comes to; a refusal ends its log, and is said.
-pub fn tell(line: CommandLine, ran: Ran) -> Result<(), Failure> {
+pub fn tell(line: CommandLine, ran: Result<(), Stop>) -> Result<(), Failure> {
     match ran {
-        Ran::Done => Ok(()),
-        Ran::Ended(failure) => Err(failure),
-        Ran::Refused(word, is_asking, reply) => {
+        Ok(()) => Ok(()),
+        Err(Stop::Told(failure)) => Err(failure),
+        Err(
+            Stop::Refused {
+                word,
+                is_asking,
+                reply,
+            },
+        ) => {
             end_log(line.to, reply)?;
             say(line, word, is_asking, reply);
             Err(Failure::Refused)

@@ -1,10 +1,10 @@
 // The texts of a load, each read once.
-ghost use Rattle.std.specs.Prelude.{◌≡◌, ◌≤◌, length};
+ghost use Rattle.std.specs.Prelude.{◌<◌, length};
 
 use files::{CommandLine, Failure};
 use forms::Form;
 use jobs::read;
-use load_answers::{STORE, start_of};
+use load_answers::Store;
 use value_text::Request;
 
 // The words of a context.
@@ -24,14 +24,12 @@ fn read_store(line: CommandLine, i: usize, store: &mut [u64]) -> Result<(), Fail
     })
 }
 
-// Reads the stores that the words from 4 on name, one behind the other, behind their number.
-pub fn read_stores(line: CommandLine, stores: &mut [u64]) -> Result<(), Failure>
-    requires { (line.count ≤ 12) × (length stores.old ≡ 131081) }
+// Reads the stores that the words from 4 on name.
+pub fn read_stores(line: CommandLine, stores: &mut [Store]) -> Result<(), Failure>
+    requires { length stores.old < 16 }
 {
-    for i in 4..line.count {
-        let from = start_of(i - 4);
-        let end = from + STORE;
-        read_store(line, i, &mut stores[from..end])?;
+    for i in 0..stores.len() {
+        read_store(line, i + 4, &mut stores[i])?;
     }
     Ok(())
 }

@@ -8,5 +8,5 @@ mod slice;
 
 pub use crate::line::write_line;
 pub use crate::requests::{RequestPlace, count_of, write_requests};
-pub use crate::rows::{BATCH, write_batch};
+pub use crate::rows::write_batch;
 pub use crate::slice::write_slice;

@@ -2,6 +2,7 @@
 ghost use Rattle.std.specs.Prelude.{◌≤◌, ◌<◌, length};
 
 use crate::line::write_headed;
+use ancestors::AncestorsRequest;
 use files::{Failure, To};
 
 // Where an ancestors request stands: its entity, and where the ids that it asks for end.
@@ -17,18 +18,10 @@ impl RequestPlace {
         requires { (i < 4096) × (4097 ≤ length requests.now) × (from ≤ length requests.now) }
         ensures { (result.id ≤ 65535) × (from ≤ result.end) × (result.end ≤ length requests.now) }
     {
-        let head = requests[1 + i];
-        let id = head % 0x1_0000;
-        let ids = (head / 0x1_0000) as usize;
-        if requests.len() - from < ids {
-            return RequestPlace {
-                id,
-                end: requests.len(),
-            };
-        }
+        let head = AncestorsRequest::of(requests[1 + i]);
         RequestPlace {
-            id,
-            end: from + ids,
+            id: head.id,
+            end: from + head.count.min(requests.len() - from),
         }
     }
 }
@@ -51,13 +44,11 @@ pub fn write_requests(to: To, requests: &[u64]) -> Result<(), Failure>
 {
     let count = count_of(requests);
     let mut from = 1 + count;
-    let mut i = 0;
-    while i < count {
+    for i in 0..count {
         let request = RequestPlace::at(requests, i, from);
         let end = request.end;
         write_headed(to, b'K', request.id, &requests[from..end])?;
         from = end;
-        i += 1;
     }
     Ok(())
 }

@@ -2,24 +2,22 @@
 ghost use Rattle.std.specs.Prelude.{◌≤◌, length};
 
 use crate::line::write_line;
-use crate::rows::{Each, write_words};
+use crate::rows::{write_parents, write_values};
 use answers::{Head, Lending};
 use files::{Failure, To};
 
 // Writes an entity of a slice: its head's id, its parents and its attributes.
 fn write_entity(to: To, entity: &[u64]) -> Result<(), Failure> {
-    if entity.len() == 0 {
+    let Some((word, behind)) = entity.split_first() else {
         return Ok(());
-    }
-    let head = Head::of(entity[0]);
+    };
+    let head = Head::of(*word);
     write_line(to, b'E', &[head.flag])?;
-    let parents = head.parents;
-    if entity.len() - 1 < parents {
+    if behind.len() < head.parents {
         return Ok(());
     }
-    let from = parents + 1;
-    write_words(to, Each::Parent, &entity[1..from])?;
-    write_words(to, Each::Value, &entity[from..])
+    write_parents(to, &behind[..head.parents])?;
+    write_values(to, &behind[head.parents..])
 }
 
 // The end of the entity at a place of a slice: behind its head, its parents and its rows.
@@ -41,13 +39,11 @@ fn entity_end(slice: &[u64], at: usize) -> usize
 pub fn write_slice(to: To, slice: &[u64]) -> Result<(), Failure>
     requires { 1 ≤ length slice.now }
 {
-    let mut left = slice[0];
     let mut at = 1;
-    while 0 < left {
+    for _ in 0..slice[0] {
         let end = entity_end(slice, at);
         write_entity(to, &slice[at..end])?;
         at = end;
-        left -= 1;
     }
     Ok(())
 }

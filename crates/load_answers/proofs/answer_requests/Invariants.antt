@@ -1,9 +1,6 @@
 -- `load_answers::answer_requests` is safe: no set passes the end of what is lent.
-use Rattle.std.proofs.Common.{◌≡◌, ◌-◌, ◌≤◌, length}
+use Rattle.std.proofs.Common.{◌≡◌, ◌≤◌, length}
 use Rattle.load_answers.proofs.answer_requests.Given as goal
 
 abbrev pub invariant-loop-i : goal.invariant-loop-i
-invariant-loop-i l = (l.i ≤ l.count) × ((l.ids ≤ length l.requests) × ((l.at ≤ length l.sets) × (length l.sets ≡ length l.initial.sets)))
-
-abbrev pub decreases-loop-i : goal.decreases-loop-i
-decreases-loop-i l = l.count - l.i
+invariant-loop-i l = (l.ids ≤ length l.requests) × ((l.at ≤ length l.sets) × (length l.sets ≡ length l.initial.sets))

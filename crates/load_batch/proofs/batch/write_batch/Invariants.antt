@@ -12,6 +12,3 @@ invariant-loop-i l =
     (l.i ≤ length l.rows)
     × (length l.out ≡ length l.initial.out)
     × (l.out ≡ sets l.initial.out 0 (map (λ w. request_word (numbered l.first (row_asked w))) (take l.i l.rows)))
-
-abbrev pub decreases-loop-i : goal.decreases-loop-i
-decreases-loop-i l = length l.rows - l.i

@@ -1,4 +1,4 @@
--- `batch_rows::handing::count_of` meets its contract: only a reply that is done tells of rows.
+-- `batch_rows::lent::count_of` meets its contract: only a reply that is done tells of rows.
 use Prim.Native.Nat.{ℕ, ◌≤◌, ◌<◌}
 use mathlib.Core.Path.{◌≡◌, refl, sym, ap, ◌∙◌}
 use mathlib.Core.Bool.{Bool, cond}
@@ -6,7 +6,7 @@ use borrow.Author.Tests.{le-leb, lt-leb}
 use Rattle.load_state.specs.declared.LoadReply.{LoadReply}
 use Rattle.load_state.specs.declared.LoadReply.TheVariants.{Done, Refused, Counted}
 use Rattle.batch_rows.specs.Rows.{count_of, at_most}
-use Rattle.batch_rows.proofs.handing.count_of.Goals as goal
+use Rattle.batch_rows.proofs.lent.count_of.Goals as goal
 
 -- a refusal tells of none
 none_told : (told : LoadReply) → ((count batches rows : ℕ) → told ≡ Done count batches rows → ⊥) → 0 ≡ at_most 4096 (count_of told)
