@@ -15,18 +15,15 @@ use schema::Item;
 use words::search_key;
 
 // A type's place among the schema's words, and the depth and nodes of its trie, both stopping one past their limit.
-#[derive(Drop)]
+#[derive(Clone, Copy, PartialEq, Eq, Debug)]
 pub struct TypeSize {
     pub place: usize,
     pub depth: u64,
     pub nodes: u64,
 }
 
-impl TypeSize {
-    // As many types as a schema may have.
-    pub const TYPES: usize = 1_024;
-
-    fn of(word: u64) -> TypeSize
+impl From<u64> for TypeSize {
+    fn from(word: u64) -> TypeSize
         ensures { (result.place ≡ type_place word) × ((result.depth ≡ type_depth word) × (result.nodes ≡ type_nodes word)) }
     {
         TypeSize {
@@ -35,6 +32,11 @@ impl TypeSize {
             nodes: word % 0x1000,
         }
     }
+}
+
+impl TypeSize {
+    // As many types as a schema may have.
+    pub const TYPES: usize = 1_024;
 
     fn word(self) -> u64
         requires { (self.place < 262144) × ((self.depth < 256) × (self.nodes < 4096)) }
@@ -50,7 +52,7 @@ pub fn size_at(table: &[u64], t: u64) -> TypeSize
     ensures { (result.place ≡ type_place (get_or table.now t 0)) × ((result.depth ≡ type_depth (get_or table.now t 0)) × (result.nodes ≡ type_nodes (get_or table.now t 0))) }
 {
     let at = t as usize;
-    TypeSize::of(table[at])
+    TypeSize::from(table[at])
 }
 
 // Whether a word is an attribute.
