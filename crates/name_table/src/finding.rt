@@ -2,6 +2,7 @@
 ghost use Rattle.std.specs.Prelude.{◌≡◌, ◌≤◌, length};
 ghost use Rattle.name_table.specs.Outcomes.{name_found, Inside};
 
+use crate::named::Named;
 use words::search_key;
 
 // Where in the text the name of a key stands, from a place to another, if there is one. The key is 65,536 times a kind (0 entity type, 1
@@ -13,11 +14,10 @@ pub fn find_name(text: &[u8], names: &[u64], key: u64) -> Option<(usize, usize)>
     let (count, words) = names.split_first()?;
     let words = words.get(..*count as usize)?;
     let place = search_key(words, key).ok()?;
-    let word = words[place];
-    let from = (word % 0x1_0000) as usize;
-    let to = from + (word / 0x1_0000 % 0x100_0000) as usize;
+    let named = Named::of(words[place]);
+    let to = named.from + named.size;
     if text.len() < to {
         return None;
     }
-    Some((from, to))
+    Some((named.from, to))
 }

@@ -3,6 +3,7 @@
 
 mod finding;
 mod line;
+mod named;
 mod reading;
 
 pub use finding::find_name;

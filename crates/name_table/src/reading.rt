@@ -5,6 +5,7 @@ ghost use Rattle.name_table.specs.Words.{named_in};
 ghost use Rattle.name_table.specs.Outcomes.{took_naming, Long, names_got, line_count, read_names_in};
 
 use crate::line::parse;
+use crate::named::Named;
 use text::Line;
 use words::{Refusal, key_of};
 
@@ -18,16 +19,15 @@ fn is_same(text: &[u8], word: u64, kind: u64, name: &[u8]) -> bool
     requires { 0 < length name.now }
     ensures { result ≡ same_name text.now kind name.now (named_in word) }
 {
-    if key_of(word) / 0x1_0000 != kind {
+    let named = Named::of(word);
+    if named.key / 0x1_0000 != kind {
         return false;
     }
-    let size = (word / 0x1_0000 % 0x100_0000) as usize;
-    if size != name.len() {
+    if named.size != name.len() {
         return false;
     }
-    let from = (word % 0x1_0000) as usize;
-    let to = from + size;
-    to <= text.len() && &text[from..to] == name
+    let to = named.from + named.size;
+    to <= text.len() && &text[named.from..to] == name
 }
 
 // Whether a name of a kind stands among the words of earlier lines.
@@ -52,7 +52,12 @@ fn take_line(text: &[u8], at: usize, end: usize, words: &[u64], least: u64) -> O
     if is_taken(text, words, key / 0x1_0000, &text[from..end]) {
         return None;
     }
-    Some(from as u64 + (end - from) as u64 * 0x1_0000 + key * 0x100_0000_0000)
+    let named = Named {
+        key,
+        from,
+        size: end - from,
+    };
+    Some(named.word())
 }
 
 // Reads all lines of a text into words, from place 1 on, and answers how many.

@@ -52,9 +52,10 @@ bounds-words-place c =
 pub returns-then-text-to-clause-value : goal.returns-then-text-to-clause-value
 returns-then-text-to-clause-value c =
     let p = (goal.at.returns-then-text-to-clause-value c).In_ok-words in
-    no_place c.args.text.now c.args.names.now c.args.key (few p) (counted p) _ (searched-all (goal.at.returns-then-text-to-clause-value c).In_ok-place) c.if-text-to.true
+    no_place c.args.text.now c.args.names.now c.args.key (few p) (counted p) _ (searched-all (goal.at.returns-then-text-to-clause-value c).In_ok-place) (omega (arith, c.if-text-to.true, c.of-named.ensures))
 
 pub returns-clause-value : goal.returns-clause-value
 returns-clause-value c =
     let p = (goal.at.returns-clause-value c).In_ok-words in
-    at_place c.args.text.now c.args.names.now c.args.key (few p) (counted p) _ (searched-all (goal.at.returns-clause-value c).In_ok-place) c.if-text-to.false
+    rw (c.of-named.ensures.from, c.of-named.ensures.size)
+    (at_place c.args.text.now c.args.names.now c.args.key (few p) (counted p) _ (searched-all (goal.at.returns-clause-value c).In_ok-place) (omega (arith, c.if-text-to.false, c.of-named.ensures)))

@@ -49,21 +49,7 @@ pub returns-then-is_taken : goal.returns-then-is_taken
 returns-then-is_taken c =
     record { result_value = name_again c.args.text.now _ _ _ _ c.requires.0 c.requires.1 (parsed (goal.at.returns-then-is_taken c).In_ok-key) c.if-key-least.false (sym c.is_taken.ensures ∙ c.if-is_taken.true); long = tt }
 
-pub overflow_sub-result : goal.overflow_sub-result
-overflow_sub-result c = omega (arith, starts (goal.at.overflow_sub-result c).In_ok-key)
-
-pub overflow_mul-result : goal.overflow_mul-result
-overflow_mul-result c = omega (arith, starts (goal.at.overflow_mul-result c).In_ok-key, c.requires)
-
-pub overflow_add-result : goal.overflow_add-result
-overflow_add-result c = omega (arith, starts (goal.at.overflow_add-result c).In_ok-key, c.requires)
-
-pub overflow_mul-result-2 : goal.overflow_mul-result-2
-overflow_mul-result-2 c = omega (arith, (parsed (goal.at.overflow_mul-result-2 c).In_ok-key).small)
-
-pub overflow_add-result-2 : goal.overflow_add-result-2
-overflow_add-result-2 c = omega (arith, (parsed (goal.at.overflow_add-result-2 c).In_ok-key).small, starts (goal.at.overflow_add-result-2 c).In_ok-key, c.requires)
-
 pub returns : goal.returns
 returns c =
-    record { result_value = name_new c.args.text.now _ _ _ _ c.requires.0 c.requires.1 (parsed (goal.at.returns c).In_ok-key) c.if-key-least.false c.requires.2 (sym c.is_taken.ensures ∙ c.if-is_taken.false); long = omega (arith, (parsed (goal.at.returns c).In_ok-key).long, line_size c.args.text.now c.args.at c.args.end c.args.least (map named_in c.args.words.now) c.requires.0 c.requires.1) }
+    rw c.word.ensures
+    (record { result_value = name_new c.args.text.now _ _ _ _ c.requires.0 c.requires.1 (parsed (goal.at.returns c).In_ok-key) c.if-key-least.false c.requires.2 (sym c.is_taken.ensures ∙ c.if-is_taken.false); long = omega (arith, (parsed (goal.at.returns c).In_ok-key).long, line_size c.args.text.now c.args.at c.args.end c.args.least (map named_in c.args.words.now) c.requires.0 c.requires.1) })
