@@ -16,7 +16,8 @@ use Rattle.rows.specs.Words.{word_of}
 use Rattle.schema.specs.Items.{item_in, items_of, is_item, all_items, good_items}
 use Rattle.words.specs.Runs.{Wrote}
 use Rattle.words.specs.RunLaws.{wrote_length, wrote_more}
-use Rattle.type_table.specs.Tables.{type_rows, type_place, type_depth, type_nodes, TypeMeasured, Tabled, attribute_at}
+use Rattle.type_table.specs.Tables.{type_rows, type_place, type_depth, type_nodes, TypeMeasured, Tabled, KnownType, attribute_at}
+use Rattle.type_table.specs.declared.types.Types.{Types}
 
 -- Items.
 
@@ -400,3 +401,7 @@ module _ {words : List ℕ} {t place : ℕ} (here : TypeStands words t place) wh
 
   pub stands_attributes : attributes_at (items_of words) t ≡ attributes_of (items_of (drop (place + 1) words))
   stands_attributes = attributes-at (items_of words) t _ _ found_lines
+
+-- one of a schema's types
+pub known_type : (types : Types) {t : ℕ} → t < types.count → KnownType types.words.now types.table.now t
+known_type types h = record { types = rw types.good.all_types at types.good; known = omega (arith, types.good.all_types) }

@@ -10,6 +10,10 @@ ghost use Rattle.schema.specs.Items.{items_of, good_items};
 ghost use Rattle.words.specs.Runs.{Wrote};
 ghost use Rattle.type_table.specs.Tables.{size_word, type_place, type_depth, type_nodes, TypeMeasured, Tabled, attribute_at, type_rows, value_named};
 
+mod types;
+
+pub use types::Types;
+
 use rows::{Kind, Row};
 use schema::Item;
 use words::search_key;
