@@ -36,7 +36,7 @@ use Rattle.rules.specs.Paths.{
 use Rattle.rules.proofs.StepLaws.{AllPaths, Each, IsPath, grown_in, grown_stepped, each_append, each_split}
 use Rattle.words.specs.Runs.{Wrote}
 use Rattle.wrapped_paths.specs.declared.Moved.{Moved}
-use Rattle.wrapped_paths.specs.declared.Turn.TheVariants.{Next, SetDereferenced}
+use Rattle.std.specs.Prelude.{Some, None}
 use Rattle.wrapped_paths.specs.declared.WrappedAccessPaths.{WrappedAccessPaths}
 use Rattle.wrapped_paths.specs.declared.WrappedAccessPaths.TheVariants.{
   Empty as EmptyHead,
@@ -62,7 +62,7 @@ use Rattle.wrapped_paths.specs.Turns.{
   TurnRoom,
   Turned,
 }
-use Rattle.wrapped_paths.specs.CodeLaws.{field_paths, head_for, kind_small, kind_grown, ids_grown, path_back, codes_append, codes_fields, names_many, paths_within, code_turn, nodes_turn, nodes_words, Ahead, next_within, next_room, next_head_word, next_head, behind_word, stands_short, many_nodes, many_words, next_of, paths_at_append, within_append, places_few}
+use Rattle.wrapped_paths.specs.CodeLaws.{place_most, field_paths, head_for, kind_small, kind_grown, ids_grown, path_back, codes_append, codes_fields, names_many, paths_within, code_turn, nodes_turn, nodes_words, Ahead, next_within, next_room, next_head_word, next_head, behind_word, stands_short, many_nodes, many_words, next_of, paths_at_append, within_append, places_few}
 
 -- ---- one stands there
 
@@ -162,15 +162,6 @@ field_missing f (field name paths fields) h = go (eqb name f) (field_missing f f
     go : (same : Bool) → (name_place (names_in fields) f ≡ count_in fields → field_of f fields ≡ none) → cond same 0 (suc (name_place (names_in fields) f)) ≡ suc (count_in fields) → cond same (some paths) (field_of f fields) ≡ none
     go true more h = absurd (omega arith)
     go false more h = more (omega arith)
-
-pub place_most : (names : List ℕ) (f : ℕ) → name_place names f ≤ length names
-unfolding name_place
-place_most [] f = omega arith
-place_most (name ∷ names) f = go (eqb name f) (place_most names f)
-  where
-    go : (same : Bool) → name_place names f ≤ length names → cond same 0 (suc (name_place names f)) ≤ suc (length names)
-    go true h = omega arith
-    go false h = omega arith
 
 -- a record literal stands there
 pub record LiteralAt (words rest : List ℕ) (fields : Fields) (at count : ℕ) : Type 0 where
@@ -439,7 +430,7 @@ module _ {words out : List ℕ} {at f to : ℕ} (r : TurnRoom words at f out to)
 module _ (words out out' : List ℕ) (at f to : ℕ) (moved : Moved) where
   pub turned_empty :
       head_of (get_or words at 0) ≡ EmptyHead → TurnTook at (get_or words at 0 ∷ []) out to (get_or words at 0 ∷ []) out' moved
-      → Turned words at f out to out' (Next moved)
+      → Turned words at f out to out' (Some moved)
   unfolding read_at written_for code
   turned_empty said took q rest e =
       let head : head_for q ≡ EmptyHead = sym (head_here words rest q at e) ∙ said in
@@ -448,7 +439,7 @@ module _ (words out out' : List ℕ) (at f to : ℕ) (moved : Moved) where
 
   pub turned_union :
       head_of (get_or words at 0) ≡ UnionHead → TurnTook at (get_or words at 0 ∷ []) out to (get_or words at 0 ∷ []) out' moved
-      → Turned words at f out to out' (Next moved)
+      → Turned words at f out to out' (Some moved)
   unfolding read_at written_for
   turned_union said took q rest e =
       let head : head_for q ≡ UnionHead = sym (head_here words rest q at e) ∙ said in
@@ -457,20 +448,20 @@ module _ (words out out' : List ℕ) (at f to : ℕ) (moved : Moved) where
       rw same (refl, rw word at took)
 
   pub turned_path :
-      (kind n : ℕ) → head_of (get_or words at 0) ≡ PathHead kind n → Gained words at kind n f out to out' moved → Turned words at f out to out' (Next moved)
+      (kind n : ℕ) → head_of (get_or words at 0) ≡ PathHead kind n → Gained words at kind n f out to out' moved → Turned words at f out to out' (Some moved)
   unfolding read_at written_for
   turned_path kind n said gained q rest e =
       let (path, same, rooted, many) = path_of q kind n (sym (head_here words rest q at e) ∙ said) in
       rw same (refl, gained path rest rooted many (rw same at e))
 
   pub turned_record :
-      (n : ℕ) → head_of (get_or words at 0) ≡ RecordHead n → FieldTaken words at n f out to out' moved → Turned words at f out to out' (Next moved)
+      (n : ℕ) → head_of (get_or words at 0) ≡ RecordHead n → FieldTaken words at n f out to out' moved → Turned words at f out to out' (Some moved)
   unfolding read_at written_for
   turned_record n said taken q rest e =
       let (fields, same, many) = record_of q n (sym (head_here words rest q at e) ∙ said) in
       rw same (refl, taken fields rest many (rw same at e))
 
-pub turned_set : (words out out' : List ℕ) (at f to : ℕ) → head_of (get_or words at 0) ≡ SetHead → Turned words at f out to out' SetDereferenced
+pub turned_set : (words out out' : List ℕ) (at f to : ℕ) → head_of (get_or words at 0) ≡ SetHead → Turned words at f out to out' None
 turned_set words out out' at f to said q rest e = ap is_set (set-of q (sym (head_here words rest q at e) ∙ said)).1
 
 -- ---- along the unions
@@ -824,7 +815,7 @@ module _ {words rest out places : List ℕ} {f : ℕ} {paths : Paths} {from to l
     going_more = omega (arith, g.few, g.ahead.as_many, many_nodes g.qs)
 
     -- a set is dereferenced
-    pub going_refused : (out' : List ℕ) → Turned words from f out to out' SetDereferenced → get_or_has_attr f paths ≡ none
+    pub going_refused : (out' : List ℕ) → Turned words from f out to out' None → get_or_has_attr f paths ≡ none
     unfolding extended_codes
     going_refused out' t =
         let (q, more, same) = going_next in
@@ -853,14 +844,14 @@ module _ {words rest out places : List ℕ} {f : ℕ} {paths : Paths} {from to l
                 );
           }
 
-      pub going_fits : {out' : List ℕ} {moved : Moved} → Turned words from f out to out' (Next moved) → moved.to ≤ length out
+      pub going_fits : {out' : List ℕ} {moved : Moved} → Turned words from f out to out' (Some moved) → moved.to ≤ length out
       going_fits t =
           let q = going_next.0 in
           let (goes, took) = t q (codes going_next.1 ++ rest) next_coded in
           omega (arith, took.wrote.after, written_few f q, g.room, ahead_words q going_next.1 going_next.2)
 
     -- a turn
-    pub going_on : {out' : List ℕ} {moved : Moved} → Turned words from f out to out' (Next moved) → from < moved.from
+    pub going_on : {out' : List ℕ} {moved : Moved} → Turned words from f out to out' (Some moved) → from < moved.from
     going_on t =
         let q = going_next.0 in
         let (goes, took) = t q (codes going_next.1 ++ rest) next_coded in
@@ -868,7 +859,7 @@ module _ {words rest out places : List ℕ} {f : ℕ} {paths : Paths} {from to l
 
     pub going_turn :
         {out' places' : List ℕ} {moved : Moved} {grown' : ℕ} {h : WrappedAccessPaths}
-        → h ≡ head_of (get_or words from 0) → Turned words from f out to out' (Next moved) → moved.to ≤ length out
+        → h ≡ head_of (get_or words from 0) → Turned words from f out to out' (Some moved) → moved.to ≤ length out
         → Noted places grown (places_for h to) places' grown'
         → ExtendingPaths words rest f paths out' places' moved.from moved.to (left - 1 + sides_of h) grown'
     going_turn said t fits n =

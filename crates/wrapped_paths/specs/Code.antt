@@ -1,5 +1,5 @@
 -- Wrapped paths as words: a head, its steps or names, and then what it wraps, the right side of a union and the last field of a record first.
-use Rattle.std.specs.Prelude.{ℕ, suc, ◌+◌, ◌*◌, ◌/◌, ◌%◌, ◌≤◌, ◌≡◌, cond, List, [], ◌∷◌, ◌++◌, map, eqb, length, take, drop, get_or}
+use Rattle.std.specs.Prelude.{Option as Maybe, Some, None, ℕ, suc, ◌<◌, ◌+◌, ◌*◌, ◌/◌, ◌%◌, ◌≤◌, ◌≡◌, cond, List, [], ◌∷◌, ◌++◌, map, eqb, length, take, drop, get_or}
 use Rattle.std.proofs.Math.Option.{none, some}
 use Rattle.rules.specs.Tries.{step_of, kind_of, id_of}
 use Rattle.rules.specs.Paths.{
@@ -27,7 +27,6 @@ use Rattle.wrapped_paths.specs.declared.WrappedAccessPaths.TheVariants.{
   SetLiteral as SetHead,
 }
 use Rattle.wrapped_paths.specs.declared.Extended.{Extended}
-use Rattle.wrapped_paths.specs.declared.Extended.TheVariants.{Done, SetDereferenced}
 
 -- the head that a word says, and the word that says it: what it is, 8 times the kind of a path's root, and 64 times the steps of a path or the
 -- fields of a record
@@ -107,6 +106,10 @@ unfoldable pub name_place : List ℕ → ℕ → ℕ
 name_place [] name = 0
 name_place (other ∷ names) name = cond (eqb other name) 0 (suc (name_place names name))
 
+abbrev pub IsPlace : List ℕ → ℕ → Maybe ℕ → Type 0
+IsPlace names name (Some place) = (place ≡ name_place names name) × (place < length names)
+IsPlace names name None = name_place names name ≡ length names
+
 -- some wrapped paths stand in words from a place on
 pub record Standing (words : List ℕ) (at count : ℕ) : Type 0 where
   pub paths : List Paths
@@ -176,11 +179,11 @@ pub record Grew (f : ℕ) (paths : Paths) (out places : List ℕ) (words grown :
   pub within : AllWithin out (take grown places)
   pub there : paths_at out (take grown places) ≡ grown_in f paths
 
-abbrev pub ExtendedBy : ℕ → Paths → List ℕ → List ℕ → Extended → Type 0
-ExtendedBy f paths out places (Done words grown) = Grew f paths out places words grown
-ExtendedBy f paths out places SetDereferenced = get_or_has_attr f paths ≡ none
+abbrev pub ExtendedBy : ℕ → Paths → List ℕ → List ℕ → Maybe Extended → Type 0
+ExtendedBy f paths out places (Some extended) = Grew f paths out places extended.words extended.grown
+ExtendedBy f paths out places None = get_or_has_attr f paths ≡ none
 
-abbrev pub ExtendedAt : List ℕ → ℕ → ℕ → List ℕ → List ℕ → Extended → Type 0
+abbrev pub ExtendedAt : List ℕ → ℕ → ℕ → List ℕ → List ℕ → Maybe Extended → Type 0
 ExtendedAt words at f out places r =
     (paths : Paths) (rest : List ℕ)
     → drop at words ≡ code paths ++ rest

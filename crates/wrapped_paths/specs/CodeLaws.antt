@@ -1,8 +1,12 @@
 -- Laws of wrapped paths as words: what stands at a head, how far wrapped paths go, and what `attr` makes of them, head by head.
 -- No contract cites this file.
-use Rattle.std.specs.Prelude.{ℕ, suc, ◌+◌, ◌*◌, ◌-◌, ◌/◌, ◌%◌, ◌≤◌, ◌<◌, ◌≡◌, List, [], ◌∷◌, ◌++◌, map, take, drop, set}
+use Rattle.std.specs.Prelude.{Option as Maybe, Some, None, Bool, true, false, cond, eqb, ℕ, suc, ◌+◌, ◌*◌, ◌-◌, ◌/◌, ◌%◌, ◌≤◌, ◌<◌, ◌≡◌, List, [], ◌∷◌, ◌++◌, map, take, drop, set}
 use Rattle.std.proofs.Common.{add-zero, add_assoc, add-one, arith, ap, ◌∙◌, append_assoc, append-nil, length-append, length-drop, length-set, drop_of_length-le, drop-drop, get_or-drop, drop-cons, take-suc-set, length-take-le}
 use Rattle.std.proofs.Math.Path.{refl, sym}
+use Rattle.std.proofs.Math.Dec.{ltb}
+use Rattle.std.proofs.lemmas.Bool.{ltb-true, ltb-false}
+use Rattle.std.proofs.lemmas.List.Recursion.{is_position_or_len}
+use Rattle.std.specs.List.{position_or_len}
 use Rattle.std.proofs.Math.Bool.{and-eq-true_iff}
 use borrow.Author.Tests.{eq-eqb, ne_eqb, leb-true}
 use Rattle.std.proofs.Math.ListN.{length, get_or}
@@ -19,7 +23,7 @@ use Rattle.wrapped_paths.specs.declared.WrappedAccessPaths.TheVariants.{
   RecordLiteral as RecordHead,
   SetLiteral as SetHead,
 }
-use Rattle.wrapped_paths.specs.Code.{head_of, head_word, size_of, wraps_of, count_in, names_in, root_kind, code, code_fields, codes, nodes_of_all, name_place, Measures, rooted, path_at, paths_at, AllWithin, FoundAt}
+use Rattle.wrapped_paths.specs.Code.{head_of, head_word, size_of, wraps_of, count_in, names_in, root_kind, code, code_fields, codes, nodes_of_all, name_place, IsPlace, Measures, rooted, path_at, paths_at, AllWithin, FoundAt}
 use Rattle.wrapped_paths.specs.Turns.{places_for, Noted}
 
 -- ---- heads
@@ -404,32 +408,42 @@ module _ {words rest : List ℕ} {paths : List Paths} {at from left nodes : ℕ}
 
 -- ---- names and copies
 
--- the names before a place are others
-pub record Others (names : List ℕ) (name i : ℕ) : Type 0 where
-  pub so_many : i ≤ length names
-  pub same_place : name_place names name ≡ i + name_place (drop i names) name
+pub place_most : (names : List ℕ) (name : ℕ) → name_place names name ≤ length names
+unfolding name_place
+place_most [] name = omega arith
+place_most (other ∷ names) name = go (eqb other name) (place_most names name)
+  where
+    go : (same : Bool) → name_place names name ≤ length names → cond same 0 (suc (name_place names name)) ≤ suc (length names)
+    go true h = omega arith
+    go false h = omega arith
 
-pub others_none : (names : List ℕ) (name : ℕ) → Others names name 0
-others_none names name = record { so_many = omega arith; same_place = omega arith }
+-- the first place that a search of the names finds
+place_first : (names : List ℕ) (name : ℕ) → name_place names name ≡ position_or_len (λ other. eqb other name) names
+unfolding name_place
+place_first names name = is_position_or_len (λ l. name_place l name) (λ other. eqb other name) refl (λ other l. ap (cond (eqb other name) 0) (omega arith)) names
 
-module _ {names : List ℕ} {name i : ℕ} (o : Others names name i) where
-  pub others_all : length names ≤ i → i ≡ name_place names name
-  unfolding name_place
-  others_all h = sym (o.same_place ∙ rw (drop_of_length-le names h) (add-zero i))
+place_in :
+    (names : List ℕ) (name place : ℕ) (in_it : Bool) → name_place names name ≡ place → ltb place (length names) ≡ in_it
+    → IsPlace names name (cond in_it (Some place) None)
+place_in names name place true same h = (sym same, ltb-true place (length names) h)
+place_in names name place false same h = omega (arith, ltb-false place (length names) h, place_most names name)
 
-  module _ (h : i < length names) where
-    pub others_found : get_or names i 0 ≡ name → i ≡ name_place names name
-    unfolding name_place
-    others_found e = sym (o.same_place ∙ rw (drop-cons names i 0 h, eq-eqb (get_or names i 0) name e) (add-zero i))
-
-    pub others_next : (get_or names i 0 ≡ name → ⊥) → Others names name (i + 1)
-    unfolding name_place
-    others_next e = record {
-      so_many = omega arith;
-      same_place = o.same_place ∙ rw (drop-cons names i 0 h, ne_eqb (get_or names i 0) name e, add-one) (omega arith);
-    }
+pub place_found :
+    (names : List ℕ) (name : ℕ) (found : Maybe ℕ)
+    → let place = position_or_len (λ other. eqb other name) names in
+      found ≡ cond (ltb place (length names)) (Some place) None → IsPlace names name found
+place_found names name found e =
+    let place = position_or_len (λ other. eqb other name) names in
+    rw e (place_in names name place (ltb place (length names)) (place_first names name) refl)
 
 -- ---- noting paths
+
+pub no_places : (head : WrappedAccessPaths) (at : ℕ) → ((kind steps : ℕ) → head ≡ PathHead kind steps → ⊥) → places_for head at ≡ []
+no_places EmptyHead at other = refl
+no_places (PathHead kind steps) at other = absurd (other kind steps refl)
+no_places UnionHead at other = refl
+no_places SetHead at other = refl
+no_places (RecordHead fields) at other = refl
 
 pub noted_none : (places : List ℕ) (count : ℕ) → count ≤ length places → Noted places count [] places count
 noted_none places count h = record { in_places = h; there = rw append-nil }

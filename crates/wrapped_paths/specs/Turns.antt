@@ -1,5 +1,5 @@
 -- What one turn of a walk over wrapped paths does, head by head.
-use Rattle.std.specs.Prelude.{ℕ, ◌+◌, ◌≤◌, ◌≡◌, Bool, true, false, List, [], ◌∷◌, ◌++◌, length, take, drop}
+use Rattle.std.specs.Prelude.{Option as Maybe, Some, None, ℕ, ◌+◌, ◌≤◌, ◌≡◌, Bool, true, false, List, [], ◌∷◌, ◌++◌, length, take, drop}
 use Rattle.rules.specs.Paths.{
   Path,
   Paths,
@@ -23,8 +23,6 @@ use Rattle.wrapped_paths.specs.declared.WrappedAccessPaths.TheVariants.{
   SetLiteral as SetHead,
 }
 use Rattle.wrapped_paths.specs.declared.Moved.{Moved}
-use Rattle.wrapped_paths.specs.declared.Turn.{Turn}
-use Rattle.wrapped_paths.specs.declared.Turn.TheVariants.{Next, SetDereferenced}
 use Rattle.wrapped_paths.specs.Code.{head_word, root_kind, count_in, code, ResultStands}
 
 -- the place of a head, if it is that of a path
@@ -122,9 +120,9 @@ pub record Growing (words : List ℕ) (at f : ℕ) (out : List ℕ) : Type 0 whe
   pub result : ResultStands words at
   pub fits : length (code result.paths) + length (grown_in f result.paths) ≤ length out
 
-abbrev pub TurnedBy : ℕ → Paths → ℕ → List ℕ → ℕ → List ℕ → Turn → Type 0
-TurnedBy f paths at out to out' (Next moved) = (is_set paths ≡ false) × TurnTook at (read_at paths) out to (written_for f paths) out' moved
-TurnedBy f paths at out to out' SetDereferenced = is_set paths ≡ true
+abbrev pub TurnedBy : ℕ → Paths → ℕ → List ℕ → ℕ → List ℕ → Maybe Moved → Type 0
+TurnedBy f paths at out to out' (Some moved) = (is_set paths ≡ false) × TurnTook at (read_at paths) out to (written_for f paths) out' moved
+TurnedBy f paths at out to out' None = is_set paths ≡ true
 
-abbrev pub Turned : List ℕ → ℕ → ℕ → List ℕ → ℕ → List ℕ → Turn → Type 0
+abbrev pub Turned : List ℕ → ℕ → ℕ → List ℕ → ℕ → List ℕ → Maybe Moved → Type 0
 Turned words at f out to out' r = (paths : Paths) (rest : List ℕ) → drop at words ≡ code paths ++ rest → TurnedBy f paths at out to out' r

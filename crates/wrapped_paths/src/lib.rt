@@ -3,13 +3,13 @@
 #![tactic(auto)]
 
 ghost use Rattle.std.specs.Prelude.{◌≡◌, [], ◌∷◌, ◌+◌, ◌^◌, ◌<◌, ◌≤◌, length, get_or};
-ghost use Rattle.wrapped_paths.specs.Code.{head_of, head_word, root_in, size_of, wraps_of, name_place, steps_at, Standing, Measures, ResultStands, FoundAt, ExtendedAt};
+ghost use Rattle.wrapped_paths.specs.Code.{head_of, head_word, root_in, size_of, wraps_of, steps_at, IsPlace, Standing, Measures, ResultStands, FoundAt, ExtendedAt};
 ghost use Rattle.wrapped_paths.specs.Turns.{places_for, Noted, sides_of, TurnTook, Gained, Literal, FieldTaken, TurnRoom, Growing, Turned};
 
-use words::{copy_words, wide};
+use words::copy_words;
 
 // What a head says: a path has a root of some kind and the ids of so many steps behind it, a record so many names and then as many fields.
-#[derive(Clone, Copy)]
+#[derive(Clone, Copy, PartialEq, Eq, Debug)]
 pub enum WrappedAccessPaths {
     Empty,
     AccessPath(u16, usize),
@@ -32,18 +32,11 @@ pub struct Moved {
     pub to: usize,
 }
 
-// What `attr` does with one head: it is passed, or a set is dereferenced.
+// What `attr` gives: so many words, and so many paths that gained the field.
 #[derive(Drop)]
-enum Turn {
-    Next(Moved),
-    SetDereferenced,
-}
-
-// What `attr` gives: so many words, and so many paths that gained the field; or a set was dereferenced.
-#[derive(Drop)]
-pub enum Extended {
-    Done(usize, usize),
-    SetDereferenced,
+pub struct Extended {
+    pub words: usize,
+    pub grown: usize,
 }
 
 impl WrappedAccessPaths {
@@ -95,11 +88,9 @@ impl WrappedAccessPaths {
         ensures { result ≡ 1 + size_of self }
     {
         match self {
-            WrappedAccessPaths::Empty => 1,
             WrappedAccessPaths::AccessPath(_, steps) => 1 + steps,
-            WrappedAccessPaths::Union => 1,
-            WrappedAccessPaths::SetLiteral => 1,
             WrappedAccessPaths::RecordLiteral(fields) => 1 + fields,
+            _ => 1,
         }
     }
 
@@ -108,8 +99,7 @@ impl WrappedAccessPaths {
         ensures { result ≡ wraps_of self }
     {
         match self {
-            WrappedAccessPaths::Empty => 0,
-            WrappedAccessPaths::AccessPath(_, _) => 0,
+            WrappedAccessPaths::Empty | WrappedAccessPaths::AccessPath(_, _) => 0,
             WrappedAccessPaths::Union => 2,
             WrappedAccessPaths::SetLiteral => 1,
             WrappedAccessPaths::RecordLiteral(fields) => fields,
@@ -121,11 +111,8 @@ impl WrappedAccessPaths {
         ensures { result ≡ sides_of self }
     {
         match self {
-            WrappedAccessPaths::Empty => 0,
-            WrappedAccessPaths::AccessPath(_, _) => 0,
             WrappedAccessPaths::Union => WrappedAccessPaths::SIDES,
-            WrappedAccessPaths::SetLiteral => 0,
-            WrappedAccessPaths::RecordLiteral(_) => 0,
+            _ => 0,
         }
     }
 }
@@ -135,7 +122,7 @@ pub fn steps_at(code: &[u16], at: usize) -> u64
     requires { at < length code.now }
     ensures { result ≡ steps_at code.now at }
 {
-    wide(code[at]) / 64
+    u64::from(code[at]) / 64
 }
 
 // How far so many wrapped paths go from a place on.
@@ -161,11 +148,8 @@ fn note_path(head: WrappedAccessPaths, at: usize, places: &mut [u64], found: usi
     ensures { Noted places.old found (places_for head at) places.new result }
 {
     match head {
-        WrappedAccessPaths::Empty => found,
         WrappedAccessPaths::AccessPath(_, _) => note_place(at, places, found),
-        WrappedAccessPaths::Union => found,
-        WrappedAccessPaths::SetLiteral => found,
-        WrappedAccessPaths::RecordLiteral(_) => found,
+        _ => found,
     }
 }
 
@@ -195,18 +179,11 @@ pub fn paths_in(code: &[u16], at: usize, places: &mut [u64]) -> usize
     found
 }
 
-// The place of a name among names, or their count.
-pub fn name_place(names: &[u16], name: u64) -> usize
-    ensures { result ≡ name_place names.now name }
+// The place of a name among names, if it is one of them.
+pub fn name_place(names: &[u16], name: u64) -> Option<usize>
+    ensures { IsPlace names.now name result }
 {
-    let mut i = 0;
-    while i < names.len() {
-        if wide(names[i]) == name {
-            return i;
-        }
-        i += 1;
-    }
-    i
+    names.iter().position(|other| u64::from(*other) == name)
 }
 
 // A record literal's field, or the literal itself where it has not that field.
@@ -224,13 +201,12 @@ fn take_field(
     let names = at + 1;
     let first = names + fields;
     let end = measure(code, first, fields).end;
-    let place = name_place(&code[names..first], name);
-    if place == fields {
+    let Some(place) = name_place(&code[names..first], name) else {
         return Moved {
             from: end,
             to: copy_words(&code[at..end], out, to),
         };
-    }
+    };
     let field = measure(code, first, place).end;
     let field_end = measure(code, field, 1).end;
     Moved {
@@ -275,7 +251,7 @@ fn keep_head(code: &[u16], at: usize, out: &mut [u16], to: usize) -> Moved
     }
 }
 
-// One head, extended by a field: it stays, a path gains the field, or a record literal gives it.
+// One head, extended by a field: it stays, a path gains the field, or a record literal gives it. No set is dereferenced.
 fn extend(
     code: &[u16],
     at: usize,
@@ -283,36 +259,31 @@ fn extend(
     name: u16,
     out: &mut [u16],
     to: usize,
-) -> Turn
+) -> Option<Moved>
     requires { TurnRoom code.now at name out.old to × (head ≡ head_of (get_or code.now at 0)) }
     ensures { Turned code.now at name out.old to out.new result }
 {
-    match head {
-        WrappedAccessPaths::Empty => Turn::Next(keep_head(code, at, out, to)),
-        WrappedAccessPaths::AccessPath(kind, steps) => Turn::Next(grow_path(
-            code, at, kind, steps, name, out, to,
-        )),
-        WrappedAccessPaths::Union => Turn::Next(keep_head(code, at, out, to)),
-        WrappedAccessPaths::SetLiteral => Turn::SetDereferenced,
-        WrappedAccessPaths::RecordLiteral(fields) => Turn::Next(take_field(
-            code,
-            at,
-            fields,
-            wide(name),
-            out,
-            to,
-        )),
-    }
+    let moved = match head {
+        WrappedAccessPaths::Empty | WrappedAccessPaths::Union => keep_head(code, at, out, to),
+        WrappedAccessPaths::AccessPath(kind, steps) => {
+            grow_path(code, at, kind, steps, name, out, to)
+        }
+        WrappedAccessPaths::SetLiteral => return None,
+        WrappedAccessPaths::RecordLiteral(fields) => {
+            take_field(code, at, fields, u64::from(name), out, to)
+        }
+    };
+    Some(moved)
 }
 
-// `get_or_has_attr`: the wrapped paths at a place, extended by a field, and the places of the paths that gained it.
+// `get_or_has_attr`: the wrapped paths at a place, extended by a field, and the places of the paths that gained it. No set is dereferenced.
 pub fn get_or_has_attr(
     code: &[u16],
     at: usize,
     name: u16,
     out: &mut [u16],
     places: &mut [u64],
-) -> Extended
+) -> Option<Extended>
     requires { Growing code.now at name out.old × (length places.old ≡ 256) }
     ensures { ExtendedAt code.now at name out.new places.new result }
 {
@@ -322,13 +293,11 @@ pub fn get_or_has_attr(
     let mut left: usize = 1;
     while 0 < left {
         let head = WrappedAccessPaths::of(code[from]);
-        let Turn::Next(moved) = extend(code, from, head, name, out, to) else {
-            return Extended::SetDereferenced;
-        };
+        let moved = extend(code, from, head, name, out, to)?;
         grown = note_path(head, to, places, grown);
         from = moved.from;
         to = moved.to;
         left = left - 1 + head.sides();
     }
-    Extended::Done(to, grown)
+    Some(Extended { words: to, grown })
 }

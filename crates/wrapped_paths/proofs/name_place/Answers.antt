@@ -1,16 +1,11 @@
--- `wrapped_paths::name_place` meets its contract: the names that were passed are others.
-use mathlib.Core.Path.{sym, ◌∙◌}
-use Rattle.wrapped_paths.specs.CodeLaws.{others_none, others_found, others_next, others_all}
+-- `wrapped_paths::name_place` meets its contract: the first of the names that is the same.
+use Rattle.std.proofs.Common.{nat_eq, rules, tests}
+use Rattle.std.proofs.lemmas.Iterator.{YieldsList-from_slice}
+use Rattle.std.proofs.lemmas.Iterator.Search.{position_from_yields_List}
+use Rattle.wrapped_paths.specs.CodeLaws.{place_found}
 use Rattle.wrapped_paths.proofs.name_place.Goals as goal
 
-pub loop-i-init : goal.loop-i-init
-loop-i-init c = others_none _ _
-
-pub returns-then-wide-name : goal.returns-then-wide-name
-returns-then-wide-name c = others_found c.loop-i.invariant c.loop-i-test.true (sym c.wide.ensures.0 ∙ c.if-wide-name.true)
-
-pub loop-i-preserved : goal.loop-i-preserved
-loop-i-preserved c = others_next c.loop-i.invariant c.loop-i-test.true (λ e. c.if-wide-name.false (c.wide.ensures.0 ∙ e))
-
 pub returns : goal.returns
-returns c = others_all c.loop-i.invariant c.loop-i-test.false
+returns c =
+    place_found c.args.names.now c.args.name c.position.result
+    (position_from_yields_List (λ other. nat_eq other c.args.name) _ _ c.position.result c.position.ensures.ran (YieldsList-from_slice c.args.names.now cc) (λ x b q k. search (rules, tests)))
