@@ -14,7 +14,6 @@ ghost use Rattle.wrapped_paths.specs.Code.{path_at, paths_at, AllWithin};
 ghost use Rattle.path_tries.specs.Nodes.{all_nodes, all_below, IsState, Became, PathsToAdd, leaf_of, any_deep, AllFit, chain_words, deeper_words, RunOf};
 
 use rows::{Kind, Row};
-use words::wide;
 use wrapped_paths::steps_at;
 
 // The words of a trie: its count and at most as many nodes as a contribution has. A path with its leaf has at most 24 more.
@@ -34,13 +33,11 @@ fn write_chain(path: &[u64], marked: bool, out: &mut [u64]) -> usize
     ensures { Wrote out.old 0 (chain_words path.now marked) out.new result }
 {
     let last = path.len() - 1;
-    let mut i = 0;
-    while i < last {
+    for i in 0..last {
         let depth = i + 1;
         out[i] = Row::node(depth as u64, path[i], false).word;
-        i = depth;
     }
-    let steps = last + 1;
+    let steps = path.len();
     out[last] = Row::node(steps as u64, path[last], marked).word;
     steps
 }
@@ -50,12 +47,10 @@ fn write_deeper(rows: &[u64], by: usize, out: &mut [u64], to: usize) -> usize
     requires { (all_below by rows.now ≡ true) × (to + length rows.now ≤ length out.old) }
     ensures { Wrote out.old to (deeper_words by rows.now) out.new result }
 {
-    let mut i = 0;
-    while i < rows.len() {
-        out[to + i] = rows[i] + by as u64;
-        i += 1;
+    for (i, row) in rows.iter().enumerate() {
+        out[to + i] = *row + by as u64;
     }
-    to + i
+    to + rows.len()
 }
 
 // Merges a run of nodes into a trie by way of a buffer, and answers whether it stays within the limit of nodes; if not, the trie is as it was.
@@ -65,8 +60,7 @@ fn union_by(trie: &mut [u64], run: &[u64], united: &mut [u64]) -> bool
     ensures { Became (union (rows_in trie.old) (rows_of run.now)) trie.new result }
 {
     let end = trie[0] as usize + 1;
-    let reply = union::union_rows(Kind::Contribution, &trie[1..end], run, united);
-    let Ok(()) = reply else {
+    let Ok(()) = union::union_rows(Kind::Contribution, &trie[1..end], run, united) else {
         return false;
     };
     words::copy_rows(united, trie);
@@ -92,7 +86,7 @@ pub fn union_into(trie: &mut [u64], run: &[u64]) -> bool
     requires { IsState trie.old × (all_nodes run.now ≡ true) }
     ensures { Became (union (rows_in trie.old) (rows_of run.now)) trie.new result }
 {
-    if run.len() == 0 {
+    if run.is_empty() {
         return true;
     }
     if trie[0] == 0 {
@@ -170,13 +164,11 @@ pub fn read_path(code: &[u16], at: usize, path: &mut [u64]) -> usize
 {
     let first = at + 1;
     let steps = steps_at(code, at) as usize;
-    path[0] = wide(code[at]) / 8 % 8 * 0x1_0000 + wide(code[first]);
-    let mut i = 1;
-    while i < steps {
-        path[i] = wide(code[first + i]);
-        i += 1;
+    path[0] = u64::from(code[at]) / 8 % 8 * 0x1_0000 + u64::from(code[first]);
+    for i in 1..steps {
+        path[i] = u64::from(code[first + i]);
     }
-    i
+    steps
 }
 
 // `add_wrapped_access_paths`: merges the paths at some places with one leaf into a trie, and answers whether it stays within the limit.
@@ -192,13 +184,11 @@ pub fn add_wrapped_access_paths(
     ensures { Became (add_paths (rows_in trie.old) (paths_at code.now places.now) (leaf_of marked below.now)) trie.new result }
 {
     let mut path = [0u64; PATH];
-    let mut i = 0;
-    while i < places.len() {
-        let steps = read_path(code, places[i] as usize, &mut path);
+    for place in places {
+        let steps = read_path(code, *place as usize, &mut path);
         if !add_access_path(trie, &path[..steps], marked, below) {
             return false;
         }
-        i += 1;
     }
     true
 }
@@ -208,13 +198,10 @@ pub fn is_too_deep(code: &[u16], places: &[u64], below: u64) -> bool
     requires { AllWithin code.now places.now × (below ≤ 24) }
     ensures { result ≡ any_deep (paths_at code.now places.now) below }
 {
-    let mut i = 0;
-    while i < places.len() {
-        let at = places[i] as usize;
-        if Kind::STEPS < steps_at(code, at) + below {
+    for place in places {
+        if Kind::STEPS < steps_at(code, *place as usize) + below {
             return true;
         }
-        i += 1;
     }
     false
 }
@@ -225,11 +212,8 @@ pub fn longest(code: &[u16], places: &[u64]) -> u64
     ensures { result ≡ longest_of (paths_at code.now places.now) }
 {
     let mut most: u64 = 0;
-    let mut i = 0;
-    while i < places.len() {
-        let at = places[i] as usize;
-        most = most.max(steps_at(code, at));
-        i += 1;
+    for place in places {
+        most = most.max(steps_at(code, *place as usize));
     }
     most
 }

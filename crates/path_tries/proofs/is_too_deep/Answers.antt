@@ -4,16 +4,16 @@ use Rattle.path_tries.specs.NodeLaws.{looking_within, looking_deep, looking_next
 use Rattle.path_tries.proofs.is_too_deep.Goals as goal
 
 pub steps_at-requires : goal.steps_at-requires
-steps_at-requires c = omega (arith, looking_within c.loop-i.invariant.1 c.loop-i-test.true)
+steps_at-requires c = omega (arith, looking_within c.loop-place.invariant.1 c.loop-place-test.true)
 
 pub overflow_add-steps_at : goal.overflow_add-steps_at
-overflow_add-steps_at c = omega (arith, looking_within c.loop-i.invariant.1 c.loop-i-test.true, c.steps_at.ensures)
+overflow_add-steps_at c = omega (arith, looking_within c.loop-place.invariant.1 c.loop-place-test.true, c.steps_at.ensures)
 
 pub returns-then-steps_at-below-gt-STEPS : goal.returns-then-steps_at-below-gt-STEPS
-returns-then-steps_at-below-gt-STEPS c = looking_deep c.loop-i.invariant.1 c.loop-i-test.true (rw c.steps_at.ensures at c.if-steps_at-below-gt-STEPS.true)
+returns-then-steps_at-below-gt-STEPS c = looking_deep c.loop-place.invariant.1 c.loop-place-test.true (rw c.steps_at.ensures at c.if-steps_at-below-gt-STEPS.true)
 
-pub loop-i-preserved : goal.loop-i-preserved
-loop-i-preserved c = (omega arith, looking_next c.loop-i.invariant.1 c.loop-i-test.true (rw c.steps_at.ensures at c.if-steps_at-below-gt-STEPS.false))
+pub loop-place-preserved : goal.loop-place-preserved
+loop-place-preserved c = (omega arith, looking_next c.loop-place.invariant.1 c.loop-place-test.true (rw c.steps_at.ensures at c.if-steps_at-below-gt-STEPS.false))
 
 pub returns : goal.returns
-returns c = looking_all c.loop-i.invariant.1 (omega arith)
+returns c = looking_all c.loop-place.invariant.1 (omega arith)

@@ -8,5 +8,3 @@ use Rattle.path_tries.proofs.read_path.Given as goal
 abbrev pub invariant-loop-i : goal.invariant-loop-i
 invariant-loop-i l = (length l.path ≡ length l.initial.path) × ((0 < l.i) × PathReading (path_at l.code l.at) l.path l.i)
 
-abbrev pub decreases-loop-i : goal.decreases-loop-i
-decreases-loop-i l = l.steps - l.i

@@ -1,5 +1,5 @@
 -- `path_tries::write_chain` meets its contract: the nodes that are left to be written lead to the whole chain.
-use Prim.Native.Nat.{◌-◌}
+use Prim.Native.Nat.{◌-◌, ◌+◌}
 use native.Mathlib.Omega.{arith}
 use mathlib.Core.Path.{◌≡◌}
 use lib.ListN.{length, length-set}
@@ -38,4 +38,5 @@ shape_of-out c = simp length-set (kept (goal.at.shape_of-out c).At-loop-i)
 pub returns : goal.returns
 returns c =
     let last : c.loop-i.i ≡ length c.args.path.now - 1 = omega arith in
-    rw (c.node-2.ensures, ← last) (chained_last c.loop-i.invariant.1 (omega arith))
+    let steps : c.loop-i.i + 1 ≡ length c.args.path.now = omega arith in
+    rw (c.node-2.ensures, ← last, ← steps) (chained_last c.loop-i.invariant.1 (omega arith))

@@ -6,5 +6,3 @@ use Rattle.path_tries.proofs.write_chain.Given as goal
 abbrev pub invariant-loop-i : goal.invariant-loop-i
 invariant-loop-i l = (l.i + 1 ≤ length l.path) × Chained l.initial.out l.path l.out l.marked l.i
 
-abbrev pub decreases-loop-i : goal.decreases-loop-i
-decreases-loop-i l = length l.path - l.i

@@ -26,4 +26,4 @@ pub shape_of-out : goal.shape_of-out
 shape_of-out c = kept (goal.at.shape_of-out c).At-loop-i
 
 pub returns : goal.returns
-returns c = lowered_all c.loop-i.invariant.1 (omega arith)
+returns c = let end : c.loop-i.i ≡ length c.args.rows.now = omega arith in rw end at (lowered_all c.loop-i.invariant.1 (omega arith))

@@ -5,6 +5,3 @@ use Rattle.path_tries.proofs.write_deeper.Given as goal
 
 abbrev pub invariant-loop-i : goal.invariant-loop-i
 invariant-loop-i l = (l.i ≤ length l.rows) × Lowered l.initial.out l.rows l.out l.by l.to l.i
-
-abbrev pub decreases-loop-i : goal.decreases-loop-i
-decreases-loop-i l = length l.rows - l.i
