@@ -1,8 +1,8 @@
 -- Laws of pairs of a path and a type, of adding them, and of the names of a record literal (Tables). No contract cites this file.
-use Rattle.std.specs.Prelude.{ℕ, zero, suc, ◌+◌, ◌/◌, ◌%◌, ◌^◌, ◌≤◌, ◌<◌, Bool, true, false, ◌&&◌, ◌||◌, List, [], ◌∷◌, map, ◌≡◌, refl, ltb, leb, eqb, length, take, drop, get_or}
+use Rattle.std.specs.Prelude.{Option as Maybe, Some, None, is_some, ℕ, zero, suc, ◌+◌, ◌/◌, ◌%◌, ◌^◌, ◌≤◌, ◌<◌, Bool, true, false, ◌&&◌, ◌||◌, List, [], ◌∷◌, map, ◌≡◌, refl, ltb, leb, eqb, length, take, drop, get_or}
 use Rattle.std.proofs.Common.{add-one, ap, ◌∙◌, length-take, drop_of_length-le, drop-cons}
 use native.Mathlib.Omega.{arith}
-use Rattle.std.proofs.lemmas.Bool.{false≢true}
+use Rattle.std.proofs.lemmas.Bool.{false≢true, true≢false}
 use Rattle.std.proofs.Math.Option.{Option, none, some, none-ne-some}
 use Rattle.std.proofs.Math.Path.{sym}
 use borrow.Author.Tests.{ltb-false, leb-false, lt-ltb, le-ltb, le-leb, lt-leb, ne_eqb}
@@ -21,7 +21,7 @@ use Rattle.words.specs.Runs.{words_in, Wrote}
 use Rattle.schema.specs.Items.{item_in, items_of, is_item, all_items}
 use Rattle.schema.specs.ItemLaws.{item_key}
 use Rattle.words.specs.RunLaws.{taken_back, wrote_length}
-use Rattle.wrapped_paths.specs.Code.{path_at, name_place, names_in}
+use Rattle.wrapped_paths.specs.Code.{path_at, name_place, names_in, IsPlace}
 use Rattle.path_tries.specs.NodeLaws.{path_steps}
 use Rattle.type_table.specs.TypeTableLaws.{items_at}
 use Rattle.path_tries.specs.Nodes.{below_word, all_below, IsState, Became, leaf_of}
@@ -407,6 +407,15 @@ named_yes f (field name paths fields) n =
     by_test (eqb name f)
     (λ here. rw here)
     (λ other. rw other (named_yes f fields (λ e. (rw other at n) (ap suc e))))
+
+-- a name that is not found, and one that is
+pub place_none : (names : List ℕ) (name : ℕ) (found : Maybe ℕ) → IsPlace names name found → is_some found ≡ false → name_place names name ≡ length names
+place_none names name None there e = there
+place_none names name (Some place) there e = absurd (true≢false e)
+
+pub place_some : (names : List ℕ) (name : ℕ) (found : Maybe ℕ) → IsPlace names name found → is_some found ≡ true → name_place names name ≡ length names → ⊥
+place_some names name None there e missing = false≢true e
+place_some names name (Some place) there e missing = omega (arith, there)
 
 -- i attributes are passed, and the others say what is answered
 pub record Checking (attributes names : List ℕ) (i : ℕ) : Type 0 where

@@ -3,11 +3,11 @@ use Rattle.std.specs.Prelude.{ℕ, ◌+◌, ◌/◌, ◌%◌, ◌≤◌, ◌<◌
 use Rattle.rules.specs.Numbers.{most_steps}
 use Rattle.rules.specs.Paths.{Taken}
 use Rattle.rules.proofs.StepLaws.{IsPath}
-use Rattle.rules.proofs.TypeLaws.{types_in, deepest}
-use Rattle.schema.specs.Items.{items_of}
+use Rattle.rules.proofs.TypeLaws.{deepest}
 use Rattle.wrapped_paths.specs.Code.{steps_at, path_at}
 use Rattle.path_tries.specs.Nodes.{IsState}
-use Rattle.type_table.specs.Tables.{type_rows, Tabled, GoodTypes, KnownType}
+use Rattle.type_table.specs.declared.types.Types.{Types}
+use Rattle.type_table.specs.Tables.{type_rows, Tabled}
 
 -- a path's place and its type as one word
 abbrev pub pair_place : ℕ → ℕ
@@ -45,22 +45,21 @@ AllTakenPaths [] = Unit
 AllTakenPaths (taken ∷ more) = IsPath taken.path × AllTakenPaths more
 
 -- a path that goes into a trie with the trie of a type as its leaf
-pub record TypedPath (trie path words table : List ℕ) (t : ℕ) : Type 0 where
-  pub type : KnownType words table t
+pub record TypedPath (trie path : List ℕ) (types : Types) (t : ℕ) : Type 0 where
+  pub known : t < types.count
   pub state : IsState trie
   pub is_path : IsPath path
-  pub near : length path + deepest (type_rows words t) ≤ 24
+  pub near : length path + deepest (type_rows types.words.now t) ≤ 24
 
 -- and a buffer for that leaf
-pub record TypedLeaf (trie path words table : List ℕ) (t : ℕ) (leaf : List ℕ) : Type 0 where
-  pub typed : TypedPath trie path words table t
-  pub room : length (type_rows words t) ≤ length leaf
+pub record TypedLeaf (trie path : List ℕ) (types : Types) (t : ℕ) (leaf : List ℕ) : Type 0 where
+  pub typed : TypedPath trie path types t
+  pub room : length (type_rows types.words.now t) ≤ length leaf
   pub few_words : length leaf ≤ 1024
 
 -- several paths with their types in pairs
-pub record TypedPairs (trie code words table pairs : List ℕ) : Type 0 where
-  pub types : GoodTypes words table (types_in (items_of words))
+pub record TypedPairs (trie code : List ℕ) (types : Types) (pairs : List ℕ) : Type 0 where
   pub state : IsState trie
-  pub all_pairs : AllPairs code (types_in (items_of words)) pairs
+  pub all_pairs : AllPairs code types.count pairs
   pub all_paths : AllTakenPaths (map (taken_at code) pairs)
-  pub none_deep : any_taken_deep words (map (taken_at code) pairs) ≡ false
+  pub none_deep : any_taken_deep types.words.now (map (taken_at code) pairs) ≡ false

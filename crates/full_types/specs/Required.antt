@@ -1,5 +1,5 @@
 -- Wrapped paths against types, head by head: for what a head wraps, types wait on a stack.
-use Rattle.std.specs.Prelude.{ℕ, ◌+◌, ◌*◌, ◌^◌, ◌≤◌, ◌<◌, ◌≡◌, cond, ◌&&◌, List, [], ◌∷◌, ◌++◌, map, reverse, eqb, length, take, drop, get_or}
+use Rattle.std.specs.Prelude.{Option as Maybe, Some, None, ℕ, ◌+◌, ◌*◌, ◌^◌, ◌≤◌, ◌<◌, ◌≡◌, cond, ◌&&◌, List, [], ◌∷◌, ◌++◌, map, reverse, eqb, length, take, drop, get_or}
 use Rattle.std.proofs.Math.Option.{Option, none, some}
 use Rattle.rules.specs.Schema.{Item, set_type, record_type}
 use Rattle.rules.specs.Paths.{
@@ -29,14 +29,11 @@ use Rattle.wrapped_paths.specs.declared.WrappedAccessPaths.TheVariants.{
   RecordLiteral as RecordHead,
   SetLiteral as SetHead,
 }
-use Rattle.full_types.specs.declared.Awaited.{Awaited}
-use Rattle.full_types.specs.declared.Awaited.TheVariants.{Left, Mismatch as NoneWait}
 use Rattle.full_types.specs.declared.Required.{Required}
-use Rattle.full_types.specs.declared.Required.TheVariants.{Next, Mismatch}
+use Rattle.type_table.specs.declared.types.Types.{Types}
 use Rattle.wrapped_paths.specs.Code.{head_of, names_in, code, ResultStands}
 use Rattle.wrapped_paths.specs.Turns.{Noted}
 use Rattle.full_types.specs.Pairs.{taken_at, AllPairs}
-use Rattle.type_table.specs.Tables.{KnownType}
 
 -- ---- what waits
 
@@ -75,29 +72,29 @@ pub record Stacked (types : Option (List ℕ)) (waiting : List ℕ) (left : ℕ)
   pub awaited : types ≡ some new
   pub there : Noted waiting left (reverse new) waiting' more
 
-abbrev pub StackedBy : Option (List ℕ) → List ℕ → ℕ → List ℕ → Awaited → Type 0
-StackedBy types waiting left waiting' (Left more) = Stacked types waiting left waiting' more
-StackedBy types waiting left waiting' NoneWait = types ≡ none
+abbrev pub StackedBy : Option (List ℕ) → List ℕ → ℕ → List ℕ → Maybe ℕ → Type 0
+StackedBy types waiting left waiting' (Some more) = Stacked types waiting left waiting' more
+StackedBy types waiting left waiting' None = types ≡ none
 
-abbrev pub RecordStacked : List ℕ → List Item → ℕ → ℕ → List ℕ → ℕ → List ℕ → Awaited → Type 0
+abbrev pub RecordStacked : List ℕ → List Item → ℕ → ℕ → List ℕ → ℕ → List ℕ → Maybe ℕ → Type 0
 RecordStacked words items at t waiting left waiting' r =
     (fields : Fields) (rest : List ℕ)
     → drop at words ≡ code (RecordLiteral fields) ++ rest
     → StackedBy (record_awaits items fields t) waiting left waiting' r
 
-abbrev pub PathsStacked : List ℕ → List Item → ℕ → ℕ → List ℕ → ℕ → List ℕ → Awaited → Type 0
+abbrev pub PathsStacked : List ℕ → List Item → ℕ → ℕ → List ℕ → ℕ → List ℕ → Maybe ℕ → Type 0
 PathsStacked words items at t waiting left waiting' r =
     (paths : Paths) (rest : List ℕ)
     → drop at words ≡ code paths ++ rest
     → StackedBy (awaits items paths t) waiting left waiting' r
 
 -- wrapped paths stand there behind a head, their type is known, and there is room for the types that wait for what they wrap
-pub record Meeting (words : List ℕ) (at : ℕ) (head : WrappedAccessPaths) (schema table : List ℕ) (t : ℕ) (waiting : List ℕ) (left : ℕ) : Type 0 where
+pub record Meeting (words : List ℕ) (at : ℕ) (head : WrappedAccessPaths) (types : Types) (t : ℕ) (waiting : List ℕ) (left : ℕ) : Type 0 where
   pub paths : Paths
   pub rest : List ℕ
   pub coded : drop at words ≡ code paths ++ rest
   pub said : head ≡ head_of (get_or words at 0)
-  pub type : KnownType schema table t
+  pub known : t < types.count
   pub room : left + nodes_of paths ≤ length waiting
 
 -- ---- which path takes which type
@@ -129,11 +126,11 @@ pub record TypesTook (words : List ℕ) (items : List Item) (paths : Paths) (t a
   pub all_pairs : AllPairs words (types_in items) (take count pairs)
   pub required : full_type_required items paths t ≡ some (map (taken_at words) (take count pairs))
 
-abbrev pub RequiredBy : List ℕ → List Item → Paths → ℕ → ℕ → List ℕ → Required → Type 0
-RequiredBy words items paths t at pairs (Next end count) = TypesTook words items paths t at pairs end count
-RequiredBy words items paths t at pairs Mismatch = full_type_required items paths t ≡ none
+abbrev pub RequiredBy : List ℕ → List Item → Paths → ℕ → ℕ → List ℕ → Maybe Required → Type 0
+RequiredBy words items paths t at pairs (Some required) = TypesTook words items paths t at pairs required.end required.pairs
+RequiredBy words items paths t at pairs None = full_type_required items paths t ≡ none
 
-abbrev pub RequiredAt : List ℕ → List Item → ℕ → ℕ → List ℕ → Required → Type 0
+abbrev pub RequiredAt : List ℕ → List Item → ℕ → ℕ → List ℕ → Maybe Required → Type 0
 RequiredAt words items t at pairs r =
     (paths : Paths) (rest : List ℕ)
     → drop at words ≡ code paths ++ rest

@@ -1,6 +1,6 @@
 -- Laws of wrapped paths against types (Required): the types that wait for what a head wraps, and the walk from head to head. No contract cites
 -- this file.
-use Rattle.std.specs.Prelude.{ℕ, suc, ◌+◌, ◌-◌, ◌*◌, ◌/◌, ◌%◌, ◌^◌, ◌≤◌, ◌<◌, Bool, true, false, cond, ◌&&◌, ◌≡◌, eqb, replicate, set, take, drop, get_or}
+use Rattle.std.specs.Prelude.{Option as Maybe, Some, None, ℕ, suc, ◌+◌, ◌-◌, ◌*◌, ◌/◌, ◌%◌, ◌^◌, ◌≤◌, ◌<◌, Bool, true, false, cond, ◌&&◌, ◌≡◌, eqb, replicate, set, take, drop, get_or}
 use native.Mathlib.Omega.{arith}
 use Rattle.std.proofs.Math.Bool.{and-false}
 use mathlib.Core.List.{List, [], ◌∷◌, ◌++◌, map, map-append, append_assoc, append-nil, reverse, reverse-cons, reverse-append}
@@ -19,9 +19,7 @@ use Rattle.rules.proofs.TypeLaws.{Ascends, attributes_below, attribute_stands, t
 use Rattle.schema.specs.Items.{items_of}
 use Rattle.wrapped_paths.specs.declared.WrappedAccessPaths.{WrappedAccessPaths}
 use Rattle.wrapped_paths.specs.declared.WrappedAccessPaths.TheVariants.{Empty as EmptyHead, AccessPath as PathHead, Union as UnionHead, RecordLiteral as RecordHead, SetLiteral as SetHead}
-use Rattle.full_types.specs.declared.Awaited.{Awaited}
-use Rattle.full_types.specs.declared.Awaited.TheVariants.{Left, Mismatch as NoneWait}
-use Rattle.full_types.specs.declared.Required.TheVariants.{Next}
+use Rattle.type_table.specs.declared.types.Types.{Types}
 use Rattle.wrapped_paths.specs.Code.{head_of, size_of, wraps_of, count_in, names_in, code, codes, nodes_of_all, Standing, Measures}
 use Rattle.wrapped_paths.specs.Turns.{Noted}
 use Rattle.wrapped_paths.specs.CodeLaws.{field_paths, head_for, unwrapped, own_path, paths_in_all, kind_small, paths_next, path_there, unwrapped_many, names_many, paths_within, nodes_turn, nodes_words, many_nodes, Ahead, next_of, next_within, next_room, next_head_word, next_head, next_ahead, nodes_next, words_next, noted_none, noted_one}
@@ -138,7 +136,7 @@ module _ {schema : List ℕ} {t place : ℕ} (here : TypeStands schema t place) 
 
   module _ (words : List ℕ) (at n : ℕ) (waiting : List ℕ) (left : ℕ) where
     pub record_none :
-        (get_or schema place 0 % 16 ≡ record_type → ⊥) → RecordStacked words (items_of schema) at t waiting left waiting NoneWait
+        (get_or schema place 0 % 16 ≡ record_type → ⊥) → RecordStacked words (items_of schema) at t waiting left waiting None
     record_none other fields rest coded =
         rw (ne_eqb (kind_at (items_of schema) t) record_type (λ e. other (sym (stands_kind here) ∙ e)))
 
@@ -157,7 +155,7 @@ module _ {schema : List ℕ} {t place : ℕ} (here : TypeStands schema t place) 
           names = literal_names (record { as_many = many; coded = coded })
 
         -- some attribute is not named
-        pub record_lacks : has ≡ false → RecordStacked words (items_of schema) at t waiting left waiting NoneWait
+        pub record_lacks : has ≡ false → RecordStacked words (items_of schema) at t waiting left waiting None
         record_lacks lacks fields rest coded =
             rw (sym (asked fields (names fields rest coded)) ∙ lacks, and-false (eqb (kind_at (items_of schema) t) record_type))
 
@@ -167,7 +165,7 @@ module _ {schema : List ℕ} {t place : ℕ} (here : TypeStands schema t place) 
             → has ≡ true
             → items_of attributes ≡ attributes_at (items_of schema) t
             → Noted waiting left (reverse (field_types (items_of attributes) (take (at + 1 + n - (at + 1)) (drop (at + 1) words)))) waiting' more
-            → RecordStacked words (items_of schema) at t waiting left waiting' (Left more)
+            → RecordStacked words (items_of schema) at t waiting left waiting' (Some more)
         record_stacked attributes Has-All same noted fields rest coded = record {
           new = field_types (attributes_at (items_of schema) t) (names_in fields);
           awaited =
@@ -178,13 +176,13 @@ module _ {schema : List ℕ} {t place : ℕ} (here : TypeStands schema t place) 
 -- ---- what waits after a head, by its kind
 
 module _ (words : List ℕ) (items : List Item) (at t : ℕ) (waiting : List ℕ) (left : ℕ) where
-  pub empty_stacked : EmptyHead ≡ head_of (get_or words at 0) → left ≤ length waiting → PathsStacked words items at t waiting left waiting (Left left)
+  pub empty_stacked : EmptyHead ≡ head_of (get_or words at 0) → left ≤ length waiting → PathsStacked words items at t waiting left waiting (Some left)
   empty_stacked head inside q rest coded =
       rw (empty_of q (sym (head ∙ head_here words rest q at coded)))
       (record { new = []; awaited = refl; there = noted_none waiting left inside })
 
   pub path_stacked :
-      {kind steps : ℕ} → PathHead kind steps ≡ head_of (get_or words at 0) → left ≤ length waiting → PathsStacked words items at t waiting left waiting (Left left)
+      {kind steps : ℕ} → PathHead kind steps ≡ head_of (get_or words at 0) → left ≤ length waiting → PathsStacked words items at t waiting left waiting (Some left)
   path_stacked {kind} {steps} head inside q rest coded =
       rw (path_of q kind steps (sym (head ∙ head_here words rest q at coded))).1
       (record { new = []; awaited = refl; there = noted_none waiting left inside })
@@ -192,7 +190,7 @@ module _ (words : List ℕ) (items : List Item) (at t : ℕ) (waiting : List ℕ
   pub union_stacked :
       UnionHead ≡ head_of (get_or words at 0)
       → left + 1 < length waiting
-      → PathsStacked words items at t waiting left (set (set waiting left t) (left + 1) t) (Left (left + 2))
+      → PathsStacked words items at t waiting left (set (set waiting left t) (left + 1) t) (Some (left + 2))
   union_stacked head inside q rest coded =
       let two : left + 2 ≡ left + 1 + 1 = omega arith in
       rw ((union-of q (sym (head ∙ head_here words rest q at coded))).2, two)
@@ -204,7 +202,7 @@ module _ (words : List ℕ) (items : List Item) (at t : ℕ) (waiting : List ℕ
             (noted_one (set waiting left t) (left + 1) t (rw length-set (omega arith)));
       })
 
-  module _ (waiting' : List ℕ) (r : Awaited) where
+  module _ (waiting' : List ℕ) (r : Maybe ℕ) where
     pub set_awaited :
         SetHead ≡ head_of (get_or words at 0) → StackedBy (set_awaits items t) waiting left waiting' r → PathsStacked words items at t waiting left waiting' r
     set_awaited head stacked q rest coded = rw (set-of q (sym (head ∙ head_here words rest q at coded))).1 stacked
@@ -219,7 +217,7 @@ module _ (words : List ℕ) (items : List Item) (at t : ℕ) (waiting : List ℕ
         rw same (stacked fields rest (rw same at coded))
 
 -- there is room for what waits
-module _ {words : List ℕ} {at : ℕ} {head : WrappedAccessPaths} {schema table : List ℕ} {t : ℕ} {waiting : List ℕ} {left : ℕ} (m : Meeting words at head schema table t waiting left) where
+module _ {words : List ℕ} {at : ℕ} {head : WrappedAccessPaths} {types : Types} {t : ℕ} {waiting : List ℕ} {left : ℕ} (m : Meeting words at head types t waiting left) where
   met_head : head_for m.paths ≡ head
   met_head = sym (m.said ∙ head_here words m.rest m.paths at m.coded)
 
@@ -230,15 +228,23 @@ module _ {words : List ℕ} {at : ℕ} {head : WrappedAccessPaths} {schema table
   pub meeting_within : at + 1 + size_of head ≤ length words
   meeting_within = omega (arith, next_room (stands_alone words m.rest m.paths at m.coded), ap size_of met_head)
 
-  pub meeting_as : {said : WrappedAccessPaths} → head ≡ said → Meeting words at said schema table t waiting left
+  pub meeting_as : {said : WrappedAccessPaths} → head ≡ said → Meeting words at said types t waiting left
   meeting_as e = record {
     paths = m.paths;
     rest = m.rest;
     coded = m.coded;
     said = sym e ∙ m.said;
-    type = m.type;
+    known = m.known;
     room = m.room;
   }
+
+-- only the head of a path gives a pair
+pub no_pairs : (head : WrappedAccessPaths) (at t : ℕ) → ((kind steps : ℕ) → head ≡ PathHead kind steps → ⊥) → pairs_for head at t ≡ []
+no_pairs EmptyHead at t other = refl
+no_pairs (PathHead kind steps) at t other = absurd (other kind steps refl)
+no_pairs UnionHead at t other = refl
+no_pairs SetHead at t other = refl
+no_pairs (RecordHead fields) at t other = refl
 
 -- ---- what wrapped paths give, one after the other
 
@@ -526,7 +532,7 @@ module _
     (w : TypesWait words rest items paths t at waiting pairs from left count)
   where
     -- none is left
-    pub waits_done : left ≤ 0 → RequiredBy words items paths t at pairs (Next from count)
+    pub waits_done : left ≤ 0 → RequiredBy words items paths t at pairs (Some (record { end = from; pairs = count }))
     unfolding all_required codes
     waits_done none_left = go w.qs w.ahead.as_many w.ends w.required
       where
@@ -612,17 +618,17 @@ module _
       }
 
       pub waits_meeting :
-          {head : WrappedAccessPaths} {schema table : List ℕ} {u : ℕ}
+          {head : WrappedAccessPaths} {types : Types} {u : ℕ}
           → head ≡ head_of (get_or words from 0)
-          → KnownType schema table u
+          → u < types.count
           → nodes_of paths ≤ length waiting
-          → Meeting words from head schema table u waiting (left - 1)
-      waits_meeting said type room = record {
+          → Meeting words from head types u waiting (left - 1)
+      waits_meeting said known room = record {
         paths = next_paths.0;
         rest = codes next_paths.1 ++ rest;
         coded = coded_here;
         said = said;
-        type = type;
+        known = known;
         room = omega (arith, w.few, nodes_here, here.as_many, many_nodes next_paths.1);
       }
 
@@ -677,7 +683,7 @@ module _
               ∙ required_turn typed next_paths.0
 
           -- a literal is against its type
-          pub waits_none : PathsStacked words items from (get_or waiting (left - 1) 0) waiting (left - 1) waiting' NoneWait → full_type_required items paths t ≡ none
+          pub waits_none : PathsStacked words items from (get_or waiting (left - 1) 0) waiting (left - 1) waiting' None → full_type_required items paths t ≡ none
           waits_none stacked =
               let against = stacked next_paths.0 (codes next_paths.1 ++ rest) coded_here in
               required_here ∙ rw (turned, ap (awaits items next_paths.0) (sym top_type) ∙ against)
@@ -689,7 +695,7 @@ module _
               {more count' : ℕ}
               (said : h ≡ head_of (get_or words from 0))
               (inside : left ≤ length waiting)
-              (stacked : PathsStacked words items from (get_or waiting (left - 1) 0) waiting (left - 1) waiting' (Left more))
+              (stacked : PathsStacked words items from (get_or waiting (left - 1) 0) waiting (left - 1) waiting' (Some more))
               (noted : Noted pairs count (pairs_for h from (get_or waiting (left - 1) 0)) pairs' count')
             where
               head : h ≡ head_for next_paths.0

@@ -11,15 +11,13 @@ ghost use Rattle.wrapped_paths.specs.Code.{names_in};
 ghost use Rattle.wrapped_paths.specs.Turns.{Noted};
 ghost use Rattle.wrapped_paths.specs.declared.WrappedAccessPaths.TheVariants.{RecordLiteral as RecordHead};
 ghost use Rattle.path_tries.specs.Nodes.{Became};
-ghost use Rattle.type_table.specs.Tables.{KnownType};
 ghost use Rattle.full_types.specs.Pairs.{pair_place, pair_type, AllPairs, taken_at, DeepBy, TypedPath, TypedLeaf, TypedPairs};
 ghost use Rattle.full_types.specs.Required.{type_or, field_types, set_awaits, StackedBy, RecordStacked, PathsStacked, Meeting, pairs_for, PairRoom, PairsRoom, RequiredAt};
 
 use path_tries::{FEW, PATH, add_access_path, read_path};
 use rows::Kind;
 use schema::Item;
-use type_table::{attributes_end, size_at, type_named, type_to_access_trie};
-use words::wide;
+use type_table::{Types, attributes_end, size_at, type_named, type_to_access_trie};
 use wrapped_paths::{WrappedAccessPaths, measure, name_place, steps_at};
 
 // A path's place and the type that it takes.
@@ -29,18 +27,11 @@ struct Pair {
     t: u64,
 }
 
-// What wrapped paths and a type give: the place after them and so many pairs of a path and a type, or a literal against its type.
+// What wrapped paths and a type give: the place after them, and so many pairs of a path and a type.
 #[derive(Drop)]
-pub enum Required {
-    Next(usize, usize),
-    Mismatch,
-}
-
-// How many types wait once a head has met its own, or a literal against its type.
-#[derive(Drop)]
-enum Awaited {
-    Left(usize),
-    Mismatch,
+pub struct Required {
+    pub end: usize,
+    pub pairs: usize,
 }
 
 // The number past all types that waits for a field which its record type has not.
@@ -70,12 +61,10 @@ impl Pair {
 fn has_all(attributes: &[u64], names: &[u16]) -> bool
     ensures { (fields : Fields) → names.now ≡ names_in fields → result ≡ has_all fields (items_of attributes.now) }
 {
-    let mut i = 0;
-    while i < attributes.len() {
-        if name_place(names, Item::of(attributes[i]).key) == names.len() {
+    for attribute in attributes {
+        if name_place(names, Item::of(*attribute).key).is_none() {
             return false;
         }
-        i += 1;
     }
     true
 }
@@ -101,7 +90,7 @@ fn await_fields(attributes: &[u64], names: &[u16], waiting: &mut [u64], left: us
     let mut i = names.len();
     while 0 < i {
         i -= 1;
-        waiting[more] = field_type(attributes, wide(names[i]));
+        waiting[more] = field_type(attributes, u64::from(names[i]));
         more += 1;
     }
     more
@@ -112,41 +101,40 @@ fn await_record(
     code: &[u16],
     at: usize,
     fields: usize,
-    words: &[u64],
-    table: &[u64],
+    types: &Types<'_>,
     t: u64,
     waiting: &mut [u64],
     left: usize,
-) -> Awaited
-    requires { Meeting code.now at (RecordHead fields) words.now table.now t waiting.old left }
-    ensures { RecordStacked code.now (items_of words.now) at t waiting.old left waiting.new result }
+) -> Option<usize>
+    requires { Meeting code.now at (RecordHead fields) types.now t waiting.old left }
+    ensures { RecordStacked code.now (items_of types.now.words.now) at t waiting.old left waiting.new result }
 {
-    let place = size_at(table, t).place;
-    if Item::of(words[place]).tag != Item::RECORD {
-        return Awaited::Mismatch;
+    let place = size_at(types.table, t).place;
+    if Item::of(types.words[place]).tag != Item::RECORD {
+        return None;
     }
     let first = place + 1;
-    let end = attributes_end(words, first);
+    let end = attributes_end(types.words, first);
     let names = at + 1;
     let from = names + fields;
-    if !has_all(&words[first..end], &code[names..from]) {
-        return Awaited::Mismatch;
+    if !has_all(&types.words[first..end], &code[names..from]) {
+        return None;
     }
-    Awaited::Left(await_fields(&words[first..end], &code[names..from], waiting, left))
+    Some(await_fields(&types.words[first..end], &code[names..from], waiting, left))
 }
 
 // A set literal against a type: it needs a set type, whose element type waits.
-fn await_set(words: &[u64], table: &[u64], t: u64, waiting: &mut [u64], left: usize) -> Awaited
-    requires { KnownType words.now table.now t × (left < length waiting.old) }
-    ensures { StackedBy (set_awaits (items_of words.now) t) waiting.old left waiting.new result }
+fn await_set(types: &Types<'_>, t: u64, waiting: &mut [u64], left: usize) -> Option<usize>
+    requires { (t < types.now.count) × (left < length waiting.old) }
+    ensures { StackedBy (set_awaits (items_of types.now.words.now) t) waiting.old left waiting.new result }
 {
-    let place = size_at(table, t).place;
-    let item = Item::of(words[place]);
+    let place = size_at(types.table, t).place;
+    let item = Item::of(types.words[place]);
     if item.tag != Item::SET {
-        return Awaited::Mismatch;
+        return None;
     }
     waiting[left] = item.value;
-    Awaited::Left(left + 1)
+    Some(left + 1)
 }
 
 // The head at a place against a type: the types of what it wraps wait.
@@ -154,26 +142,24 @@ fn await_wrapped(
     code: &[u16],
     at: usize,
     head: WrappedAccessPaths,
-    words: &[u64],
-    table: &[u64],
+    types: &Types<'_>,
     t: u64,
     waiting: &mut [u64],
     left: usize,
-) -> Awaited
-    requires { Meeting code.now at head words.now table.now t waiting.old left }
-    ensures { PathsStacked code.now (items_of words.now) at t waiting.old left waiting.new result }
+) -> Option<usize>
+    requires { Meeting code.now at head types.now t waiting.old left }
+    ensures { PathsStacked code.now (items_of types.now.words.now) at t waiting.old left waiting.new result }
 {
     match head {
-        WrappedAccessPaths::Empty => Awaited::Left(left),
-        WrappedAccessPaths::AccessPath(_, _) => Awaited::Left(left),
+        WrappedAccessPaths::Empty | WrappedAccessPaths::AccessPath(_, _) => Some(left),
         WrappedAccessPaths::Union => {
             waiting[left] = t;
             waiting[left + 1] = t;
-            Awaited::Left(left + 2)
+            Some(left + 2)
         }
-        WrappedAccessPaths::SetLiteral => await_set(words, table, t, waiting, left),
+        WrappedAccessPaths::SetLiteral => await_set(types, t, waiting, left),
         WrappedAccessPaths::RecordLiteral(fields) => {
-            await_record(code, at, fields, words, table, t, waiting, left)
+            await_record(code, at, fields, types, t, waiting, left)
         }
     }
 }
@@ -184,14 +170,11 @@ fn note_pair(head: WrappedAccessPaths, at: usize, t: u64, pairs: &mut [u64], cou
     ensures { Noted pairs.old count (pairs_for head at t) pairs.new result }
 {
     match head {
-        WrappedAccessPaths::Empty => count,
         WrappedAccessPaths::AccessPath(_, _) => {
             pairs[count] = Pair { place: at, t }.word();
             count + 1
         }
-        WrappedAccessPaths::Union => count,
-        WrappedAccessPaths::SetLiteral => count,
-        WrappedAccessPaths::RecordLiteral(_) => count,
+        _ => count,
     }
 }
 
@@ -199,13 +182,12 @@ fn note_pair(head: WrappedAccessPaths, at: usize, t: u64, pairs: &mut [u64], cou
 pub fn full_type_required(
     code: &[u16],
     at: usize,
-    words: &[u64],
-    table: &[u64],
+    types: &Types<'_>,
     t: u64,
     pairs: &mut [u64],
-) -> Required
-    requires { KnownType words.now table.now t × PairsRoom code.now at pairs.old }
-    ensures { RequiredAt code.now (items_of words.now) t at pairs.new result }
+) -> Option<Required>
+    requires { (t < types.now.count) × PairsRoom code.now at pairs.old }
+    ensures { RequiredAt code.now (items_of types.now.words.now) t at pairs.new result }
 {
     // No more types wait than there may be paths.
     let mut waiting = [t; WrappedAccessPaths::PATHS];
@@ -219,24 +201,16 @@ pub fn full_type_required(
             from = measure(code, from, 1).end;
         } else {
             let head = WrappedAccessPaths::of(code[from]);
-            let Awaited::Left(more) = await_wrapped(
-                code,
-                from,
-                head,
-                words,
-                table,
-                next,
-                &mut waiting,
-                left,
-            ) else {
-                return Required::Mismatch;
-            };
+            let more = await_wrapped(code, from, head, types, next, &mut waiting, left)?;
             count = note_pair(head, from, next, pairs, count);
             from += head.words();
             left = more;
         }
     }
-    Required::Next(from, count)
+    Some(Required {
+        end: from,
+        pairs: count,
+    })
 }
 
 // Whether some path with the trie of its type below it would exceed the steps of a position.
@@ -244,13 +218,11 @@ pub fn is_any_too_deep(code: &[u16], table: &[u64], pairs: &[u64]) -> bool
     requires { AllPairs code.now 1024 pairs.now × (length table.now ≡ 1024) }
     ensures { DeepBy code.now table.now pairs.now result }
 {
-    let mut i = 0;
-    while i < pairs.len() {
-        let pair = Pair::of(pairs[i]);
+    for word in pairs {
+        let pair = Pair::of(*word);
         if Kind::STEPS < steps_at(code, pair.place) + size_at(table, pair.t).depth {
             return true;
         }
-        i += 1;
     }
     false
 }
@@ -259,55 +231,51 @@ pub fn is_any_too_deep(code: &[u16], table: &[u64], pairs: &[u64]) -> bool
 fn add_typed_by(
     trie: &mut [u64],
     path: &[u64],
-    words: &[u64],
-    table: &[u64],
+    types: &Types<'_>,
     t: u64,
     leaf: &mut [u64],
 ) -> bool
-    requires { TypedLeaf trie.old path.now words.now table.now t leaf.old }
-    ensures { Became (add_access_path (rows_in trie.old) path.now (type_to_access_trie (items_of words.now) t)) trie.new result }
+    requires { TypedLeaf trie.old path.now types.now t leaf.old }
+    ensures { Became (add_access_path (rows_in trie.old) path.now (type_to_access_trie (items_of types.now.words.now) t)) trie.new result }
 {
-    let end = type_to_access_trie(words, table, t, 0, leaf, 0);
+    let end = type_to_access_trie(types.words, types.table, t, 0, leaf, 0);
     add_access_path(trie, path, false, &leaf[..end])
 }
 
 // Merges a path with the trie of a type as its leaf into a trie, and answers whether it stays within the limit of nodes.
-fn add_typed(trie: &mut [u64], path: &[u64], words: &[u64], table: &[u64], t: u64) -> bool
-    requires { TypedPath trie.old path.now words.now table.now t }
-    ensures { Became (add_access_path (rows_in trie.old) path.now (type_to_access_trie (items_of words.now) t)) trie.new result }
+fn add_typed(trie: &mut [u64], path: &[u64], types: &Types<'_>, t: u64) -> bool
+    requires { TypedPath trie.old path.now types.now t }
+    ensures { Became (add_access_path (rows_in trie.old) path.now (type_to_access_trie (items_of types.now.words.now) t)) trie.new result }
 {
-    let nodes = size_at(table, t).nodes;
+    let nodes = size_at(types.table, t).nodes;
     if Kind::CONTRIBUTION_NODES < nodes {
         return false;
     }
     if nodes <= FEW as u64 {
         let mut leaf = [0u64; FEW];
-        return add_typed_by(trie, path, words, table, t, &mut leaf);
+        return add_typed_by(trie, path, types, t, &mut leaf);
     }
     let mut leaf = [0u64; 1_024];
-    add_typed_by(trie, path, words, table, t, &mut leaf)
+    add_typed_by(trie, path, types, t, &mut leaf)
 }
 
 // Merges all paths with the tries of their types into a trie, and answers whether it stays within the limit of nodes.
 pub fn add_taken(
     trie: &mut [u64],
     code: &[u16],
-    words: &[u64],
-    table: &[u64],
+    types: &Types<'_>,
     pairs: &[u64],
 ) -> bool
-    requires { TypedPairs trie.old code.now words.now table.now pairs.now }
-    ensures { Became (add_taken (items_of words.now) (rows_in trie.old) (map (taken_at code.now) pairs.now)) trie.new result }
+    requires { TypedPairs trie.old code.now types.now pairs.now }
+    ensures { Became (add_taken (items_of types.now.words.now) (rows_in trie.old) (map (taken_at code.now) pairs.now)) trie.new result }
 {
     let mut path = [0u64; PATH];
-    let mut i = 0;
-    while i < pairs.len() {
-        let pair = Pair::of(pairs[i]);
+    for word in pairs {
+        let pair = Pair::of(*word);
         let steps = read_path(code, pair.place, &mut path);
-        if !add_typed(trie, &path[..steps], words, table, pair.t) {
+        if !add_typed(trie, &path[..steps], types, pair.t) {
             return false;
         }
-        i += 1;
     }
     true
 }

@@ -5,8 +5,5 @@ use Rattle.schema.specs.Items.{items_of}
 use Rattle.full_types.specs.FullLaws.{AddingTaken}
 use Rattle.full_types.proofs.add_taken.Given as goal
 
-abbrev pub invariant-loop-i : goal.invariant-loop-i
-invariant-loop-i l = (length l.path ≡ 24) × AddingTaken (items_of l.words) l.code l.pairs l.initial.trie l.i l.trie
-
-abbrev pub decreases-loop-i : goal.decreases-loop-i
-decreases-loop-i l = length l.pairs - l.i
+abbrev pub invariant-loop-word : goal.invariant-loop-word
+invariant-loop-word l = (length l.path ≡ 24) × AddingTaken (items_of l.types.words.now) l.code l.pairs l.initial.trie l.word-index l.trie

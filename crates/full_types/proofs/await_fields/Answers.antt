@@ -36,7 +36,7 @@ loop-i-smaller c = omega (arith, c.loop-i-test.true)
 
 pub loop-i-preserved : goal.loop-i-preserved
 loop-i-preserved c =
-    fielding_next c.loop-i.invariant c.loop-i-test.true c.requires.1 (rw c.wide.ensures.0 at c.field_type.ensures)
+    fielding_next c.loop-i.invariant c.loop-i-test.true c.requires.1 (rw c.from.ensures at c.field_type.ensures)
 
 pub shape_of-waiting : goal.shape_of-waiting
 shape_of-waiting c = c.loop-i.invariant.same_length

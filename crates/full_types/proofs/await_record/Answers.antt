@@ -8,19 +8,20 @@ use Rattle.rules.specs.Paths.{Fields, has_all, attributes_at}
 use Rattle.schema.specs.Items.{items_of}
 use Rattle.wrapped_paths.specs.Code.{names_in}
 use Rattle.type_table.specs.TypeTableLaws.{TypeStands}
+use Rattle.type_table.specs.TypeTableLaws.{known_type}
 use Rattle.full_types.specs.RequiredLaws.{known_inside, known_stands, type_inside, type_cut, type_ascends, meeting_room, meeting_within, record_none, record_lacks, record_stacked}
 use Rattle.full_types.proofs.await_record.Goals as goal
 use Rattle.full_types.proofs.await_record.Goals.{After-attributes_end-end, After-has_all, After-of, After-size_at-place}
 
 -- the type stands there
-there : (c : After-size_at-place) → TypeStands c.args.words.now c.args.t c.size_at-place.result.place
-there c = known_stands c.requires.type c.size_at-place.ensures.0
+there : (c : After-size_at-place) → TypeStands c.args.types.now.words.now c.args.t c.size_at-place.result.place
+there c = known_stands (known_type c.args.types.now c.requires.known) c.size_at-place.ensures.0
 
-tag : (c : After-of) → c.of.result.tag ≡ get_or c.args.words.now c.size_at-place.result.place 0 % 16
+tag : (c : After-of) → c.of.result.tag ≡ get_or c.args.types.now.words.now c.size_at-place.result.place 0 % 16
 tag c = ap (λ (it : Item). it.tag) c.of.ensures
 
 -- its attributes are inside, and so are the names
-inside : (c : After-attributes_end-end) → (TypeStands c.args.words.now c.args.t c.size_at-place.result.place) → c.attributes_end-end.result ≤ length c.args.words.now
+inside : (c : After-attributes_end-end) → (TypeStands c.args.types.now.words.now c.args.t c.size_at-place.result.place) → c.attributes_end-end.result ≤ length c.args.types.now.words.now
 inside c there-here = type_inside there-here c.attributes_end-end.ensures
 
 room :
@@ -30,21 +31,21 @@ room :
 room c = (omega (arith, meeting_room c.requires), meeting_within c.requires)
 
 -- whether all attributes are named
-asked : (c : After-has_all) → (TypeStands c.args.words.now c.args.t c.size_at-place.result.place) → (fields : Fields) →
+asked : (c : After-has_all) → (TypeStands c.args.types.now.words.now c.args.t c.size_at-place.result.place) → (fields : Fields) →
     let args = c.args in
     take (args.at + 1 + args.fields - (args.at + 1)) (drop (args.at + 1) args.code.now) ≡ names_in fields
-    → c.has_all.result ≡ has_all fields (attributes_at (items_of args.words.now) args.t)
+    → c.has_all.result ≡ has_all fields (attributes_at (items_of args.types.now.words.now) args.t)
 asked c there-here fields e =
     c.has_all.ensures fields e ∙ ap (has_all fields) (type_cut there-here c.attributes_end-end.ensures)
 
 pub size_at-place-requires : goal.size_at-place-requires
-size_at-place-requires c = known_inside c.requires.type
+size_at-place-requires c = known_inside (known_type c.args.types.now c.requires.known)
 
-pub offset_bounds-words-place : goal.offset_bounds-words-place
-offset_bounds-words-place c = omega (arith, (there (goal.at.offset_bounds-words-place c).After-size_at-place).inside)
+pub offset_bounds-types-place : goal.offset_bounds-types-place
+offset_bounds-types-place c = omega (arith, (there (goal.at.offset_bounds-types-place c).After-size_at-place).inside)
 
-pub bounds-words-place : goal.bounds-words-place
-bounds-words-place c = (there (goal.at.bounds-words-place c).After-size_at-place).inside
+pub bounds-types-place : goal.bounds-types-place
+bounds-types-place c = (there (goal.at.bounds-types-place c).After-size_at-place).inside
 
 pub returns-then-of-ne-RECORD : goal.returns-then-of-ne-RECORD
 returns-then-of-ne-RECORD c =
@@ -63,8 +64,8 @@ overflow_add-names c = omega (arith, room (goal.at.overflow_add-names c).After-s
 pub overflow_add-from : goal.overflow_add-from
 overflow_add-from c = omega (arith, room (goal.at.overflow_add-from c).After-size_at-place)
 
-pub offset_bounds-words-first : goal.offset_bounds-words-first
-offset_bounds-words-first c = omega (arith, (there (goal.at.offset_bounds-words-first c).After-size_at-place).inside)
+pub offset_bounds-types-first : goal.offset_bounds-types-first
+offset_bounds-types-first c = omega (arith, (there (goal.at.offset_bounds-types-first c).After-size_at-place).inside)
 
 pub slice_bounds-has_all-end : goal.slice_bounds-has_all-end
 slice_bounds-has_all-end c = inside (goal.at.slice_bounds-has_all-end c).After-attributes_end-end (there (goal.at.slice_bounds-has_all-end c).After-size_at-place)
@@ -82,8 +83,8 @@ returns-then-not-has_all c =
     (asked (goal.at.returns-then-not-has_all c).After-has_all (there (goal.at.returns-then-not-has_all c).After-size_at-place))
     (c.if-not-has_all.true)
 
-pub offset_bounds-words-first-2 : goal.offset_bounds-words-first-2
-offset_bounds-words-first-2 c = omega (arith, (there (goal.at.offset_bounds-words-first-2 c).After-size_at-place).inside)
+pub offset_bounds-types-first-2 : goal.offset_bounds-types-first-2
+offset_bounds-types-first-2 c = omega (arith, (there (goal.at.offset_bounds-types-first-2 c).After-size_at-place).inside)
 
 pub slice_bounds-await_fields-end : goal.slice_bounds-await_fields-end
 slice_bounds-await_fields-end c = inside (goal.at.slice_bounds-await_fields-end c).After-attributes_end-end (there (goal.at.slice_bounds-await_fields-end c).After-size_at-place)
@@ -106,7 +107,7 @@ returns c =
     record_stacked (there (goal.at.returns c).After-size_at-place) c.args.code.now c.args.at c.args.fields c.args.waiting.now c.args.left c.requires.said
     (sym (tag (goal.at.returns c).After-of) ∙ c.if-of-ne-RECORD.false)
     (asked (goal.at.returns c).After-has_all (there (goal.at.returns c).After-size_at-place))
-    (take (c.attributes_end-end.result - (c.size_at-place.result.place + 1)) (drop (c.size_at-place.result.place + 1) c.args.words.now))
+    (take (c.attributes_end-end.result - (c.size_at-place.result.place + 1)) (drop (c.size_at-place.result.place + 1) c.args.types.now.words.now))
     (c.if-not-has_all.false)
     (type_cut (there (goal.at.returns c).After-size_at-place) c.attributes_end-end.ensures)
     c.await_fields.ensures
