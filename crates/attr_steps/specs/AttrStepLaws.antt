@@ -15,10 +15,10 @@ use Rattle.wrapped_paths.specs.Code.{code, Measures, paths_at, Grew}
 use Rattle.wrapped_paths.specs.AttrLaws.{grown_nodes, grown_few}
 use Rattle.path_tries.specs.Nodes.{Became, any_deep}
 use Rattle.wrapped_paths.specs.Turns.{Growing}
-use Rattle.result_stack.specs.Stacks.{trie_words, Held, Reached, Placed, Scratch}
+use Rattle.result_stack.specs.Stacks.{Held, Reached, Replaced, Scratch}
 use Rattle.result_stack.specs.declared.Stack.{Stack}
 use Rattle.result_stack.specs.StackLaws.{top_good, below, below_held, top_stands, code_end, tries_end, top_few}
-use Rattle.result_stack.specs.JudgingLaws.{any-deep, none_deep, Judging, unfit, judging_stored}
+use Rattle.result_stack.specs.JudgingLaws.{any-deep, none_deep, Judging, unfit, replaced}
 
 grown_some : (f : ℕ) (paths : Paths) → Each (λ path. 0 < length path) (grown_in f paths)
 unfolding grown_in Each
@@ -119,16 +119,12 @@ module _ {code_run tries : List ℕ} {stack : Stack} {top : Result} {rest : List
         attr_rows = unfit attr_judging shallow became
 
         pub attr_done :
-            {code_run' tries' : List ℕ} {end nodes tend start tstart : ℕ}
+            {code_run' tries' : List ℕ} {after : Stack} {end nodes tend : ℕ}
             → fits ≡ true
             → Measures code_run stack.code 1 end nodes
             → tend ≡ stack.tries + 1 + get_or tries stack.tries 0
-            → Placed (take words out) code_run end code_run' start
-            → Placed (trie_words (rows_in state')) tries tend tries' tstart
-            → Reached (λ place. attr_step place f (top ∷ rest)) code_run' tries'
-            (record { code = start; tries = tstart; results = stack.results })
-        attr_done fit m te p t =
-            judging_stored attr_judging shallow became fit (below_held held).layout
-            (rw (code_end held m, g.coded) at p)
-            (rw (tries_end held te) at t)
-            held.layout.as_many
+            → Replaced (take words out) state' code_run end tries tend stack.results code_run' tries' after
+            → Reached (λ place. attr_step place f (top ∷ rest)) code_run' tries' after
+        attr_done fit m te w =
+            replaced attr_judging shallow became fit (below_held held).layout held.layout.as_many
+            (rw (code_end held m, g.coded, tries_end held te) at w)

@@ -10,8 +10,8 @@ ghost use Rattle.path_tries.specs.Nodes.{Became, PathsToAdd};
 ghost use Rattle.result_stack.specs.Stacks.{Working, Scratch, StepsBy};
 
 use path_tries::{add_wrapped_access_paths, is_too_deep};
-use result_stack::{Stack, Stepped, copy_trie, put_before, put_trie, trie_end};
-use wrapped_paths::{Extended, WrappedAccessPaths, get_or_has_attr, measure};
+use result_stack::{Stack, StepRefusal, copy_trie, replace, trie_end};
+use wrapped_paths::{WrappedAccessPaths, get_or_has_attr, measure};
 
 // `restore_global_trie_invariant`: merges the paths at some places into a trie, and answers whether it stays within the limit of nodes.
 fn restore_global_trie_invariant(trie: &mut [u64], code: &[u16], places: &[u64]) -> bool
@@ -30,36 +30,35 @@ pub fn attr_step(
     paths: &mut [u16],
     trie: &mut [u64],
     stack: Stack,
-) -> Stepped
+) -> Result<Stack, StepRefusal>
     requires working { Working code.old tries.old trie.old stack }
     requires name_bound { (name < 65536) × Scratch code.old paths.old }
     ensures { StepsBy (λ place results. attr_step place name results) code.old tries.old stack code.new tries.new result }
 {
     if stack.results == 0 {
-        return Stepped::Refused(6);
+        return Err(StepRefusal::Results);
     }
     let mut places = [0u64; WrappedAccessPaths::PATHS];
-    let Extended::Done(words, grown) = get_or_has_attr(
-        code,
-        stack.code,
-        name as u16,
-        paths,
-        &mut places,
-    ) else {
-        return Stepped::Refused(7);
+    let Some(extended) = get_or_has_attr(code, stack.code, name as u16, paths, &mut places) else {
+        return Err(StepRefusal::SetDereferenced);
     };
-    if is_too_deep(paths, &places[..grown], 0) {
-        return Stepped::Refused(3);
+    let grown = &places[..extended.grown];
+    if is_too_deep(paths, grown, 0) {
+        return Err(StepRefusal::TooDeep);
     }
     copy_trie(tries, stack.tries, trie);
-    if !restore_global_trie_invariant(trie, paths, &places[..grown]) {
-        return Stepped::Refused(4);
+    if !restore_global_trie_invariant(trie, paths, grown) {
+        return Err(StepRefusal::TooManyNodes);
     }
     let code_end = measure(code, stack.code, 1).end;
     let tries_end = trie_end(tries, stack.tries);
-    Stepped::Next(Stack {
-        code: put_before(&paths[..words], code, code_end),
-        tries: put_trie(trie, tries, tries_end),
-        results: stack.results,
-    })
+    Ok(replace(
+        &paths[..extended.words],
+        trie,
+        code,
+        code_end,
+        tries,
+        tries_end,
+        stack.results,
+    ))
 }

@@ -3,7 +3,7 @@ use Rattle.std.specs.Prelude.{ℕ, ◌+◌, ◌≤◌, ◌<◌, ◌≡◌, refl,
 use Rattle.std.proofs.Common.{arith, ◌∙◌}
 use Rattle.std.proofs.Math.Option.{none}
 use Rattle.rules.specs.Numbers.{refused}
-use Rattle.rules.specs.Paths.{nodes_of, type_to_access_trie, Taken, full_type_required, add_taken, taken_tries}
+use Rattle.rules.specs.Paths.{Empty, nodes_of, type_to_access_trie, Taken, full_type_required, add_taken, taken_tries}
 use Rattle.rules.specs.Steps.{Result, empty_paths, full_step}
 use Rattle.rules.proofs.StepLaws.{any_too_deep, stepped_some, all_deep, taken_each, Each, IsPath, trie_shallow}
 use Rattle.rules.proofs.TypeLaws.{path_deep, types_in, types_few, TypeAt, type_there, type_missing}
@@ -13,9 +13,9 @@ use Rattle.path_tries.specs.Nodes.{Became}
 use Rattle.type_table.specs.TypeTableLaws.{good_lawful}
 use Rattle.full_types.specs.Pairs.{taken_at, AllPairs, any_taken_deep, AllTakenPaths}
 use Rattle.full_types.specs.Required.{TypesTook}
-use Rattle.result_stack.specs.Stacks.{Held, Outcomes, ReplacedBy}
+use Rattle.wrapped_paths.specs.Code.{code}
+use Rattle.result_stack.specs.Stacks.{Held, Reached, Replaced}
 use Rattle.result_stack.specs.declared.Stack.{Stack}
-use Rattle.result_stack.specs.declared.Stepped.{Stepped}
 use Rattle.result_stack.specs.StackLaws.{top_good, below_held, tries_end, top_few}
 use Rattle.result_stack.specs.JudgingLaws.{Judging, unfit, replaced}
 
@@ -102,11 +102,11 @@ module _ (words : List ℕ) (good : good_items words ≡ true) where
           full_rows = unfit full_judging shallow became
 
           pub full_done :
-              (code_run' tries' : List ℕ) (r : Stepped) {tend : ℕ}
+              {code_run' tries' : List ℕ} {after : Stack} {tend : ℕ}
               → fits ≡ true
               → tend ≡ stack.tries + 1 + get_or tries stack.tries 0
-              → ReplacedBy state' code_run end tries tend stack.results code_run' tries' r
-              → Outcomes (λ place. full_step (items_of words) t place (top ∷ rest)) code_run' tries' r
-          full_done code_run' tries' r fit te w =
-              replaced code_run' tries' r full_judging shallow became fit (below_held held).layout held.layout.as_many
+              → Replaced (code Empty) state' code_run end tries tend stack.results code_run' tries' after
+              → Reached (λ place. full_step (items_of words) t place (top ∷ rest)) code_run' tries' after
+          full_done fit te w =
+              replaced full_judging shallow became fit (below_held held).layout held.layout.as_many
               (rw (k.ends, tries_end held te) at w)

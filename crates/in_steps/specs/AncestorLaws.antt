@@ -11,7 +11,7 @@ use Rattle.rules.specs.Facts.{by_test, larger_max}
 use Rattle.rules.specs.Numbers.{refused}
 use Rattle.rules.specs.Tries.{is_step, union}
 use Rattle.rules.proofs.TrieLaws.{node_step, union_left_length, union_right_length}
-use Rattle.rules.specs.Paths.{Path, Leaf, paths_in, nodes_of, to_root_access_trie_with_leaf, union_all, path_tries, add_paths}
+use Rattle.rules.specs.Paths.{Path, Empty, Leaf, paths_in, nodes_of, to_root_access_trie_with_leaf, union_all, path_tries, add_paths}
 use Rattle.rules.specs.Steps.{Result, two_step, in_result}
 use Rattle.rules.proofs.StepLaws.{all_length, all_deep, Each, AllPaths, trie_shallow}
 use Rattle.rules.proofs.TypeLaws.{deepest, union_too_deep, path_length, longest, marked_leaf, ancestor_deep, is_no_trie}
@@ -19,12 +19,11 @@ use Rattle.rows.specs.Words.{depth_in, step_in, row_in, is_word}
 use Rattle.rows.specs.WordLaws.{is-row}
 use Rattle.rows.specs.States.{rows_of, rows_in}
 use Rattle.words.specs.Runs.{words_in}
-use Rattle.wrapped_paths.specs.Code.{paths_at}
+use Rattle.wrapped_paths.specs.Code.{code, paths_at}
 use Rattle.path_tries.specs.Nodes.{node_word, below_word, all_nodes, all_below, IsState, Became, leaf_of, any_deep, AllFit}
 use Rattle.path_tries.specs.NodeLaws.{as_it_was}
-use Rattle.result_stack.specs.Stacks.{Held, Outcomes, ReplacedBy, ancestors_required}
+use Rattle.result_stack.specs.Stacks.{Held, Reached, Replaced, ancestors_required}
 use Rattle.result_stack.specs.declared.Stack.{Stack}
-use Rattle.result_stack.specs.declared.Stepped.{Stepped}
 use Rattle.result_stack.specs.StackLaws.{top_good, below, below_held}
 use Rattle.result_stack.specs.JudgingLaws.{any-deep, none_deep, all_some, Judging, judging_many, unfit, replaced}
 
@@ -185,13 +184,13 @@ module _ {code_run tries : List ℕ} {stack : Stack} {right left : Result} {rest
         in_rows = unfit in_judging shallow united
 
         pub in_done :
-            (code_run' tries' : List ℕ) (r : Stepped) {end tend : ℕ}
+            {code_run' tries' : List ℕ} {after : Stack} {end tend : ℕ}
             → fits' ≡ true
             → end ≡ (below (below_held held)).code
             → tend ≡ (below (below_held held)).tries
-            → ReplacedBy state'' code_run end tries tend (stack.results - 1) code_run' tries' r
-            → Outcomes (λ place. two_step in_result place (right ∷ left ∷ rest)) code_run' tries' r
-        in_done code_run' tries' r fit' e t w =
-            replaced code_run' tries' r in_judging shallow united fit' (below_held (below_held held)).layout
+            → Replaced (code Empty) state'' code_run end tries tend (stack.results - 1) code_run' tries' after
+            → Reached (λ place. two_step in_result place (right ∷ left ∷ rest)) code_run' tries' after
+        in_done fit' e t w =
+            replaced in_judging shallow united fit' (below_held (below_held held)).layout
             (omega (arith, held.layout.as_many))
             (rw (e, t) at w)

@@ -12,7 +12,7 @@ ghost use Rattle.path_tries.specs.Nodes.{Became, PathsToAdd, any_deep};
 ghost use Rattle.result_stack.specs.Stacks.{Working, StepsBy, ancestors_required};
 
 use path_tries::{TRIE, add_wrapped_access_paths, is_too_deep, longest, union_into};
-use result_stack::{Stack, Stepped, copy_trie, replace, trie_end};
+use result_stack::{Stack, StepRefusal, copy_trie, replace, trie_end};
 use wrapped_paths::{WrappedAccessPaths, measure, paths_in};
 
 // `to_ancestor_access_trie`: merges the paths at some places, each leaf marked, into a trie, and answers whether it stays within the limit of
@@ -32,7 +32,7 @@ fn with_ancestors_required(trie: &mut [u64], code: &[u16], left: &[u64], right: 
     requires right_value { any_deep (paths_at code.now left.now) (longest_of (paths_at code.now right.now)) ≡ false }
     ensures { Became (ancestors_required (rows_in trie.old) (paths_at code.now left.now) (paths_at code.now right.now)) trie.new result }
 {
-    if left.len() == 0 {
+    if left.is_empty() {
         return true;
     }
     let mut ancestors = [0u64; TRIE];
@@ -44,35 +44,47 @@ fn with_ancestors_required(trie: &mut [u64], code: &[u16], left: &[u64], right: 
 }
 
 // `in`: the left side with the right side's ancestor trie, then both tries merged; no paths are left. `trie` is scratch.
-pub fn in_step(code: &mut [u16], tries: &mut [u64], trie: &mut [u64], stack: Stack) -> Stepped
+pub fn in_step(
+    code: &mut [u16],
+    tries: &mut [u64],
+    trie: &mut [u64],
+    stack: Stack,
+) -> Result<Stack, StepRefusal>
     requires { Working code.old tries.old trie.old stack }
     ensures { StepsBy (λ place results. two_step in_result place results) code.old tries.old stack code.new tries.new result }
 {
     if stack.results < 2 {
-        return Stepped::Refused(6);
+        return Err(StepRefusal::Results);
     }
-    let mut right = [0u64; WrappedAccessPaths::PATHS];
-    let right_paths = paths_in(code, stack.code, &mut right);
+    let mut right_places = [0u64; WrappedAccessPaths::PATHS];
+    let right_paths = paths_in(code, stack.code, &mut right_places);
+    let right = &right_places[..right_paths];
     let left_code = measure(code, stack.code, 1).end;
-    let mut left = [0u64; WrappedAccessPaths::PATHS];
-    let left_paths = paths_in(code, left_code, &mut left);
-    if is_too_deep(
-        code,
-        &left[..left_paths],
-        longest(code, &right[..right_paths]),
-    ) {
-        return Stepped::Refused(3);
+    let mut left_places = [0u64; WrappedAccessPaths::PATHS];
+    let left_paths = paths_in(code, left_code, &mut left_places);
+    let left = &left_places[..left_paths];
+    if is_too_deep(code, left, longest(code, right)) {
+        return Err(StepRefusal::TooDeep);
     }
     let right_tries = stack.tries;
     let left_tries = trie_end(tries, right_tries);
     copy_trie(tries, left_tries, trie);
-    if !with_ancestors_required(trie, code, &left[..left_paths], &right[..right_paths]) {
-        return Stepped::Refused(4);
+    if !with_ancestors_required(trie, code, left, right) {
+        return Err(StepRefusal::TooManyNodes);
     }
     if !union_into(trie, &tries[right_tries + 1..left_tries]) {
-        return Stepped::Refused(4);
+        return Err(StepRefusal::TooManyNodes);
     }
     let code_end = measure(code, left_code, 1).end;
     let tries_end = trie_end(tries, left_tries);
-    replace(trie, code, code_end, tries, tries_end, stack.results - 1)
+    let empty = [WrappedAccessPaths::Empty.word()];
+    Ok(replace(
+        &empty,
+        trie,
+        code,
+        code_end,
+        tries,
+        tries_end,
+        stack.results - 1,
+    ))
 }

@@ -5,17 +5,15 @@ use Rattle.std.proofs.Common.{arith, sym, ◌∙◌, ltb-false, leb-true, leb-fa
 use Rattle.rules.specs.Numbers.{Answer, refused}
 use Rattle.rules.specs.Tries.{Row}
 use Rattle.rules.specs.Paths.{Path, Leaf, nodes_of, path_tries}
-use Rattle.rules.specs.Steps.{Result, judged, is_too_deep, empty_paths}
+use Rattle.rules.specs.Steps.{Result, judged, is_too_deep}
 use Rattle.rules.proofs.StepLaws.{any_too_deep, stepped_some, each_then, or_neither, Each, IsPath, AllPaths}
 use Rattle.rules.proofs.TypeLaws.{deepest, path_deep}
 use Rattle.rows.specs.Words.{word_of}
 use Rattle.rows.specs.States.{rows_of, rows_in}
 use Rattle.wrapped_paths.specs.Code.{code}
 use Rattle.path_tries.specs.Nodes.{all_nodes, all_below, Became, any_deep, AllFit}
-use Rattle.result_stack.specs.Stacks.{stack_tries, trie_words, stacked, Layout, Held, Reached, Outcomes, Placed, CopiedFrom, ReplacedBy}
+use Rattle.result_stack.specs.Stacks.{stack_tries, trie_words, stacked, Layout, Held, Reached, Placed, CopiedFrom, Replaced}
 use Rattle.result_stack.specs.declared.Stack.{Stack}
-use Rattle.result_stack.specs.declared.Stepped.{Stepped}
-use Rattle.result_stack.specs.declared.Stepped.TheVariants.{Next, Refused}
 use Rattle.result_stack.specs.StackLaws.{judged_deep, judged_rows, judged_good, trie-words, trie_rows, top_trie, top_good, landed}
 
 -- ---- paths with what is below them
@@ -107,16 +105,15 @@ module _ {answer : ℕ → Answer (List Result)} {top : Result} {rest : List Res
         layout = landed layout paths (rw (b.there fit) at rows) many;
       }
 
--- empty paths and a trie take the place of results
+-- paths and a trie take the place of results
 pub replaced :
-    {answer : ℕ → Answer (List Result)} {trie : List Row} {rest : List Result} {deep fits : Bool} {state code_run tries : List ℕ} {under : Stack} {results : ℕ} (code_run' tries' : List ℕ) (r : Stepped)
-    → Judging answer (empty_paths trie) rest deep
+    {answer : ℕ → Answer (List Result)} {top : Result} {rest : List Result} {deep fits : Bool} {state code_run tries code_run' tries' : List ℕ} {under stack : Stack} {results : ℕ}
+    → Judging answer top rest deep
     → deep ≡ false
-    → Became trie state fits
+    → Became top.trie state fits
     → fits ≡ true
     → Layout code_run tries under rest
     → results ≡ suc (length rest)
-    → ReplacedBy state code_run under.code tries under.tries results code_run' tries' r
-    → Outcomes answer code_run' tries' r
-replaced code_run' tries' (Next stack) j shallow b fit layout many w = judging_stored j shallow b fit layout w.paths w.rows (w.many ∙ many)
-replaced code_run' tries' (Refused number) j shallow b fit layout many w = absurd w
+    → Replaced (code top.paths) state code_run under.code tries under.tries results code_run' tries' stack
+    → Reached answer code_run' tries' stack
+replaced j shallow b fit layout many w = judging_stored j shallow b fit layout w.paths w.rows (w.many ∙ many)

@@ -1,7 +1,7 @@
 -- Laws of the stack of results in words (Stacks): the room in its two runs, tries that are trie_copied, put and merged. No contract cites this
 -- file.
-use Rattle.std.specs.Prelude.{ℕ, suc, ◌+◌, ◌*◌, ◌-◌, ◌≤◌, ◌<◌, ◌≡◌, ◌⊎◌, true, false, get_or, set, replicate}
-use Rattle.std.proofs.Common.{add-one, ap₂, ◌∙◌, inl, inr, length-drop, length-set, drop-drop, drop-cons, drop_at, take_at, length-take-le}
+use Rattle.std.specs.Prelude.{Some, None, ℕ, suc, ◌+◌, ◌*◌, ◌-◌, ◌≤◌, ◌<◌, ◌≡◌, true, false, get_or, set, replicate}
+use Rattle.std.proofs.Common.{add-one, ap₂, ◌∙◌, length-drop, length-set, drop-drop, drop-cons, drop_at, take_at, length-take-le}
 use native.Mathlib.Omega.{arith}
 use Rattle.std.proofs.Math.Path.{refl, sym, ap}
 use Rattle.std.proofs.Math.Bool.{and-eq-true_iff}
@@ -602,11 +602,10 @@ module _ {words state : List ℕ} {place count end i : ℕ} (going : MergingTrie
       }
 
   pub going_over :
-      {words' state' : List ℕ} {start : ℕ}
-      → start ≡ length words
+      (words' : List ℕ) {state' : List ℕ}
       → Became (union (rows_in state) (rows_of (take (get_or words end 0) (drop (end + 1) words)))) state' false
-      → TriesMergedFrom words place count words' start
-  going_over all b tries rest many good there = inl (all, left_over (going.merging tries rest many good there) some_left b)
+      → TriesMergedFrom words place count words' None
+  going_over words' b tries rest many good there = left_over (going.merging tries rest many good there) some_left b
 
 -- all were merged
 pub merging_done :
@@ -614,7 +613,7 @@ pub merging_done :
     → MergingTries words place count state end i
     → count ≤ i
     → Placed (trie_words (rows_in state)) words end words' start
-    → TriesMergedFrom words place count words' start
+    → TriesMergedFrom words place count words' (Some start)
 unfolding union_all stacked
 merging_done {words} {state} {words'} {place} {count} {end} {i} {start} going all p tries rest many good there =
     let l = going.merging tries rest many good there in
@@ -625,13 +624,13 @@ merging_done {words} {state} {words'} {place} {count} {end} {i} {start} going al
         → length ahead ≡ count - i
         → drop end words ≡ stacked ahead ++ rest
         → union_all (rows_in state) ahead ≡ union_all [] tries
-        → ((start ≡ length words) × (1024 < length (union_all [] tries))) ⊎ TriesMerge tries rest words words' start
-    go [] many there same = inr (record {
+        → TriesMerge tries rest words words' start
+    go [] many there same = record {
       fits = omega (arith, ap length same, trie_state_count going.is, going.is.few_rows);
       inside = omega (arith, p.starts, going.inside);
       same_length = p.same_length;
       there = p.there ∙ rw (there, ← same);
-    })
+    }
     go (trie ∷ ahead) many there same = absurd (omega arith)
 
 -- ---- the top

@@ -1,8 +1,8 @@
 -- The stack of results in words: wrapped paths and tries in two runs that end together with them, the top in front.
-use Rattle.std.specs.Prelude.{ℕ, suc, ◌+◌, ◌^◌, ◌≤◌, ◌<◌, ◌≡◌, ◌⊎◌, false, List, [], ◌∷◌, ◌++◌, map, length, drop}
+use Rattle.std.specs.Prelude.{Option as Maybe, Some, None, Result as Tried, Ok, Err, ℕ, suc, ◌+◌, ◌^◌, ◌≤◌, ◌<◌, ◌≡◌, false, List, [], ◌∷◌, ◌++◌, map, length, drop}
 use Rattle.rules.specs.Numbers.{Answer, accepted, refused}
 use Rattle.rules.specs.Tries.{Row}
-use Rattle.rules.specs.Paths.{Path, Paths, Empty, nodes_of, union_all, add_paths}
+use Rattle.rules.specs.Paths.{Path, Paths, nodes_of, union_all, add_paths}
 use Rattle.rules.specs.Steps.{Result, result, judged}
 use Rattle.rules.proofs.StepLaws.{Each, AllGood, IsTrie}
 use Rattle.rules.proofs.TypeLaws.{marked_leaf}
@@ -11,8 +11,21 @@ use Rattle.rows.specs.States.{rows_in}
 use Rattle.wrapped_paths.specs.Code.{codes, nodes_of_all, code as code_of}
 use Rattle.path_tries.specs.Nodes.{IsState}
 use Rattle.result_stack.specs.declared.Stack.{Stack}
-use Rattle.result_stack.specs.declared.Stepped.{Stepped}
-use Rattle.result_stack.specs.declared.Stepped.TheVariants.{Next, Refused}
+use Rattle.result_stack.specs.declared.StepRefusal.{StepRefusal}
+use Rattle.result_stack.specs.declared.StepRefusal.TheVariants.{Unlawful, TooDeep, TooManyNodes, Results, SetDereferenced, Mismatch, TooManyPaths}
+
+-- the number of a refusal, and what a step answers
+abbrev pub number_of : StepRefusal → ℕ
+number_of Unlawful = 1
+number_of TooDeep = 3
+number_of TooManyNodes = 4
+number_of Results = 6
+number_of SetDereferenced = 7
+number_of Mismatch = 8
+number_of TooManyPaths = 15
+
+abbrev pub Stepped : Type 0
+Stepped = Tried Stack StepRefusal
 
 abbrev pub stack_paths : List Result → List Paths
 stack_paths results = map (λ r. r.paths) results
@@ -66,8 +79,8 @@ pub record Reached (answer : ℕ → Answer (List Result)) (code tries : List �
   pub layout : Layout code tries stack after
 
 abbrev pub Outcomes : (ℕ → Answer (List Result)) → List ℕ → List ℕ → Stepped → Type 0
-Outcomes answer code tries (Next stack) = Reached answer code tries stack
-Outcomes answer code tries (Refused number) = (place : ℕ) → answer place ≡ refused number place
+Outcomes answer code tries (Ok stack) = Reached answer code tries stack
+Outcomes answer code tries (Err refusal) = (place : ℕ) → answer place ≡ refused (number_of refusal) place
 
 -- words were put so that they end at a place
 pub record Placed (words out : List ℕ) (end : ℕ) (out' : List ℕ) (start : ℕ) : Type 0 where
@@ -114,13 +127,17 @@ pub record TriesMerge (tries : List (List Row)) (rest words words' : List ℕ) (
   pub same_length : length words' ≡ length words
   pub there : drop start words' ≡ trie_words (union_all [] tries) ++ rest
 
-abbrev pub TriesMergedFrom : List ℕ → ℕ → ℕ → List ℕ → ℕ → Type 0
-TriesMergedFrom words at count words' start =
+abbrev pub TriesMergedBy : List (List Row) → List ℕ → List ℕ → List ℕ → Maybe ℕ → Type 0
+TriesMergedBy tries rest words words' (Some start) = TriesMerge tries rest words words' start
+TriesMergedBy tries rest words words' None = 1024 < length (union_all [] tries)
+
+abbrev pub TriesMergedFrom : List ℕ → ℕ → ℕ → List ℕ → Maybe ℕ → Type 0
+TriesMergedFrom words at count words' merged =
     (tries : List (List Row)) (rest : List ℕ)
     → length tries ≡ count
     → Each IsTrie tries
     → drop at words ≡ stacked tries ++ rest
-    → ((start ≡ length words) × (1024 < length (union_all [] tries))) ⊎ TriesMerge tries rest words words' start
+    → TriesMergedBy tries rest words words' merged
 
 -- the top results were wrapped under a head
 pub record Wraps (head : List ℕ) (taken : List Result) (wrapping : Result) : Type 0 where
@@ -136,16 +153,11 @@ WrapsBy head count code tries stack code' tries' r =
     → Held code tries stack (taken ++ left)
     → Outcomes (λ place. judged place wrapping left) code' tries' r
 
--- a trie with empty paths was put so that it ends at two places
-pub record Replaced (trie code : List ℕ) (code_end : ℕ) (tries : List ℕ) (tries_end results : ℕ) (code' tries' : List ℕ) (stack : Stack) : Type 0 where
-  pub paths : Placed (code_of Empty) code code_end code' stack.code
+-- paths and a trie were put so that they end at two places
+pub record Replaced (words trie code : List ℕ) (code_end : ℕ) (tries : List ℕ) (tries_end results : ℕ) (code' tries' : List ℕ) (stack : Stack) : Type 0 where
+  pub paths : Placed words code code_end code' stack.code
   pub rows : Placed (trie_words (rows_in trie)) tries tries_end tries' stack.tries
   pub many : stack.results ≡ results
-
-abbrev pub ReplacedBy : List ℕ → List ℕ → ℕ → List ℕ → ℕ → ℕ → List ℕ → List ℕ → Stepped → Type 0
-ReplacedBy trie code code_end tries tries_end results code' tries' (Next stack) =
-    Replaced trie code code_end tries tries_end results code' tries' stack
-ReplacedBy trie code code_end tries tries_end results code' tries' (Refused number) = ⊥
 
 -- paths that take the ancestors trie of others as leaf were merged into a trie
 abbrev pub ancestors_required : List Row → List Path → List Path → List Row

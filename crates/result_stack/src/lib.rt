@@ -3,12 +3,12 @@
 
 ghost use Rattle.std.specs.Prelude.{◌≡◌, ◌+◌, ◌≤◌, ◌<◌, length, get_or};
 ghost use Rattle.rows.specs.States.{rows_in};
+ghost use Rattle.words.specs.Replies.{refusal};
 ghost use Rattle.path_tries.specs.Nodes.{IsState};
-ghost use Rattle.result_stack.specs.Stacks.{Holding, Placed, TrieAt, CopiedFrom, trie_words, Pushed, TriesAt, TriesMergedFrom, ReplacedBy};
+ghost use Rattle.result_stack.specs.Stacks.{Holding, Placed, number_of, TrieAt, CopiedFrom, trie_words, Pushed, TriesAt, TriesMergedFrom, Replaced};
 
 use path_tries::union_into;
-use words::{copy_words, copy_words};
-use wrapped_paths::WrappedAccessPaths;
+use words::{Refusal, copy_words};
 
 // Where the top stands in either run, and how many results there are.
 #[derive(Drop)]
@@ -18,11 +18,28 @@ pub struct Stack {
     pub results: u64,
 }
 
-// What a step gives: the stack after it, or a refusal's number.
-#[derive(Drop)]
-pub enum Stepped {
-    Next(Stack),
-    Refused(u64),
+// Why a step refuses, by its number of docs/FORMS.md, 'Numbers given back'.
+#[derive(Clone, Copy, PartialEq, Eq, Debug)]
+pub enum StepRefusal {
+    Unlawful = 1,
+    TooDeep = 3,
+    TooManyNodes = 4,
+    Results = 6,
+    SetDereferenced = 7,
+    Mismatch = 8,
+    TooManyPaths = 15,
+}
+
+impl StepRefusal {
+    // The refusal of the line of that number.
+    pub fn at(self, line: u64) -> Refusal
+        ensures { result ≡ refusal (number_of self) line }
+    {
+        Refusal {
+            number: self as u64,
+            place: line,
+        }
+    }
 }
 
 impl Stack {
@@ -95,59 +112,66 @@ pub fn put_trie(trie: &[u64], tries: &mut [u64], end: usize) -> usize
 }
 
 // A result with an empty trie on top: `from_root`, and the default result.
-pub fn push(paths: &[u16], code: &mut [u16], tries: &mut [u64], stack: Stack) -> Stepped
+pub fn push(
+    paths: &[u16],
+    code: &mut [u16],
+    tries: &mut [u64],
+    stack: Stack,
+) -> Result<Stack, StepRefusal>
     requires { Holding code.old tries.old stack × (length paths.now ≤ 2) }
     ensures { Pushed paths.now code.old tries.old stack code.new tries.new result }
 {
     if Stack::RESULTS <= stack.results {
-        return Stepped::Refused(6);
+        return Err(StepRefusal::Results);
     }
     let top = stack.tries - 1;
     tries[top] = 0;
-    Stepped::Next(Stack {
+    Ok(Stack {
         code: put_before(paths, code, stack.code),
         tries: top,
         results: stack.results + 1,
     })
 }
 
-// Merges the tries of the top results into one, and answers where it begins, or the length of `tries` where it has too many nodes.
-// `merged` is scratch.
-pub fn merge_tries(tries: &mut [u64], at: usize, count: u64, merged: &mut [u64]) -> usize
+// Merges the tries of the top results into one, and answers where it begins, unless it has too many nodes. `merged` is scratch.
+pub fn merge_tries(
+    tries: &mut [u64],
+    at: usize,
+    count: u64,
+    merged: &mut [u64],
+) -> Option<usize>
     requires { TriesAt tries.old at count × (length merged.old ≡ 1026) }
     ensures { TriesMergedFrom tries.old at count tries.new result }
 {
     merged[0] = 0;
     let mut end = at;
-    let mut i = 0;
-    while i < count {
+    for i in 0..count {
         let first = end + 1;
         end = trie_end(tries, end);
         if !union_into(merged, &tries[first..end]) {
-            return tries.len();
+            return None;
         }
-        i += 1;
     }
-    put_trie(merged, tries, end)
+    Some(put_trie(merged, tries, end))
 }
 
-// Puts a trie with empty paths in the place of results that end at two places.
+// Puts paths and a trie in the place of results that end at two places.
 pub fn replace(
+    paths: &[u16],
     trie: &[u64],
     code: &mut [u16],
     code_end: usize,
     tries: &mut [u64],
     tries_end: usize,
     results: u64,
-) -> Stepped
-    requires state { IsState trie.now × ((0 < code_end) × (code_end ≤ length code.old)) }
-    requires trie_bound { (get_or trie.now 0 0 < tries_end) × (tries_end ≤ length tries.old) }
-    ensures { ReplacedBy trie.now code.old code_end tries.old tries_end results code.new tries.new result }
+) -> Stack
+    requires paths_fit { (length paths.now ≤ code_end) × (code_end ≤ length code.old) }
+    requires trie_fits { IsState trie.now × ((get_or trie.now 0 0 < tries_end) × (tries_end ≤ length tries.old)) }
+    ensures { Replaced paths.now trie.now code.old code_end tries.old tries_end results code.new tries.new result }
 {
-    let empty = [WrappedAccessPaths::Empty.word()];
-    Stepped::Next(Stack {
-        code: put_before(&empty, code, code_end),
+    Stack {
+        code: put_before(paths, code, code_end),
         tries: put_trie(trie, tries, tries_end),
         results,
-    })
+    }
 }

@@ -1,6 +1,6 @@
 -- Laws of steps that wrap or push results: what each leaves on the stack. No contract cites this file.
-use Rattle.std.specs.Prelude.{ℕ, ◌+◌, ◌*◌, ◌-◌, ◌≤◌, ◌<◌, ◌≡◌, ◌⊎◌, false, set, replicate}
-use Rattle.std.proofs.Common.{arith, ◌∙◌, inl, inr, take_at}
+use Rattle.std.specs.Prelude.{Some, None, ℕ, ◌+◌, ◌*◌, ◌-◌, ◌≤◌, ◌<◌, ◌≡◌, false, set, replicate}
+use Rattle.std.proofs.Common.{arith, ◌∙◌, take_at}
 use Rattle.std.proofs.Math.Path.{refl, sym, ap, subst}
 use mathlib.Core.List.{List, [], ◌∷◌, ◌++◌, map-append, append_assoc, append-nil}
 use Rattle.std.proofs.Math.Option.{Option, none, some}
@@ -17,9 +17,8 @@ use Rattle.rules.proofs.StepLaws.{Each, IsTrie, GoodResult, AllGood, each_split,
 use Rattle.words.specs.Runs.{Wrote}
 use Rattle.wrapped_paths.specs.Code.{count_in, names_in, code, code_fields, codes, nodes_of_all, Standing, Measures}
 use Rattle.wrapped_paths.specs.CodeLaws.{codes_append}
-use Rattle.result_stack.specs.Stacks.{stack_paths, stack_tries, trie_words, stacked, Held, Reached, Outcomes, Placed, TriesAt, TriesMerge, TriesMergedFrom, Wraps, WrapsBy}
+use Rattle.result_stack.specs.Stacks.{Stepped, stack_paths, stack_tries, trie_words, stacked, Held, Reached, Outcomes, Placed, TriesAt, TriesMergedFrom, Wraps, WrapsBy}
 use Rattle.result_stack.specs.declared.Stack.{Stack}
-use Rattle.result_stack.specs.declared.Stepped.{Stepped}
 use Rattle.result_stack.specs.StackLaws.{judged_nodes, judged_rows, judged_good, top_good, top_few, below_held, code_end}
 
 -- ---- results that are wrapped
@@ -95,39 +94,28 @@ module _ {code_run tries : List ℕ} {stack : Stack} (taken left : List Result) 
           → judged place wrapping left ≡ refused 15 place
       wrap_over e many_nodes place = judged_nodes place wrapping left wrap_few (omega (arith, w.nodes))
 
-      module _ {tries' : List ℕ} {start : ℕ} (few_nodes : nodes_of_all (stack_paths taken) < 256) (m : TriesMergedFrom tries stack.tries count tries' start) where
+      module _ (few_nodes : nodes_of_all (stack_paths taken) < 256) where
         wrapped_nodes : nodes_of wrapping.paths ≤ 256
         wrapped_nodes = omega (arith, w.nodes)
 
         wrapped_shallow : is_too_deep wrapping.trie ≡ false
         wrapped_shallow = rw w.tries (trie_shallow _ (tries_trie [] (stack_tries taken) empty_trie tries_good))
 
-        pub wrap_rows : start ≡ length tries → (place : ℕ) → judged place wrapping left ≡ refused 4 place
-        wrap_rows none_there place =
-            go (m (stack_tries taken) (stacked (stack_tries left)) (length-map taken (λ r. r.trie) ∙ many) tries_good tries_there)
-          where
-            go :
-                ((start ≡ length tries) × (1024 < length (union_all [] (stack_tries taken)))) ⊎ TriesMerge (stack_tries taken) (stacked (stack_tries left)) tries tries' start
-                → judged place wrapping left ≡ refused 4 place
-            go (inl h) = judged_rows place wrapping left wrap_few wrapped_nodes wrapped_shallow (omega (arith, h.1, ap length w.tries))
-            go (inr h) = absurd (omega (arith, h.inside))
+        pub wrap_rows : (tries' : List ℕ) → TriesMergedFrom tries stack.tries count tries' None → (place : ℕ) → judged place wrapping left ≡ refused 4 place
+        wrap_rows tries' m place =
+            let over = m (stack_tries taken) (stacked (stack_tries left)) (length-map taken (λ r. r.trie) ∙ many) tries_good tries_there in
+            judged_rows place wrapping left wrap_few wrapped_nodes wrapped_shallow (omega (arith, over, ap length w.tries))
 
         pub wrap_done :
-            {code_run' : List ℕ} {first : ℕ}
-            → (start ≡ length tries → ⊥)
+            {code_run' tries' : List ℕ} {first start : ℕ}
+            → TriesMergedFrom tries stack.tries count tries' (Some start)
             → Placed head code_run stack.code code_run' first
             → Reached (λ place. judged place wrapping left) code_run' tries'
             (record { code = first; tries = start; results = stack.results - count + 1 })
         unfolding codes stacked
-        wrap_done {code_run'} {first} there p =
-            go (m (stack_tries taken) (stacked (stack_tries left)) (length-map taken (λ r. r.trie) ∙ many) tries_good tries_there)
-          where
-            go :
-                ((start ≡ length tries) × (1024 < length (union_all [] (stack_tries taken)))) ⊎ TriesMerge (stack_tries taken) (stacked (stack_tries left)) tries tries' start
-                → Reached (λ place. judged place wrapping left) code_run' tries'
-                (record { code = first; tries = start; results = stack.results - count + 1 })
-            go (inl h) = absurd (there h.0)
-            go (inr h) = record {
+        wrap_done m p =
+            let h = m (stack_tries taken) (stacked (stack_tries left)) (length-map taken (λ r. r.trie) ∙ many) tries_good tries_there in
+            record {
               after = wrapping ∷ left;
               reached = λ place.
                   judged_good place wrapping left wrap_few wrapped_nodes wrapped_shallow (omega (arith, h.fits, ap length w.tries));

@@ -7,8 +7,7 @@ ghost use Rattle.rules.specs.StepLaws.{Each};
 ghost use Rattle.words.specs.Runs.{Wrote};
 ghost use Rattle.result_stack.specs.Stacks.{Holding, Working, StepsBy, WrapsBy};
 
-use result_stack::{Stack, Stepped, merge_tries, push, put_before};
-use step_lines::Step;
+use result_stack::{Stack, StepRefusal, merge_tries, push, put_before};
 use wrapped_paths::{WrappedAccessPaths, measure};
 
 // Wraps the top results under a head: their tries are merged; `trie` is scratch.
@@ -19,20 +18,19 @@ fn wrap(
     tries: &mut [u64],
     trie: &mut [u64],
     stack: Stack,
-) -> Stepped
+) -> Result<Stack, StepRefusal>
     requires working { Working code.old tries.old trie.old stack }
     requires count_nonzero { (0 < count) × ((count ≤ stack.results) × (length head.now ≤ count + 1)) }
     ensures { WrapsBy head.now count code.old tries.old stack code.new tries.new result }
 {
     let wrapped = measure(code, stack.code, count as usize);
     if WrappedAccessPaths::NODES <= wrapped.nodes {
-        return Stepped::Refused(15);
+        return Err(StepRefusal::TooManyPaths);
     }
-    let merged = merge_tries(tries, stack.tries, count, trie);
-    if merged == tries.len() {
-        return Stepped::Refused(4);
-    }
-    Stepped::Next(Stack {
+    let Some(merged) = merge_tries(tries, stack.tries, count, trie) else {
+        return Err(StepRefusal::TooManyNodes);
+    };
+    Ok(Stack {
         code: put_before(head, code, stack.code),
         tries: merged,
         results: stack.results - count + 1,
@@ -45,7 +43,7 @@ pub struct EntityManifestAnalysisResult {}
 
 impl EntityManifestAnalysisResult {
     // `from_root`: a path that is its root.
-    pub fn from_root(root: u64, code: &mut [u16], tries: &mut [u64], stack: Stack) -> Stepped
+    pub fn from_root(root: u64, code: &mut [u16], tries: &mut [u64], stack: Stack) -> Result<Stack, StepRefusal>
         requires { Holding code.old tries.old stack }
         ensures { StepsBy (λ place results. judged place (from_root root) results) code.old tries.old stack code.new tries.new result }
     {
@@ -56,7 +54,7 @@ impl EntityManifestAnalysisResult {
     }
 
     // The default result.
-    pub fn default(code: &mut [u16], tries: &mut [u64], stack: Stack) -> Stepped
+    pub fn default(code: &mut [u16], tries: &mut [u64], stack: Stack) -> Result<Stack, StepRefusal>
         requires { Holding code.old tries.old stack }
         ensures { StepsBy (λ place results. judged place default_result results) code.old tries.old stack code.new tries.new result }
     {
@@ -65,28 +63,28 @@ impl EntityManifestAnalysisResult {
     }
 
     // `union`: tries merged, paths joined; `trie` is scratch.
-    pub fn union(code: &mut [u16], tries: &mut [u64], trie: &mut [u64], stack: Stack) -> Stepped
+    pub fn union(code: &mut [u16], tries: &mut [u64], trie: &mut [u64], stack: Stack) -> Result<Stack, StepRefusal>
         requires { Working code.old tries.old trie.old stack }
         ensures { StepsBy (λ place results. two_step union_results place results) code.old tries.old stack code.new tries.new result }
     {
         if stack.results < 2 {
-            return Stepped::Refused(6);
+            return Err(StepRefusal::Results);
         }
         let head = [WrappedAccessPaths::Union.word()];
         wrap(&head, 2, code, tries, trie, stack)
     }
 
     // `empty_paths`
-    pub fn empty_paths(code: &mut [u16], tries: &mut [u64], stack: Stack) -> Stepped
+    pub fn empty_paths(code: &mut [u16], tries: &mut [u64], stack: Stack) -> Result<Stack, StepRefusal>
         requires { Holding code.old tries.old stack }
         ensures { StepsBy (λ place results. drop_step place results) code.old tries.old stack code.new tries.new result }
     {
         if stack.results == 0 {
-            return Stepped::Refused(6);
+            return Err(StepRefusal::Results);
         }
         let code_end = measure(code, stack.code, 1).end;
         let empty = [WrappedAccessPaths::Empty.word()];
-        Stepped::Next(Stack {
+        Ok(Stack {
             code: put_before(&empty, code, code_end),
             tries: stack.tries,
             results: stack.results,
@@ -95,12 +93,12 @@ impl EntityManifestAnalysisResult {
 }
 
 // A set literal of the top result; `trie` is scratch.
-pub fn set_step(code: &mut [u16], tries: &mut [u64], trie: &mut [u64], stack: Stack) -> Stepped
+pub fn set_step(code: &mut [u16], tries: &mut [u64], trie: &mut [u64], stack: Stack) -> Result<Stack, StepRefusal>
     requires { Working code.old tries.old trie.old stack }
     ensures { StepsBy (λ place results. set_step place results) code.old tries.old stack code.new tries.new result }
 {
     if stack.results == 0 {
-        return Stepped::Refused(6);
+        return Err(StepRefusal::Results);
     }
     let head = [WrappedAccessPaths::SetLiteral.word()];
     wrap(&head, 1, code, tries, trie, stack)
@@ -111,12 +109,10 @@ fn copy_names(names: &[u64], out: &mut [u16], to: usize) -> usize
     requires { (to + length names.now ≤ length out.old) × Each (λ f. f < 65536) names.now }
     ensures { Wrote out.old to names.now out.new result }
 {
-    let mut i = 0;
-    while i < names.len() {
-        out[to + i] = names[i] as u16;
-        i += 1;
+    for (i, name) in names.iter().enumerate() {
+        out[to + i] = *name as u16;
     }
-    to + i
+    to + names.len()
 }
 
 // A record literal of the top results; the names stand at the end of `names`, last first; `trie` is scratch.
@@ -127,7 +123,7 @@ pub fn rec_step(
     tries: &mut [u64],
     trie: &mut [u64],
     stack: Stack,
-) -> Stepped
+) -> Result<Stack, StepRefusal>
     requires working { Working code.old tries.old trie.old stack }
     requires count_bound { (count ≤ 32) × ((length names.now ≡ 32) × Each (λ f. f < 65536) (drop (32 - count) names.now)) }
     ensures { StepsBy (λ place results. rec_step (drop (32 - count) names.now) place results) code.old tries.old stack code.new tries.new result }
@@ -137,11 +133,11 @@ pub fn rec_step(
         return push(&empty, code, tries, stack);
     }
     if stack.results < count as u64 {
-        return Stepped::Refused(6);
+        return Err(StepRefusal::Results);
     }
     let mut head = [0u16; 33];
     head[0] = WrappedAccessPaths::RecordLiteral(count).word();
-    let first = Step::NAMES - count;
+    let first = names.len() - count;
     let end = copy_names(&names[first..], &mut head, 1);
     wrap(&head[..end], count as u64, code, tries, trie, stack)
 }

@@ -8,7 +8,7 @@ use lib.ListN.{take, drop}
 use lib.Seq.{length-take-le}
 use Rattle.rules.specs.Steps.{Result, in_result}
 use Rattle.rules.proofs.TypeLaws.{longest}
-use Rattle.wrapped_paths.specs.Code.{codes, paths_at, Found}
+use Rattle.wrapped_paths.specs.Code.{code, codes, paths_at, Found}
 use Rattle.path_tries.specs.Nodes.{any_deep}
 use Rattle.result_stack.specs.Stacks.{stack_paths, Held}
 use Rattle.in_steps.specs.AncestorLaws.{held_two, longest_short, in_judging, in_over, in_rows, in_done}
@@ -63,25 +63,25 @@ paths_in-left_paths-requires c =
     let (right, left, rest, same, held) = two (goal.at.paths_in-left_paths-requires c).Else-stack-lt2 c.requires.holding.results c.requires.holding.held in
     (rw (code_end held c.measure-left_code.ensures) (top_stands (below_held held)), refl)
 
+pub slice_bounds-left_places-end : goal.slice_bounds-left_places-end
+slice_bounds-left_places-end c =
+    let (right, left, rest, same, held) = two (goal.at.slice_bounds-left_places-end c).Else-stack-lt2 c.requires.holding.results c.requires.holding.held in
+    (found_left (goal.at.slice_bounds-left_places-end c).After-paths_in-left_paths right left rest held).in_places
+
 pub slice_bounds-left-end : goal.slice_bounds-left-end
 slice_bounds-left-end c =
     let (right, left, rest, same, held) = two (goal.at.slice_bounds-left-end c).Else-stack-lt2 c.requires.holding.results c.requires.holding.held in
-    (found_left (goal.at.slice_bounds-left-end c).After-paths_in-left_paths right left rest held).in_places
+    sym (length-take-le c.paths_in-left_paths.result c.paths_in-left_paths.new.places (found_left (goal.at.slice_bounds-left-end c).After-paths_in-left_paths right left rest held).in_places)
 
-pub slice_bounds-is_too_deep-end : goal.slice_bounds-is_too_deep-end
-slice_bounds-is_too_deep-end c =
-    let (right, left, rest, same, held) = two (goal.at.slice_bounds-is_too_deep-end c).Else-stack-lt2 c.requires.holding.results c.requires.holding.held in
-    sym (length-take-le c.paths_in-left_paths.result c.paths_in-left_paths.new.places (found_left (goal.at.slice_bounds-is_too_deep-end c).After-paths_in-left_paths right left rest held).in_places)
+pub slice_bounds-right_places-end : goal.slice_bounds-right_places-end
+slice_bounds-right_places-end c =
+    let (right, left, rest, same, held) = two (goal.at.slice_bounds-right_places-end c).Else-stack-lt2 c.requires.holding.results c.requires.holding.held in
+    (found_right (goal.at.slice_bounds-right_places-end c).After-paths_in-right_paths right (left ∷ rest) held).in_places
 
 pub slice_bounds-right-end : goal.slice_bounds-right-end
 slice_bounds-right-end c =
     let (right, left, rest, same, held) = two (goal.at.slice_bounds-right-end c).Else-stack-lt2 c.requires.holding.results c.requires.holding.held in
-    (found_right (goal.at.slice_bounds-right-end c).After-paths_in-right_paths right (left ∷ rest) held).in_places
-
-pub slice_bounds-longest-end : goal.slice_bounds-longest-end
-slice_bounds-longest-end c =
-    let (right, left, rest, same, held) = two (goal.at.slice_bounds-longest-end c).Else-stack-lt2 c.requires.holding.results c.requires.holding.held in
-    sym (length-take-le c.paths_in-right_paths.result c.paths_in-right_paths.new.places (found_right (goal.at.slice_bounds-longest-end c).After-paths_in-right_paths right (left ∷ rest) held).in_places)
+    sym (length-take-le c.paths_in-right_paths.result c.paths_in-right_paths.new.places (found_right (goal.at.slice_bounds-right-end c).After-paths_in-right_paths right (left ∷ rest) held).in_places)
 
 pub longest-requires : goal.longest-requires
 longest-requires c =
@@ -109,26 +109,6 @@ pub copy_trie-requires : goal.copy_trie-requires
 copy_trie-requires c =
     let (right, left, rest, same, held) = two (goal.at.copy_trie-requires c).Else-stack-lt2 c.requires.holding.results c.requires.holding.held in
     (rw (tries_end held c.trie_end-left_tries.ensures.0) (top_at (below_held held)), c.requires.trie_length)
-
-pub slice_bounds-left-end-2 : goal.slice_bounds-left-end-2
-slice_bounds-left-end-2 c =
-    let (right, left, rest, same, held) = two (goal.at.slice_bounds-left-end-2 c).Else-stack-lt2 c.requires.holding.results c.requires.holding.held in
-    (found_left (goal.at.slice_bounds-left-end-2 c).After-paths_in-left_paths right left rest held).in_places
-
-pub slice_bounds-with_ancestors_required-end : goal.slice_bounds-with_ancestors_required-end
-slice_bounds-with_ancestors_required-end c =
-    let (right, left, rest, same, held) = two (goal.at.slice_bounds-with_ancestors_required-end c).Else-stack-lt2 c.requires.holding.results c.requires.holding.held in
-    sym (length-take-le c.paths_in-left_paths.result c.paths_in-left_paths.new.places (found_left (goal.at.slice_bounds-with_ancestors_required-end c).After-paths_in-left_paths right left rest held).in_places)
-
-pub slice_bounds-right-end-2 : goal.slice_bounds-right-end-2
-slice_bounds-right-end-2 c =
-    let (right, left, rest, same, held) = two (goal.at.slice_bounds-right-end-2 c).Else-stack-lt2 c.requires.holding.results c.requires.holding.held in
-    (found_right (goal.at.slice_bounds-right-end-2 c).After-paths_in-right_paths right (left ∷ rest) held).in_places
-
-pub slice_bounds-with_ancestors_required-end-2 : goal.slice_bounds-with_ancestors_required-end-2
-slice_bounds-with_ancestors_required-end-2 c =
-    let (right, left, rest, same, held) = two (goal.at.slice_bounds-with_ancestors_required-end-2 c).Else-stack-lt2 c.requires.holding.results c.requires.holding.held in
-    sym (length-take-le c.paths_in-right_paths.result c.paths_in-right_paths.new.places (found_right (goal.at.slice_bounds-with_ancestors_required-end-2 c).After-paths_in-right_paths right (left ∷ rest) held).in_places)
 
 pub with_ancestors_required-requires : goal.with_ancestors_required-requires
 with_ancestors_required-requires c =
@@ -198,12 +178,17 @@ pub replace-requires : goal.replace-requires
 replace-requires c =
     let (right, left, rest, same, held) = two (goal.at.replace-requires c).Else-stack-lt2 c.requires.holding.results c.requires.holding.held in
     let code_room = code_end_room (below_held held) (omega (arith, c.requires.holding.code_room)) (code_end (below_held held) (rw (code_end held c.measure-left_code.ensures) at c.measure-code_end.ensures)) in
-    let tries_room = tries_end_room (below_held held) (omega (arith, c.requires.holding.tries_room)) (tries_end (below_held held) (rw (tries_end held c.trie_end-left_tries.ensures.0) at c.trie_end-tries_end.ensures.0)) in record { state = (c.union_into.ensures.still, code_room); trie_bound = (omega (arith, c.union_into.ensures.still.few_rows, tries_room.0), tries_room.1) }
+    let tries_room = tries_end_room (below_held held) (omega (arith, c.requires.holding.tries_room)) (tries_end (below_held held) (rw (tries_end held c.trie_end-left_tries.ensures.0) at c.trie_end-tries_end.ensures.0)) in
+    record {
+      paths_fit = code_room;
+      trie_fits = (c.union_into.ensures.still, (omega (arith, c.union_into.ensures.still.few_rows, tries_room.0), tries_room.1));
+    }
 
 pub shape_of-trie : goal.shape_of-trie
 shape_of-trie c = c.union_into.auto.trie ∙ c.with_ancestors_required.auto.trie ∙ c.copy_trie.auto.out
 
 pub returns : goal.returns
+unfolding code
 returns c results held =
     let (right, left, rest, same, h) = two (goal.at.returns c).Else-stack-lt2 results held in
     rw same
@@ -218,10 +203,7 @@ returns c results held =
     (take (c.trie_end-left_tries.result - (c.args.stack.tries + 1)) (drop (c.args.stack.tries + 1) c.args.tries.now))
     (run_rows h c.trie_end-left_tries.ensures.0)
     c.union_into.ensures
-    c.replace.new.code
-    c.replace.new.tries
-    c.replace.result
     (c.if-not-union_into.false)
     (code_end (below_held h) (rw (code_end h c.measure-left_code.ensures) at c.measure-code_end.ensures))
     (tries_end (below_held h) (rw (tries_end h c.trie_end-left_tries.ensures.0) at c.trie_end-tries_end.ensures.0))
-    c.replace.ensures)
+    (rw c.word.ensures at c.replace.ensures))

@@ -65,7 +65,7 @@ shape_of-merged-then-not-union_into c = c.union_into.auto.trie ∙ (c.loop-i.inv
 
 pub returns-then-not-union_into : goal.returns-then-not-union_into
 returns-then-not-union_into c =
-    going_over c.loop-i.invariant c.loop-i-test.true refl (rw (c.if-not-union_into.true) at (united (goal.at.returns-then-not-union_into c).After-union_into (many (goal.at.returns-then-not-union_into c).After-trie_end-end)))
+    going_over c.loop-i.invariant c.loop-i-test.true c.args.tries.now (rw (c.if-not-union_into.true) at (united (goal.at.returns-then-not-union_into c).After-union_into (many (goal.at.returns-then-not-union_into c).After-trie_end-end)))
 
 pub loop-i-preserved : goal.loop-i-preserved
 loop-i-preserved c =

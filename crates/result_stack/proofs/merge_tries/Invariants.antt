@@ -4,6 +4,3 @@ use Rattle.result_stack.proofs.merge_tries.Given as goal
 
 abbrev pub invariant-loop-i : goal.invariant-loop-i
 invariant-loop-i l = MergingTries l.tries l.at l.count l.merged l.end l.i
-
-abbrev pub decreases-loop-i : goal.decreases-loop-i
-decreases-loop-i l = l.count - l.i

@@ -1,6 +1,8 @@
 -- `wrap_steps::copy_names` meets its contract: the first i names are copied.
 use Prim.Native.Nat.{◌<◌}
 use native.Mathlib.Omega.{arith}
+use mathlib.Core.Path.{◌≡◌}
+use lib.ListN.{length}
 use Rattle.words.specs.RunLaws.{copying_first, copying_length, copying_next, copying_all}
 use Rattle.rules.proofs.StepLaws.{each_at}
 use Rattle.wrap_steps.proofs.copy_names.Goals as goal
@@ -30,4 +32,4 @@ pub shape_of-out : goal.shape_of-out
 shape_of-out c = copying_length c.loop-i.invariant
 
 pub returns : goal.returns
-returns c = copying_all c.loop-i.invariant c.loop-i-test.false
+returns c = let end : c.loop-i.i ≡ length c.args.names.now = omega arith in rw end at (copying_all c.loop-i.invariant c.loop-i-test.false)

@@ -18,11 +18,16 @@ named c = drop (32 - c.args.count) c.args.names.now
 as_many : (c : Start) → length (named c) ≡ c.args.count
 as_many c = omega (arith, length-drop (32 - c.args.count) c.args.names.now, c.requires.count_bound)
 
-part : (c : Start) → take (length c.args.names.now - (32 - c.args.count)) (named c) ≡ named c
-part c = take_all (length c.args.names.now - (32 - c.args.count)) (named c) (omega (arith, length-drop (32 - c.args.count) c.args.names.now))
+part :
+    (c : Start)
+    → take (length c.args.names.now - (length c.args.names.now - c.args.count)) (drop (length c.args.names.now - c.args.count) c.args.names.now)
+    ≡ named c
+part c =
+    let many : length c.args.names.now ≡ 32 = omega (arith, c.requires.count_bound) in
+    rw many (take_all (32 - (32 - c.args.count)) (named c) (omega (arith, length-drop (32 - c.args.count) c.args.names.now)))
 
 -- the head is copied whole
-room : (c : After-copy_names-end) → (length ((drop (32 - c.args.count) c.args.names.now)) ≡ c.args.count) → (take (length c.args.names.now - (32 - c.args.count)) ((drop (32 - c.args.count) c.args.names.now)) ≡ (drop (32 - c.args.count) c.args.names.now)) → (c.copy_names-end.result ≤ length c.copy_names-end.new.out) × (c.copy_names-end.result ≡ 1 + length ((drop (32 - c.args.count) c.args.names.now)))
+room : (c : After-copy_names-end) → (length ((drop (32 - c.args.count) c.args.names.now)) ≡ c.args.count) → (take (length c.args.names.now - (length c.args.names.now - c.args.count)) (drop (length c.args.names.now - c.args.count) c.args.names.now) ≡ drop (32 - c.args.count) c.args.names.now) → (c.copy_names-end.result ≤ length c.copy_names-end.new.out) × (c.copy_names-end.result ≡ 1 + length ((drop (32 - c.args.count) c.args.names.now)))
 room c as_many-here part-here =
     head_room c.word-2.result ((drop (32 - c.args.count) c.args.names.now)) (omega (arith, as_many-here, c.requires.count_bound)) (rw part-here at c.copy_names-end.ensures)
 

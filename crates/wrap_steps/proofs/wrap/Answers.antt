@@ -25,14 +25,14 @@ pub returns-then-wrapped-ge-NODES : goal.returns-then-wrapped-ge-NODES
 returns-then-wrapped-ge-NODES c taken left wrapping m w held place =
     wrap_over taken left m held c.requires.count_nonzero.0 w (wrap_nodes taken left m held c.measure-wrapped.ensures) c.if-wrapped-ge-NODES.true place
 
-pub merge_tries-merged-requires : goal.merge_tries-merged-requires
-merge_tries-merged-requires c =
-    (wrap_tries (take c.args.count c.requires.working.holding.results) (drop c.args.count c.requires.working.holding.results) (many (goal.at.merge_tries-merged-requires c).Start) (on-top (goal.at.merge_tries-merged-requires c).Start) c.requires.count_nonzero.0, c.requires.working.trie_length)
+pub merge_tries-requires : goal.merge_tries-requires
+merge_tries-requires c =
+    (wrap_tries (take c.args.count c.requires.working.holding.results) (drop c.args.count c.requires.working.holding.results) (many (goal.at.merge_tries-requires c).Start) (on-top (goal.at.merge_tries-requires c).Start) c.requires.count_nonzero.0, c.requires.working.trie_length)
 
-pub returns-then-merged-tries : goal.returns-then-merged-tries
-returns-then-merged-tries c taken left wrapping m w held place =
+pub returns-in_default : goal.returns-in_default
+returns-in_default c taken left wrapping m w held place =
     let nodes = wrap_nodes taken left m held c.measure-wrapped.ensures in
-    wrap_rows taken left m held c.requires.count_nonzero.0 w (omega (arith, nodes, c.if-wrapped-ge-NODES.false)) c.merge_tries-merged.ensures (c.if-merged-tries.true ∙ c.merge_tries-merged.auto.tries) place
+    wrap_rows taken left m held c.requires.count_nonzero.0 w (omega (arith, nodes, c.if-wrapped-ge-NODES.false)) c.merge_tries.new.tries (rw c.in_default.is at c.merge_tries.ensures) place
 
 pub put_before-requires : goal.put_before-requires
 put_before-requires c =
@@ -44,4 +44,4 @@ put_before-requires c =
 pub returns : goal.returns
 returns c taken left wrapping m w held =
     let nodes = wrap_nodes taken left m held c.measure-wrapped.ensures in
-    wrap_done taken left m held c.requires.count_nonzero.0 w (omega (arith, nodes, c.if-wrapped-ge-NODES.false)) c.merge_tries-merged.ensures (λ e. c.if-merged-tries.false (e ∙ sym c.merge_tries-merged.auto.tries)) c.put_before.ensures
+    wrap_done taken left m held c.requires.count_nonzero.0 w (omega (arith, nodes, c.if-wrapped-ge-NODES.false)) (rw c.in-Some.is at c.merge_tries.ensures) c.put_before.ensures

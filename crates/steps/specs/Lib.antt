@@ -1,2 +1,0 @@
--- A step by its kind.
-pub mod StepsLaws
