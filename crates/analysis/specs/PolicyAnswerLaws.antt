@@ -9,8 +9,11 @@ use Rattle.words.specs.Replies.{Done, Refused}
 use Rattle.rows.specs.States.{rows_in}
 use Rattle.rows.specs.LentLaws.{stored_lent, lent_lawful, lent_copied}
 use Rattle.rows.specs.declared.Kind.TheVariants.{Manifest}
-use Rattle.policy_runs.specs.PolicyRuns.{LentManifest, PolicyAdded}
-use Rattle.step_runs.specs.StepRuns.{AnswerStored}
+use Rattle.std.specs.Prelude.{Err}
+use Rattle.policy_runs.specs.PolicyRuns.{LentManifest, PolicyAdded, PolicyRanBy}
+use Rattle.step_runs.specs.declared.Stop.{Stop}
+use Rattle.step_runs.specs.declared.Stop.TheVariants.{Refused as RefusedText, Full}
+use Rattle.step_runs.specs.StepRuns.{AnswerStored, AnsweredBy, FullBy}
 
 module _ (m out : List ℕ) (lent : LentManifest m) (room : 4161 ≤ length out) where
   -- a copy of its rows is a lent manifest too, and has its rows
@@ -30,6 +33,14 @@ module _ (items : List Item) (text m rows : List ℕ) (same : rows_in rows ≡ r
       → add_policy items (rows_in rows) text ≡ refused number place
       → AnswerStored (add_policy items (rows_in m) text) m m (Refused number place)
   added_refused e = rw (rw same at e) (refl, refl)
+
+  -- or it stopped otherwise
+  pub added_stop :
+      (code tries rows' : List ℕ) (stop : Stop)
+      → PolicyRanBy items text code tries rows rows' (Err stop)
+      → AnsweredBy (add_policy items (rows_in m) text) m m (Err stop) × FullBy code tries (Err stop)
+  added_stop code tries rows' (RefusedText refusal) e = (added_refused e, tt)
+  added_stop code tries rows' Full full = (refl, full)
 
   -- all was added, and the copy's rows take the manifest's place
   pub added_done :

@@ -4,7 +4,6 @@
 
 ghost use Rattle.std.specs.Prelude.{◌≡◌, true, ◌^◌, ◌<◌, length};
 ghost use Rattle.schema.specs.Items.{items_of, good_items};
-ghost use Rattle.type_table.specs.Tables.{GoodTypes};
 ghost use Rattle.result_stack.specs.Stacks.{Scratch};
 ghost use Rattle.rules.specs.Policies.{add_policy};
 ghost use Rattle.rows.specs.States.{rows_in};
@@ -13,16 +12,16 @@ ghost use Rattle.analysis.specs.declared.Job.TheVariants.{Policy};
 ghost use Rattle.analysis.specs.Outcomes.{analyse_in, add_policy_in, answer_to, JobLent};
 
 use manifest::EntityManifest;
-use policy_runs::{PolicyRan, run_policy};
+use policy_runs::run_policy;
 use result_stack::Stack;
 use rows::Kind;
-use step_runs::{Answered, answer_steps};
-use type_table::{TypeSize, fill_table};
+use step_runs::{Stop, answer_steps};
+use type_table::{TypeSize, Types, fill_table};
 use words::Refusal;
 use wrapped_paths::WrappedAccessPaths;
 
 // What is asked of a text: the contribution of its steps under a request type, or that all its contributions are added.
-#[derive(Clone, Copy)]
+#[derive(Clone, Copy, PartialEq, Eq, Debug)]
 enum Job {
     Steps(u64),
     Policy,
@@ -30,97 +29,69 @@ enum Job {
 
 // All contributions of a policy text, added to a copy of the manifest that takes its place at the end; `paths` is scratch.
 fn answer_policy(
-    words: &[u64],
-    table: &[u64],
-    types: u64,
+    types: &Types<'_>,
     text: &[u8],
     manifest: &mut [u64],
     code: &mut [u16],
     tries: &mut [u64],
     paths: &mut [u16],
-) -> Answered
-    requires good_types { GoodTypes words.now table.now types × JobLent Policy manifest.old }
+) -> Result<(), Stop>
+    requires lent { JobLent Policy manifest.old }
     requires code_len_bound { (length code.old < 2 ^ 53) × Scratch code.old paths.old }
-    ensures { AnsweredBy (add_policy (items_of words.now) (rows_in manifest.old) text.now) manifest.old manifest.new result × FullBy code.old tries.old result }
+    ensures { AnsweredBy (add_policy (items_of types.now.words.now) (rows_in manifest.old) text.now) manifest.old manifest.new result × FullBy code.old tries.old result }
 {
     let mut rows = [0u64; EntityManifest::WORDS];
     words::copy_rows(manifest, &mut rows);
-    match run_policy(words, table, types, text, &mut rows, code, tries, paths) {
-        PolicyRan::Full => Answered::Full,
-        PolicyRan::Refused(number, line) => Answered::Reply(Err(Refusal { number, place: line })),
-        PolicyRan::Done => {
-            words::copy_rows(&rows, manifest);
-            Answered::Reply(Ok(()))
-        }
-    }
+    run_policy(types, text, &mut rows, code, tries, paths)?;
+    words::copy_rows(&rows, manifest);
+    Ok(())
 }
 
 // The answer by a stack in two runs of any length; `paths` is scratch.
 fn answer_in(
     job: Job,
-    words: &[u64],
-    table: &[u64],
-    types: u64,
+    types: &Types<'_>,
     text: &[u8],
     out: &mut [u64],
     code: &mut [u16],
     tries: &mut [u64],
     paths: &mut [u16],
-) -> Answered
-    requires good_types { GoodTypes words.now table.now types × JobLent job out.old }
+) -> Result<(), Stop>
+    requires lent { JobLent job out.old }
     requires code_len_bound { (length code.old < 2 ^ 53) × Scratch code.old paths.old }
-    ensures { AnsweredBy (answer_to (items_of words.now) job text.now out.old) out.old out.new result × FullBy code.old tries.old result }
+    ensures { AnsweredBy (answer_to (items_of types.now.words.now) job text.now out.old) out.old out.new result × FullBy code.old tries.old result }
 {
     match job {
-        Job::Steps(request) => answer_steps(
-            words, table, types, request, text, out, code, tries, paths,
-        ),
-        Job::Policy => answer_policy(words, table, types, text, out, code, tries, paths),
+        Job::Steps(request) => answer_steps(types, request, text, out, code, tries, paths),
+        Job::Policy => answer_policy(types, text, out, code, tries, paths),
     }
 }
 
 // The answer by a small stack: it is cleared in little time, and most texts do not fill it.
-fn answer_small(
-    job: Job,
-    words: &[u64],
-    table: &[u64],
-    types: u64,
-    text: &[u8],
-    out: &mut [u64],
-) -> Answered
-    requires { GoodTypes words.now table.now types × JobLent job out.old }
-    ensures { AnsweredBy (answer_to (items_of words.now) job text.now out.old) out.old out.new result }
+fn answer_small(job: Job, types: &Types<'_>, text: &[u8], out: &mut [u64]) -> Result<(), Stop>
+    requires { JobLent job out.old }
+    ensures { AnsweredBy (answer_to (items_of types.now.words.now) job text.now out.old) out.old out.new result }
 {
     let mut code = [0u16; Stack::SMALL_CODE];
     let mut tries = [0u64; Stack::SMALL_TRIES];
     let mut paths = [0u16; Stack::SMALL_CODE];
-    answer_in(
-        job, words, table, types, text, out, &mut code, &mut tries, &mut paths,
-    )
+    answer_in(job, types, text, out, &mut code, &mut tries, &mut paths)
 }
 
 // The answer by a stack that no text fills, so that it is never full.
-fn answer_large(
-    job: Job,
-    words: &[u64],
-    table: &[u64],
-    types: u64,
-    text: &[u8],
-    out: &mut [u64],
-) -> Result<(), Refusal>
-    requires { GoodTypes words.now table.now types × JobLent job out.old }
-    ensures { AnswerStored (answer_to (items_of words.now) job text.now out.old) out.old out.new result }
+fn answer_large(job: Job, types: &Types<'_>, text: &[u8], out: &mut [u64]) -> Result<(), Refusal>
+    requires { JobLent job out.old }
+    ensures { AnswerStored (answer_to (items_of types.now.words.now) job text.now out.old) out.old out.new result }
 {
     let mut code = [0u16; Stack::CODE];
     let mut tries = [0u64; Stack::TRIES];
     let mut paths = [0u16; WrappedAccessPaths::WORDS];
-    match answer_in(
-        job, words, table, types, text, out, &mut code, &mut tries, &mut paths,
-    ) {
-        Answered::Reply(reply) => reply,
+    match answer_in(job, types, text, out, &mut code, &mut tries, &mut paths) {
+        Ok(()) => Ok(()),
+        Err(Stop::Refused(refusal)) => Err(refusal),
         // Never taken, as the runs are never full. The call of itself keeps the compiler from putting this large frame into its caller's,
         // which would cost a probe of each page at every call.
-        Answered::Full => answer_large(job, words, table, types, text, out),
+        Err(Stop::Full) => answer_large(job, types, text, out),
     }
 }
 
@@ -131,10 +102,16 @@ fn answer(job: Job, words: &[u64], text: &[u8], out: &mut [u64]) -> Result<(), R
     ensures { AnswerStored (answer_to (items_of words.now) job text.now out.old) out.old out.new result }
 {
     let mut table = [0u64; TypeSize::TYPES];
-    let types = fill_table(words, &mut table);
-    match answer_small(job, words, &table, types, text, out) {
-        Answered::Reply(reply) => reply,
-        Answered::Full => answer_large(job, words, &table, types, text, out),
+    let count = fill_table(words, &mut table);
+    let types = Types {
+        words,
+        table: &table,
+        count,
+    };
+    match answer_small(job, &types, text, out) {
+        Ok(()) => Ok(()),
+        Err(Stop::Refused(refusal)) => Err(refusal),
+        Err(Stop::Full) => answer_large(job, &types, text, out),
     }
 }
 

@@ -5,105 +5,75 @@ ghost use Rattle.std.specs.Prelude.{◌≡◌, ◌^◌, ◌<◌, ◌≤◌, leng
 ghost use Rattle.rules.specs.Policies.{request_in};
 ghost use Rattle.schema.specs.Items.{items_of};
 ghost use Rattle.listing_lines.specs.Lines.{row_at};
-ghost use Rattle.type_table.specs.Tables.{GoodTypes};
 ghost use Rattle.result_stack.specs.Stacks.{Scratch};
-ghost use Rattle.step_runs.specs.StepRuns.{Ready};
-ghost use Rattle.policy_runs.specs.PolicyRuns.{request_read, request_of_row, LentManifest, Open, ClosedBy, RoomToAdd, PolicyTakenBy, PolicyRanBy};
+ghost use Rattle.policy_runs.specs.PolicyRuns.{request_of_row, LentManifest, Open, PolicyReady, ClosedBy, RoomToAdd, PolicyTakenBy, PolicyRanBy};
+ghost use Rattle.text.specs.Answers.{number_of};
 
 use manifest::{EntityManifest, unite_lawful};
 use path_tries::TRIE;
-use result_stack::Stack;
-use rows::Kind;
+use result_stack::{Stack, StepRefusal};
 use step_lines::Step;
-use step_runs::{StepTaken, step_line, write_contribution};
+use step_runs::{Stop, step_line, write_contribution};
 use text::Line;
+use type_table::Types;
 use words::Refusal;
 
-// What a line of a policy text is: an `A` line with its request type, or another one.
-#[derive(Drop)]
-enum Opened {
-    Request(u64),
-    Other,
-}
-
-// The contribution that has begun, if one has: its request type, and the stack after its step lines so far.
+// A contribution that has begun: its request type, and the stack after its step lines so far.
 #[derive(Drop)]
 struct Reading {
-    begun: bool,
     request: u64,
     stack: Stack,
 }
 
-// What the end of a contribution gives: it is added, or a refusal's number.
-#[derive(Drop)]
-enum Closed {
-    Done,
-    Refused(u64),
-}
-
-// What a line gives: what has begun then, or a refusal's number, or that the runs of the stack are full.
-#[derive(Drop)]
-enum PolicyTaken {
-    Next(Reading),
-    Refused(u64),
-    Full,
-}
-
-// What a text gives: all is added, or a refusal's number and line, or that the runs of the stack are full.
-#[derive(Drop)]
-pub enum PolicyRan {
-    Done,
-    Refused(u64, u64),
-    Full,
-}
-
-// The request type of the line that begins at a place.
-fn request_at(text: &[u8], at: usize) -> Opened
+// The request type of the line that begins at a place, if it is an `A` line.
+fn request_at(text: &[u8], at: usize) -> Option<u64>
     requires { at < length text.now }
-    ensures { request_read result ≡ request_of_row (row_at text.now at) }
+    ensures { number_of result ≡ request_of_row (row_at text.now at) }
 {
-    let Some(row) = listing_reader::read_row(text, at) else {
-        return Opened::Other;
-    };
+    let row = listing_reader::read_row(text, at)?;
     if row.depth != 0 {
-        return Opened::Other;
+        return None;
     }
-    Opened::Request(row.step)
+    Some(row.step)
 }
 
-// Ends the contribution that has begun: the one result that is left is added. `contribution` and `united` are scratch.
+// Ends the contribution that has begun, if one has, in front of the line of that number: the one result that is left is added.
+// `contribution` and `united` are scratch.
 fn close(
-    reading: Reading,
+    reading: Option<Reading>,
+    number: u64,
     tries: &[u64],
     contribution: &mut [u64],
     united: &mut [u64],
     rows: &mut [u64],
-) -> Closed
+) -> Result<(), Refusal>
     requires fact { Open tries.now reading × LentManifest rows.old }
     requires in_bounds { (1026 ≤ length contribution.old) × (4161 ≤ length united.old) }
-    ensures { ClosedBy tries.now reading rows.old rows.new result }
+    ensures { ClosedBy tries.now reading number rows.old rows.new result }
 {
-    if !reading.begun {
-        return Closed::Done;
+    let Some(begun) = reading else {
+        return Ok(());
+    };
+    if begun.stack.results != 1 {
+        return Err(StepRefusal::Results.at(number));
     }
-    if reading.stack.results != 1 {
-        return Closed::Refused(6);
-    }
-    write_contribution(reading.request, tries, reading.stack.tries, contribution);
+    write_contribution(begun.request, tries, begun.stack.tries, contribution);
     match unite_lawful(rows, contribution, united) {
-        Ok(()) => Closed::Done,
-        Err(Refusal { number, place: _ }) => Closed::Refused(number),
+        Ok(()) => Ok(()),
+        Err(refusal) => Err(Refusal {
+            number: refusal.number,
+            place: number,
+        }),
     }
 }
 
-// Takes one line: an `A` line ends the contribution before it and begins one, any other is a step line. `names`, `paths`, `trie`,
-// `contribution` and `united` are scratch.
+// Takes the line of that number: an `A` line ends the contribution before it and begins one, any other is a step line. `names`, `paths`,
+// `trie`, `contribution` and `united` are scratch.
 fn take_line(
-    opened: Opened,
+    opened: Option<u64>,
     line: &[u8],
-    words: &[u64],
-    table: &[u64],
-    types: u64,
+    number: u64,
+    types: &Types<'_>,
     code: &mut [u16],
     tries: &mut [u64],
     names: &mut [u64],
@@ -112,87 +82,72 @@ fn take_line(
     contribution: &mut [u64],
     united: &mut [u64],
     rows: &mut [u64],
-    reading: Reading,
-) -> PolicyTaken
-    requires good_types { GoodTypes words.now table.now types × (request_read opened ≡ request_in line.now) }
-    requires ready { Ready code.old tries.old names.old paths.old trie.old reading.stack }
-    requires room_to_add { RoomToAdd contribution.old united.old rows.old reading }
-    ensures { PolicyTakenBy (items_of words.now) line.now code.old tries.old rows.old reading code.new tries.new rows.new result }
+    reading: Option<Reading>,
+) -> Result<Reading, Stop>
+    requires opens { number_of opened ≡ request_in line.now }
+    requires ready { PolicyReady code.old tries.old names.old paths.old trie.old reading }
+    requires room_to_add { RoomToAdd contribution.old united.old rows.old }
+    ensures { PolicyTakenBy (items_of types.now.words.now) line.now number code.old tries.old rows.old reading code.new tries.new rows.new result }
 {
     match opened {
-        Opened::Request(request) => {
-            match close(reading, tries, contribution, united, rows) {
-                Closed::Done => PolicyTaken::Next(Reading {
-                    begun: true,
-                    request,
-                    stack: Stack::new(code.len(), tries.len()),
-                }),
-                Closed::Refused(number) => PolicyTaken::Refused(number),
-            }
+        Some(request) => {
+            close(reading, number, tries, contribution, united, rows)?;
+            Ok(Reading {
+                request,
+                stack: Stack::new(code.len(), tries.len()),
+            })
         }
-        Opened::Other => {
-            if !reading.begun {
-                return PolicyTaken::Refused(1);
-            }
-            match step_line(
+        None => {
+            let Some(begun) = reading else {
+                return Err(Stop::Refused(StepRefusal::Unlawful.at(number)));
+            };
+            let stack = step_line(
                 line,
-                words,
-                table,
+                number,
                 types,
                 code,
                 tries,
                 names,
                 paths,
                 trie,
-                reading.stack,
-            ) {
-                StepTaken::Next(stack) => PolicyTaken::Next(Reading {
-                    begun: true,
-                    request: reading.request,
-                    stack,
-                }),
-                StepTaken::Refused(number) => PolicyTaken::Refused(number),
-                StepTaken::Full => PolicyTaken::Full,
-            }
+                begun.stack,
+            )?;
+            Ok(Reading {
+                request: begun.request,
+                stack,
+            })
         }
     }
 }
 
 // Runs all lines of a policy text, and adds its contributions to `rows`; `paths` is scratch.
 pub fn run_policy(
-    words: &[u64],
-    table: &[u64],
-    types: u64,
+    types: &Types<'_>,
     text: &[u8],
     rows: &mut [u64],
     code: &mut [u16],
     tries: &mut [u64],
     paths: &mut [u16],
-) -> PolicyRan
-    requires good_types { GoodTypes words.now table.now types × LentManifest rows.old }
+) -> Result<(), Stop>
+    requires lent { LentManifest rows.old }
     requires code_len_bound { (length code.old < 2 ^ 53) × Scratch code.old paths.old }
-    ensures { PolicyRanBy (items_of words.now) text.now code.old tries.old rows.old rows.new result }
+    ensures { PolicyRanBy (items_of types.now.words.now) text.now code.old tries.old rows.old rows.new result }
 {
     let mut names = [0u64; Step::NAMES];
     let mut trie = [0u64; TRIE];
     let mut contribution = [0u64; 1_026];
     let mut united = [0u64; EntityManifest::WORDS];
-    let mut reading = Reading {
-        begun: false,
-        request: 0,
-        stack: Stack::new(code.len(), tries.len()),
-    };
+    let mut reading = None;
     let mut at = 0;
-    let mut line: u64 = 0;
+    let mut lines: u64 = 0;
     while at < text.len() {
         let Line::Whole(end) = Line::at(text, at) else {
-            return PolicyRan::Refused(1, line);
+            return Err(Stop::Refused(StepRefusal::Unlawful.at(lines)));
         };
-        match take_line(
+        let begun = take_line(
             request_at(text, at),
             &text[at..end],
-            words,
-            table,
+            lines,
             types,
             code,
             tries,
@@ -203,22 +158,11 @@ pub fn run_policy(
             &mut united,
             rows,
             reading,
-        ) {
-            PolicyTaken::Next(next) => {
-                reading = next;
-            }
-            PolicyTaken::Refused(number) => {
-                return PolicyRan::Refused(number, line);
-            }
-            PolicyTaken::Full => {
-                return PolicyRan::Full;
-            }
-        }
+        )?;
+        reading = Some(begun);
         at = end + 1;
-        line += 1;
+        lines += 1;
     }
-    match close(reading, tries, &mut contribution, &mut united, rows) {
-        Closed::Done => PolicyRan::Done,
-        Closed::Refused(number) => PolicyRan::Refused(number, line),
-    }
+    close(reading, lines, tries, &mut contribution, &mut united, rows)?;
+    Ok(())
 }

@@ -6,23 +6,31 @@ use Rattle.rules.specs.Listing.{read}
 use Rattle.rules.specs.Schema.{Item}
 use Rattle.rules.specs.Steps.{run, analyse}
 use Rattle.rows.specs.States.{holding}
-use Rattle.words.specs.Replies.{Done, Refused}
+use Rattle.std.specs.Prelude.{Err, length}
+use Rattle.std.proofs.Common.{◌∙◌}
+use Rattle.words.specs.Replies.{Done, Refused as RefusedReply}
+use Rattle.step_runs.specs.declared.Stop.{Stop}
+use Rattle.step_runs.specs.declared.Stop.TheVariants.{Refused, Full}
 use Rattle.result_stack.specs.Stacks.{trie_words}
-use Rattle.step_runs.specs.StepRuns.{Finished, AnswerStored}
+use Rattle.step_runs.specs.StepRuns.{Finished, RanBy, AnswerStored, AnsweredBy, FullBy}
 use Rattle.step_runs.specs.StepRunLaws.{ended_many, only_result, only_there}
 use Rattle.result_stack.specs.declared.Stack.{Stack}
 
 -- ---- what analysing answers, by what the text gives
 
-pub answered_refused :
-    (items : List Item) (request : ℕ) (text out : List ℕ) {number place : ℕ}
-    → run items text ≡ refused number place
-    → AnswerStored (analyse items request text) out out (Refused number place)
-answered_refused items request text out e = rw e (refl, refl)
+-- the run was stopped
+pub answered_stop :
+    (items : List Item) (request : ℕ) (text out code tries code' tries' : List ℕ) (stop : Stop)
+    → RanBy items text code' tries' (Err stop)
+    → length code' ≡ length code
+    → length tries' ≡ length tries
+    → AnsweredBy (analyse items request text) out out (Err stop) × FullBy code tries (Err stop)
+answered_stop items request text out code tries code' tries' (Refused refusal) e same_code same_tries = (rw e (refl, refl), tt)
+answered_stop items request text out code tries code' tries' Full full same_code same_tries = (refl, λ code-length tries-length. full (same_code ∙ code-length) (same_tries ∙ tries-length))
 
 module _ {items : List Item} {text code tries : List ℕ} {stack : Stack} {lines : ℕ} (finished : Finished items text code tries stack lines) where
   -- not one result is left
-  pub answered_many : (request : ℕ) (out : List ℕ) → stack.results ≢ 1 → AnswerStored (analyse items request text) out out (Refused 6 lines)
+  pub answered_many : (request : ℕ) (out : List ℕ) → stack.results ≢ 1 → AnswerStored (analyse items request text) out out (RefusedReply 6 lines)
   answered_many request out many = rw (finished.ran, ended_many finished.held many request lines) (refl, refl)
 
   -- one result is left, and its trie is the contribution

@@ -28,7 +28,10 @@ use Rattle.result_stack.specs.Stacks.{trie_words, stacked, Held, Holding, Reache
 use Rattle.type_table.specs.TypeTableLaws.{good_all, good_lawful}
 use Rattle.full_types.specs.FullLaws.{item_keys}
 use Rattle.result_stack.specs.StackLaws.{trie_count, trie_rows, at_within, at_few, code_left, tries_left, top_trie, top_at}
-use Rattle.step_runs.specs.StepRuns.{Ready, NotLarge, TookLine, Finished}
+use Rattle.std.specs.Prelude.{Err}
+use Rattle.step_runs.specs.declared.Stop.{Stop}
+use Rattle.step_runs.specs.declared.Stop.TheVariants.{Refused, Full as Filled}
+use Rattle.step_runs.specs.StepRuns.{Ready, NotLarge, TookLine, LineTaken, RanBy, Finished}
 use Rattle.step_lines.specs.declared.Step.{Step as StepRead}
 use Rattle.step_lines.specs.declared.Step.TheVariants.{Root, None, Attr, Union, Drop, Full, In, Set, Rec}
 use Rattle.result_stack.specs.declared.Stack.{Stack}
@@ -201,13 +204,22 @@ module _ {words text code tries : List ℕ} {stack : Stack} {at line : ℕ} (run
   module _ {end : ℕ} {r : Line} (ensured : r ≡ line_at text at) (e : r ≡ Whole end) where
     -- the next line is refused
     pub running_stopped :
-        {number : ℕ}
+        {number place : ℕ}
         → ((results : List Result)
         → Held code tries stack results
-        → (place : ℕ)
-        → step_line (items_of words) place (take (end - at) (drop at text)) results ≡ refused number place)
-        → run (items_of words) text ≡ refused number line
-    running_stopped steps = came_refused running.came (whole_line text at end r ensured e) (steps running.results running.held line)
+        → step_line (items_of words) line (take (end - at) (drop at text)) results ≡ refused number place)
+        → run (items_of words) text ≡ refused number place
+    running_stopped steps = came_refused running.came (whole_line text at end r ensured e) (steps running.results running.held)
+
+    -- and the run ends there
+    pub running_ends :
+        (code' tries' : List ℕ) (stop : Stop)
+        → LineTaken (items_of words) (take (end - at) (drop at text)) line code tries stack code' tries' (Err stop)
+        → length code' ≡ length code
+        → length tries' ≡ length tries
+        → RanBy (items_of words) text code' tries' (Err stop)
+    running_ends code' tries' (Refused refusal) taken same_code same_tries = running_stopped taken
+    running_ends code' tries' Filled taken same_code same_tries = λ code-length tries-length. taken (sym same_code ∙ code-length) (sym same_tries ∙ tries-length)
 
     -- the next line is taken
     pub running_next :

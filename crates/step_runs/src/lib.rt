@@ -7,102 +7,91 @@ ghost use Rattle.rules.specs.Listing.{read};
 ghost use Rattle.rules.specs.Steps.{analyse};
 ghost use Rattle.rows.specs.States.{holding};
 ghost use Rattle.schema.specs.Items.{items_of};
-ghost use Rattle.type_table.specs.Tables.{GoodTypes};
 ghost use Rattle.result_stack.specs.Stacks.{TrieAt, trie_words, Scratch};
+ghost use Rattle.step_runs.specs.declared.Stop.TheVariants.{Refused};
 ghost use Rattle.step_runs.specs.StepRuns.{Ready, LineTaken, RanBy, AnsweredBy, FullBy};
 
 use path_tries::TRIE;
-use result_stack::{Stack, Stepped};
+use result_stack::{Stack, StepRefusal};
 use rows::Row;
 use step_lines::{Step, parse};
 use steps::apply;
 use text::Line;
+use type_table::Types;
 use words::Refusal;
 
-// What a step line makes of the stack: the next one, or a refusal's number, or that its runs are full.
-#[derive(Drop)]
-pub enum StepTaken {
-    Next(Stack),
-    Refused(u64),
+// Why a run over lines stops before their end: a line is refused, or the runs of the stack are full.
+#[derive(Clone, Copy, PartialEq, Eq, Debug)]
+pub enum Stop {
+    Refused(Refusal),
     Full,
 }
 
-// What a text gives: the stack after so many lines, or a refusal's number and line, or that the runs of the stack are full.
-#[derive(Drop)]
-pub enum Ran {
-    Stack(Stack, u64),
-    Refused(u64, u64),
-    Full,
+impl From<Refusal> for Stop {
+    ghost from_gives = { λ refusal stop. stop ≡ Refused refusal };
+
+    fn from(refusal: Refusal) -> Stop {
+        Stop::Refused(refusal)
+    }
 }
 
-// The reply to a text, or that the runs of the stack are full.
+// The stack after so many lines.
 #[derive(Drop)]
-pub enum Answered {
-    Reply(Result<(), Refusal>),
-    Full,
+pub struct Ran {
+    pub stack: Stack,
+    pub lines: u64,
 }
 
-// One step line on the stack, where its runs have room for any step; `names`, `paths` and `trie` are scratch.
+// The step line of that number on the stack, where its runs have room for any step; `names`, `paths` and `trie` are scratch.
 pub fn step_line(
     line: &[u8],
-    words: &[u64],
-    table: &[u64],
-    types: u64,
+    number: u64,
+    types: &Types<'_>,
     code: &mut [u16],
     tries: &mut [u64],
     names: &mut [u64],
     paths: &mut [u16],
     trie: &mut [u64],
     stack: Stack,
-) -> StepTaken
-    requires good_types { GoodTypes words.now table.now types }
-    requires ready { Ready code.old tries.old names.old paths.old trie.old stack }
-    ensures { LineTaken (items_of words.now) line.now code.old tries.old stack code.new tries.new result }
+) -> Result<Stack, Stop>
+    requires { Ready code.old tries.old names.old paths.old trie.old stack }
+    ensures { LineTaken (items_of types.now.words.now) line.now number code.old tries.old stack code.new tries.new result }
 {
-    if stack.code < Stack::CODE_ROOM {
-        return StepTaken::Full;
-    }
-    if stack.tries < Stack::TRIES_ROOM {
-        return StepTaken::Full;
+    if stack.code < Stack::CODE_ROOM || stack.tries < Stack::TRIES_ROOM {
+        return Err(Stop::Full);
     }
     let Some(step) = parse(line, names) else {
-        return StepTaken::Refused(1);
+        return Err(Stop::Refused(StepRefusal::Unlawful.at(number)));
     };
-    match apply(
-        step, names, words, table, types, code, tries, paths, trie, stack,
-    ) {
-        Stepped::Next(next) => StepTaken::Next(next),
-        Stepped::Refused(number) => StepTaken::Refused(number),
+    match apply(step, names, types, code, tries, paths, trie, stack) {
+        Ok(next) => Ok(next),
+        Err(refusal) => Err(Stop::Refused(refusal.at(number))),
     }
 }
 
 // Runs all lines of a text; `paths` is scratch.
 pub fn run(
-    words: &[u64],
-    table: &[u64],
-    types: u64,
+    types: &Types<'_>,
     text: &[u8],
     code: &mut [u16],
     tries: &mut [u64],
     paths: &mut [u16],
-) -> Ran
-    requires good_types { GoodTypes words.now table.now types }
-    requires code_len_bound { (length code.old < 2 ^ 53) × Scratch code.old paths.old }
-    ensures { RanBy (items_of words.now) text.now code.new tries.new result }
+) -> Result<Ran, Stop>
+    requires { (length code.old < 2 ^ 53) × Scratch code.old paths.old }
+    ensures { RanBy (items_of types.now.words.now) text.now code.new tries.new result }
 {
     let mut names = [0u64; Step::NAMES];
     let mut trie = [0u64; TRIE];
     let mut stack = Stack::new(code.len(), tries.len());
     let mut at = 0;
-    let mut line: u64 = 0;
+    let mut lines: u64 = 0;
     while at < text.len() {
         let Line::Whole(end) = Line::at(text, at) else {
-            return Ran::Refused(1, line);
+            return Err(Stop::Refused(StepRefusal::Unlawful.at(lines)));
         };
-        match step_line(
+        stack = step_line(
             &text[at..end],
-            words,
-            table,
+            lines,
             types,
             code,
             tries,
@@ -110,21 +99,11 @@ pub fn run(
             paths,
             &mut trie,
             stack,
-        ) {
-            StepTaken::Next(next) => {
-                stack = next;
-            }
-            StepTaken::Refused(number) => {
-                return Ran::Refused(number, line);
-            }
-            StepTaken::Full => {
-                return Ran::Full;
-            }
-        }
+        )?;
         at = end + 1;
-        line += 1;
+        lines += 1;
     }
-    Ran::Stack(stack, line)
+    Ok(Ran { stack, lines })
 }
 
 // Writes the contribution of the one result on a stack.
@@ -142,29 +121,22 @@ pub fn write_contribution(request: u64, tries: &[u64], at: usize, out: &mut [u64
 
 // The contribution of a step text, by a stack in two runs of any length; `paths` is scratch.
 pub fn answer_steps(
-    words: &[u64],
-    table: &[u64],
-    types: u64,
+    types: &Types<'_>,
     request: u64,
     text: &[u8],
     out: &mut [u64],
     code: &mut [u16],
     tries: &mut [u64],
     paths: &mut [u16],
-) -> Answered
-    requires good_types { GoodTypes words.now table.now types × ((request < 2 ^ 48) × (1026 ≤ length out.old)) }
+) -> Result<(), Stop>
+    requires request_bound { (request < 2 ^ 48) × (1026 ≤ length out.old) }
     requires code_len_bound { (length code.old < 2 ^ 53) × Scratch code.old paths.old }
-    ensures { AnsweredBy (analyse (items_of words.now) request text.now) out.old out.new result × FullBy code.old tries.old result }
+    ensures { AnsweredBy (analyse (items_of types.now.words.now) request text.now) out.old out.new result × FullBy code.old tries.old result }
 {
-    match run(words, table, types, text, code, tries, paths) {
-        Ran::Full => Answered::Full,
-        Ran::Refused(number, line) => Answered::Reply(Err(Refusal { number, place: line })),
-        Ran::Stack(stack, lines) => {
-            if stack.results != 1 {
-                return Answered::Reply(Err(Refusal { number: 6, place: lines }));
-            }
-            write_contribution(request, tries, stack.tries, out);
-            Answered::Reply(Ok(()))
-        }
+    let ran = run(types, text, code, tries, paths)?;
+    if ran.stack.results != 1 {
+        return Err(Stop::Refused(StepRefusal::Results.at(ran.lines)));
     }
+    write_contribution(request, tries, ran.stack.tries, out);
+    Ok(())
 }

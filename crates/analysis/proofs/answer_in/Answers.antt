@@ -1,12 +1,11 @@
 -- `analysis::answer_in` meets its contract: by what is asked.
-
 use Rattle.analysis.proofs.answer_in.Goals as goal
 
 pub answer_steps-requires : goal.answer_steps-requires
-answer_steps-requires c = record { good_types = (c.requires.good_types.0, rw c.in-Steps.is at c.requires.good_types.1); code_len_bound = c.requires.code_len_bound }
+answer_steps-requires c = record { request_bound = rw c.in-Steps.is at c.requires.lent; code_len_bound = c.requires.code_len_bound }
 
 pub answer_policy-requires : goal.answer_policy-requires
-answer_policy-requires c = record { good_types = (c.requires.good_types.0, rw c.in-Policy.is at c.requires.good_types.1); code_len_bound = c.requires.code_len_bound }
+answer_policy-requires c = record { lent = rw c.in-Policy.is at c.requires.lent; code_len_bound = c.requires.code_len_bound }
 
 pub returns-in-Steps : goal.returns-in-Steps
 returns-in-Steps c = rw c.in-Steps.is c.answer_steps.ensures

@@ -5,13 +5,13 @@ use Rattle.listing_lines.specs.Lines.{row_read}
 use Rattle.policy_runs.specs.PolicyRuns.{request_of_row}
 use Rattle.policy_runs.proofs.request_at.Goals as goal
 
-pub returns-in_default : goal.returns-in_default
-returns-in_default c = ap request_of_row (sym (ap row_read c.in_default.is) ∙ c.read_row.ensures)
+pub returns-in_err-row : goal.returns-in_err-row
+returns-in_err-row c = rw c.from_residual.ensures (ap request_of_row (sym (ap row_read c.in_err-row.was) ∙ c.read_row.ensures))
 
 pub returns-then-row-ne0 : goal.returns-then-row-ne0
 returns-then-row-ne0 c =
-    rw (ne_eqb c.in-Some.row.depth 0 c.if-row-ne0.true) at (ap request_of_row (sym (ap row_read c.in-Some.is) ∙ c.read_row.ensures))
+    rw (ne_eqb c.in_ok-row.row.depth 0 c.if-row-ne0.true) at (ap request_of_row (sym (ap row_read c.in_ok-row.was) ∙ c.read_row.ensures))
 
 pub returns : goal.returns
 returns c =
-    rw (eq-eqb c.in-Some.row.depth 0 c.if-row-ne0.false) at (ap request_of_row (sym (ap row_read c.in-Some.is) ∙ c.read_row.ensures))
+    rw (eq-eqb c.in_ok-row.row.depth 0 c.if-row-ne0.false) at (ap request_of_row (sym (ap row_read c.in_ok-row.was) ∙ c.read_row.ensures))

@@ -3,10 +3,10 @@ use Prim.Native.Nat.{ℕ, ◌≤◌, ◌<◌}
 use native.Mathlib.Omega.{arith}
 use mathlib.Core.Path.{◌≡◌, refl, sym, ◌∙◌}
 use lib.ListN.{length, length-replicate}
+use Rattle.std.proofs.lemmas.Result.{err_from_is_err_and}
 use Rattle.text.proofs.Laws.{whole_within}
 use Rattle.text.specs.declared.Line.TheVariants.{Whole}
-use Rattle.step_runs.specs.StepRunLaws.{held_none}
-use Rattle.policy_runs.specs.PolicyRunLaws.{running_begins, running_uncut, running_request, running_refused, running_takes, running_ends, running_unended}
+use Rattle.policy_runs.specs.PolicyRunLaws.{running_begins, running_uncut, running_request, running_stops, running_takes, running_ends, running_unended}
 use Rattle.policy_runs.proofs.run_policy.Goals as goal
 use Rattle.policy_runs.proofs.run_policy.Goals.{In-Whole}
 
@@ -17,7 +17,7 @@ within c = whole_within _ _ _ _ c.at.ensures c.in-Whole.is
 pub loop-at-init : goal.loop-at-init
 loop-at-init c =
     let a = c.args in (
-      running_begins a.words.now a.text.now a.rows.now a.code.now a.tries.now refl refl (held_none a.code.now a.tries.now c.new.result c.new.ensures) c.requires.good_types.1,
+      running_begins a.types.now.words.now a.text.now a.rows.now a.code.now a.tries.now c.requires.lent,
       ((refl, (refl, (refl, refl))), ((refl, length-replicate {A = ℕ} 1026 0), (length-replicate {A = ℕ} 1026 0, length-replicate {A = ℕ} 4161 0))),
     )
 
@@ -36,7 +36,7 @@ shape_of-paths-in_default c = c.loop-at.invariant.1.0.1.1.1
 pub returns-in_default : goal.returns-in_default
 returns-in_default c =
     let unended : (end : ℕ) → c.at.result ≡ Whole end → ⊥ = c.in_default.not-Whole in
-    running_uncut c.loop-at.invariant.0 c.at.ensures unended c.loop-at-test.true
+    rw c.at-in_default.ensures (running_uncut c.loop-at.invariant.0 c.at.ensures unended c.loop-at-test.true)
 
 pub request_at-requires : goal.request_at-requires
 request_at-requires c = c.loop-at-test.true
@@ -64,52 +64,42 @@ slice_bounds-take_line-end-in-loop-at-4 c = sym c.loop-at.invariant.1.1.1.1
 
 pub take_line-requires : goal.take_line-requires
 take_line-requires c =
-    record { good_types = (c.requires.good_types.0, running_request c.loop-at.invariant.0 c.at.ensures c.in-Whole.is c.request_at.ensures); ready = record { results = c.loop-at.invariant.0.results; held = c.loop-at.invariant.0.held; few_words = omega (arith, c.loop-at.invariant.1.0.1.0, c.requires.code_len_bound.0); scratch = λ n in_code few. omega (arith, c.requires.code_len_bound.1 n (omega (arith, c.loop-at.invariant.1.0.1.0)) few, c.loop-at.invariant.1.0.1.1.1); names-length = c.loop-at.invariant.1.1.0.0; trie_length = c.loop-at.invariant.1.1.0.1 }; room_to_add = record { small = c.loop-at.invariant.0.small; contribution_room = omega (arith, c.loop-at.invariant.1.1.1.0); united_room = omega (arith, c.loop-at.invariant.1.1.1.1); lent = c.loop-at.invariant.0.lent } }
+    record {
+      opens = running_request c.loop-at.invariant.0 c.at.ensures c.in-Whole.is c.request_at.ensures;
+      ready = record { results = c.loop-at.invariant.0.results; held = c.loop-at.invariant.0.held; small = c.loop-at.invariant.0.small; few_words = omega (arith, c.loop-at.invariant.1.0.1.0, c.requires.code_len_bound.0); scratch = λ n in_code few. omega (arith, c.requires.code_len_bound.1 n (omega (arith, c.loop-at.invariant.1.0.1.0)) few, c.loop-at.invariant.1.0.1.1.1); names-length = c.loop-at.invariant.1.1.0.0; trie_length = c.loop-at.invariant.1.1.0.1 };
+      room_to_add = record { contribution_room = omega (arith, c.loop-at.invariant.1.1.1.0); united_room = omega (arith, c.loop-at.invariant.1.1.1.1); lent = c.loop-at.invariant.0.lent };
+    }
 
-pub shape_of-rows-in-Refused : goal.shape_of-rows-in-Refused
-shape_of-rows-in-Refused c = c.take_line.auto.rows ∙ c.loop-at.invariant.1.0.0
+pub shape_of-rows-in_err-begun : goal.shape_of-rows-in_err-begun
+shape_of-rows-in_err-begun c = c.take_line.auto.rows ∙ c.loop-at.invariant.1.0.0
 
-pub shape_of-code-in-Refused : goal.shape_of-code-in-Refused
-shape_of-code-in-Refused c = c.take_line.auto.code ∙ c.loop-at.invariant.1.0.1.0
+pub shape_of-code-in_err-begun : goal.shape_of-code-in_err-begun
+shape_of-code-in_err-begun c = c.take_line.auto.code ∙ c.loop-at.invariant.1.0.1.0
 
-pub shape_of-tries-in-Refused : goal.shape_of-tries-in-Refused
-shape_of-tries-in-Refused c = c.take_line.auto.tries ∙ c.loop-at.invariant.1.0.1.1.0
+pub shape_of-tries-in_err-begun : goal.shape_of-tries-in_err-begun
+shape_of-tries-in_err-begun c = c.take_line.auto.tries ∙ c.loop-at.invariant.1.0.1.1.0
 
-pub shape_of-paths-in-Refused : goal.shape_of-paths-in-Refused
-shape_of-paths-in-Refused c = c.take_line.auto.paths ∙ c.loop-at.invariant.1.0.1.1.1
+pub shape_of-paths-in_err-begun : goal.shape_of-paths-in_err-begun
+shape_of-paths-in_err-begun c = c.take_line.auto.paths ∙ c.loop-at.invariant.1.0.1.1.1
 
-pub returns-in-Refused : goal.returns-in-Refused
-returns-in-Refused c = running_refused c.loop-at.invariant.0 c.at.ensures c.in-Whole.is (rw c.in-Refused.is at c.take_line.ensures)
-
-pub shape_of-rows-in-Full : goal.shape_of-rows-in-Full
-shape_of-rows-in-Full c = c.take_line.auto.rows ∙ c.loop-at.invariant.1.0.0
-
-pub shape_of-code-in-Full : goal.shape_of-code-in-Full
-shape_of-code-in-Full c = c.take_line.auto.code ∙ c.loop-at.invariant.1.0.1.0
-
-pub shape_of-tries-in-Full : goal.shape_of-tries-in-Full
-shape_of-tries-in-Full c = c.take_line.auto.tries ∙ c.loop-at.invariant.1.0.1.1.0
-
-pub shape_of-paths-in-Full : goal.shape_of-paths-in-Full
-shape_of-paths-in-Full c = c.take_line.auto.paths ∙ c.loop-at.invariant.1.0.1.1.1
-
-pub returns-in-Full : goal.returns-in-Full
-returns-in-Full c =
-    let full = rw c.in-Full.is at c.take_line.ensures in
-    λ code-length tries-length. full (c.loop-at.invariant.1.0.1.0 ∙ code-length) (c.loop-at.invariant.1.0.1.1.0 ∙ tries-length)
+pub returns-in_err-begun : goal.returns-in_err-begun
+returns-in_err-begun c =
+    let handed = err_from_is_err_and c.from_residual.result c.from_residual.ensures.1 in
+    rw (handed.1, handed.2)
+    (running_stops c.loop-at.invariant.0 c.at.ensures c.in-Whole.is _ _ c.take_line.new.rows c.take_line.new.code c.take_line.new.tries c.in_err-begun.field-0.0 (rw c.in_err-begun.was at c.take_line.ensures) c.loop-at.invariant.1.0.1.0 c.loop-at.invariant.1.0.1.1.0)
 
 pub overflow_add-at : goal.overflow_add-at
 overflow_add-at c = omega (arith, within (goal.at.overflow_add-at c).In-Whole, c.well_formed.1.1.1.0)
 
-pub overflow_add-line : goal.overflow_add-line
-overflow_add-line c = omega (arith, within (goal.at.overflow_add-line c).In-Whole, c.loop-at.invariant.0.came.lines_passed, c.well_formed.1.1.1.0)
+pub overflow_add-lines : goal.overflow_add-lines
+overflow_add-lines c = omega (arith, within (goal.at.overflow_add-lines c).In-Whole, c.loop-at.invariant.0.came.lines_passed, c.well_formed.1.1.1.0)
 
 pub loop-at-smaller : goal.loop-at-smaller
 loop-at-smaller c = omega (arith, within (goal.at.loop-at-smaller c).In-Whole)
 
 pub loop-at-preserved : goal.loop-at-preserved
 loop-at-preserved c = (
-  running_takes c.loop-at.invariant.0 c.at.ensures c.in-Whole.is (rw c.in-Next.is at c.take_line.ensures),
+  running_takes c.loop-at.invariant.0 c.at.ensures c.in-Whole.is (rw c.in_ok-begun.was at c.take_line.ensures),
   (
     (c.take_line.auto.rows ∙ c.loop-at.invariant.1.0.0, (c.take_line.auto.code ∙ c.loop-at.invariant.1.0.1.0, (c.take_line.auto.tries ∙ c.loop-at.invariant.1.0.1.1.0, c.take_line.auto.paths ∙ c.loop-at.invariant.1.0.1.1.1))),
     ((c.take_line.auto.names ∙ c.loop-at.invariant.1.1.0.0, c.take_line.auto.trie ∙ c.loop-at.invariant.1.1.0.1), (c.take_line.auto.contribution ∙ c.loop-at.invariant.1.1.1.0, c.take_line.auto.united ∙ c.loop-at.invariant.1.1.1.1)),
@@ -126,32 +116,34 @@ pub close-requires : goal.close-requires
 close-requires c =
     record { fact = (record { code = _; results = c.loop-at.invariant.0.results; held = c.loop-at.invariant.0.held; small = c.loop-at.invariant.0.small }, c.loop-at.invariant.0.lent); in_bounds = (omega (arith, c.loop-at.invariant.1.1.1.0), omega (arith, c.loop-at.invariant.1.1.1.1)) }
 
-pub shape_of-rows-in-Done : goal.shape_of-rows-in-Done
-shape_of-rows-in-Done c = c.close.auto.rows ∙ c.loop-at.invariant.1.0.0
+pub shape_of-rows : goal.shape_of-rows
+shape_of-rows c = c.close.auto.rows ∙ c.loop-at.invariant.1.0.0
 
-pub shape_of-code-in-Done : goal.shape_of-code-in-Done
-shape_of-code-in-Done c = c.loop-at.invariant.1.0.1.0
+pub shape_of-code : goal.shape_of-code
+shape_of-code c = c.loop-at.invariant.1.0.1.0
 
-pub shape_of-tries-in-Done : goal.shape_of-tries-in-Done
-shape_of-tries-in-Done c = c.loop-at.invariant.1.0.1.1.0
+pub shape_of-tries : goal.shape_of-tries
+shape_of-tries c = c.loop-at.invariant.1.0.1.1.0
 
-pub shape_of-paths-in-Done : goal.shape_of-paths-in-Done
-shape_of-paths-in-Done c = c.loop-at.invariant.1.0.1.1.1
+pub shape_of-paths : goal.shape_of-paths
+shape_of-paths c = c.loop-at.invariant.1.0.1.1.1
 
-pub returns-in-Done : goal.returns-in-Done
-returns-in-Done c = running_ends c.loop-at.invariant.0 c.loop-at-test.false (rw c.in-Done.is at c.close.ensures)
+pub returns : goal.returns
+returns c = running_ends c.loop-at.invariant.0 c.loop-at-test.false (rw c.in_ok-close.was at c.close.ensures)
 
-pub shape_of-rows-in-Refused-close : goal.shape_of-rows-in-Refused-close
-shape_of-rows-in-Refused-close c = c.close.auto.rows ∙ c.loop-at.invariant.1.0.0
+pub shape_of-rows-in_err-close : goal.shape_of-rows-in_err-close
+shape_of-rows-in_err-close c = c.close.auto.rows ∙ c.loop-at.invariant.1.0.0
 
-pub shape_of-code-in-Refused-close : goal.shape_of-code-in-Refused-close
-shape_of-code-in-Refused-close c = c.loop-at.invariant.1.0.1.0
+pub shape_of-code-in_err-close : goal.shape_of-code-in_err-close
+shape_of-code-in_err-close c = c.loop-at.invariant.1.0.1.0
 
-pub shape_of-tries-in-Refused-close : goal.shape_of-tries-in-Refused-close
-shape_of-tries-in-Refused-close c = c.loop-at.invariant.1.0.1.1.0
+pub shape_of-tries-in_err-close : goal.shape_of-tries-in_err-close
+shape_of-tries-in_err-close c = c.loop-at.invariant.1.0.1.1.0
 
-pub shape_of-paths-in-Refused-close : goal.shape_of-paths-in-Refused-close
-shape_of-paths-in-Refused-close c = c.loop-at.invariant.1.0.1.1.1
+pub shape_of-paths-in_err-close : goal.shape_of-paths-in_err-close
+shape_of-paths-in_err-close c = c.loop-at.invariant.1.0.1.1.1
 
-pub returns-in-Refused-close : goal.returns-in-Refused-close
-returns-in-Refused-close c = running_unended c.loop-at.invariant.0 c.loop-at-test.false (rw c.in-Refused-close.is at c.close.ensures)
+pub returns-in_err-close : goal.returns-in_err-close
+returns-in_err-close c =
+    let handed = err_from_is_err_and c.from_residual-in_err-close.result c.from_residual-in_err-close.ensures.1 in
+    rw (handed.1, handed.2) (running_unended c.loop-at.invariant.0 c.loop-at-test.false (rw c.in_err-close.was at c.close.ensures))

@@ -6,7 +6,7 @@ use Rattle.policy_runs.proofs.run_policy.Given as goal
 
 abbrev pub invariant-loop-at : goal.invariant-loop-at
 invariant-loop-at l =
-    RunningPolicy l.words l.text l.initial.rows l.rows l.code l.tries l.reading l.at l.line
+    RunningPolicy l.types.words.now l.text l.initial.rows l.rows l.code l.tries l.reading l.at l.lines
     × (((length l.rows ≡ length l.initial.rows) × ((length l.code ≡ length l.initial.code) × ((length l.tries ≡ length l.initial.tries) × (length l.paths ≡ length l.initial.paths))))
     × (((length l.names ≡ 32) × (length l.trie ≡ 1026)) × ((length l.contribution ≡ 1026) × (length l.united ≡ 4161))))
 
