@@ -18,6 +18,22 @@ use merging::merge_values;
 use values::EntityRequest;
 use words::copy_words;
 
+// The rows that ask for an entity, by their keys: the words in which answers stand, and the places of the answers to all rows.
+#[derive(Clone, Copy)]
+pub struct Group<'a> {
+    pub words: &'a [u64],
+    pub keys: &'a [u64],
+    pub places: &'a [u64],
+    pub entity: u64,
+}
+
+// The words in which sets of ancestor ids stand, and the places of the sets of all rows.
+#[derive(Clone, Copy)]
+pub struct Ancestors<'a> {
+    pub sets: &'a [u64],
+    pub places: &'a [u64],
+}
+
 // Whether a row asks for an entity and its answer, by its head, is not absent.
 fn asks_for(row: u64, head: u64, entity: u64) -> bool
     ensures { result ≡ asks_for row head entity }
@@ -26,26 +42,6 @@ fn asks_for(row: u64, head: u64, entity: u64) -> bool
         return head != 0;
     }
     false
-}
-
-// The place of the first row from `from` on that asks for an entity and has an answer, if there is one.
-pub fn next_answer(
-    words: &[u64],
-    keys: &[u64],
-    places: &[u64],
-    entity: u64,
-    from: usize,
-) -> Option<usize>
-    requires { Heard words.now keys.now (places_of places.now keys.now) × (from ≤ length keys.now) }
-    ensures { AnswerFound words.now keys.now (places_of places.now keys.now) entity from result }
-{
-    for k in from..keys.len() {
-        let place = place_of(keys, places, k);
-        if asks_for(keys[k], words[place], entity) {
-            return Some(k);
-        }
-    }
-    None
 }
 
 // The place after an entity's head and parents, where its rows start.
@@ -88,90 +84,88 @@ fn merge_more(
     merged
 }
 
-// Merges the rows of the answers to an entity, writes them from a place on, and answers how many they are.
-fn write_rows(
-    words: &[u64],
-    keys: &[u64],
-    places: &[u64],
-    entity: u64,
-    out: &mut [u64],
-    from: usize,
-    scratch: &mut [u64],
-) -> usize
-    requires { RowsFit words.now keys.now (places_of places.now keys.now) entity out.old from scratch.old }
-    ensures wrote { (value : Entity) → merged_of (answers_for words.now keys.now (places_of places.now keys.now) entity) ≡ some value → Wrote out.old from (row_words value) out.new (from + result) }
-    ensures upper_bound { result ≤ rows_in (answers_for words.now keys.now (places_of places.now keys.now) entity) }
-{
-    let mut size: usize = 0;
-    let mut k: usize = 0;
-    while let Some(next) = next_answer(words, keys, places, entity, k) {
-        let place = place_of(keys, places, next);
-        size = merge_more(words, place, out, from, size, scratch);
-        k = next + 1;
+impl Group<'_> {
+    // The place of the first row from `from` on that has an answer, if there is one.
+    pub fn next_answer(self, from: usize) -> Option<usize>
+        requires { Heard self.words.now self.keys.now (places_of self.places.now self.keys.now) × (from ≤ length self.keys.now) }
+        ensures { AnswerFound self.entry.words.now self.entry.keys.now (places_of self.entry.places.now self.entry.keys.now) self.entry.entity from result }
+    {
+        for k in from..self.keys.len() {
+            let place = place_of(self.keys, self.places, k);
+            if asks_for(self.keys[k], self.words[place], self.entity) {
+                return Some(k);
+            }
+        }
+        None
     }
-    size
-}
 
-// Writes an entity's parents, united with the ancestors answered for it, and answers how many they are.
-fn write_parents(
-    words: &[u64],
-    keys: &[u64],
-    places: &[u64],
-    sets: &[u64],
-    set_places: &[u64],
-    entity: u64,
-    out: &mut [u64],
-    to: usize,
-    scratch: &mut [u64],
-) -> usize
-    requires { ParentsFit words.now keys.now (places_of places.now keys.now) sets.now (places_of set_places.now keys.now) entity out.old to scratch.old }
-    ensures { (value : Entity) → merged_of (answers_for words.now keys.now (places_of places.now keys.now) entity) ≡ some value → Wrote out.old to (with_ids (ids_for keys.now sets.now (places_of set_places.now keys.now) entity) value.parents) out.new (to + result) }
-{
-    let Some(first) = next_answer(words, keys, places, entity, 0) else {
-        return 0;
-    };
-    let place = place_of(keys, places, first);
-    let start = place + 1;
-    let end = rows_start(words, place);
-    copy_words(&words[start..end], out, to);
-    add_ancestors(
-        keys,
-        sets,
-        set_places,
-        entity,
-        out,
-        to,
-        end - start,
-        scratch,
-    )
-}
+    // Merges the rows of the answers, writes them from a place on, and answers how many they are.
+    fn write_rows(self, out: &mut [u64], from: usize, scratch: &mut [u64]) -> usize
+        requires { RowsFit self.words.now self.keys.now (places_of self.places.now self.keys.now) self.entity out.old from scratch.old }
+        ensures wrote { (value : Entity) → merged_of (answers_for self.entry.words.now self.entry.keys.now (places_of self.entry.places.now self.entry.keys.now) self.entry.entity) ≡ some value → Wrote out.old from (row_words value) out.new (from + result) }
+        ensures upper_bound { result ≤ rows_in (answers_for self.entry.words.now self.entry.keys.now (places_of self.entry.places.now self.entry.keys.now) self.entry.entity) }
+    {
+        let mut size: usize = 0;
+        let mut k: usize = 0;
+        while let Some(next) = self.next_answer(k) {
+            let place = place_of(self.keys, self.places, next);
+            size = merge_more(self.words, place, out, from, size, scratch);
+            k = next + 1;
+        }
+        size
+    }
 
-// Writes an entity with its answers merged and its ancestors among its parents, and answers the place after it.
-pub fn write_entity(
-    words: &[u64],
-    keys: &[u64],
-    places: &[u64],
-    sets: &[u64],
-    set_places: &[u64],
-    entity: u64,
-    out: &mut [u64],
-    to: usize,
-    scratch: &mut [u64],
-) -> usize
-    requires { EntityFit words.now keys.now (places_of places.now keys.now) sets.now (places_of set_places.now keys.now) entity out.old to scratch.old }
-    ensures { EntityWritten words.now keys.now (places_of places.now keys.now) sets.now (places_of set_places.now keys.now) entity out.old to out.new result }
-{
-    let start = to + 1;
-    let parents = write_parents(
-        words, keys, places, sets, set_places, entity, out, start, scratch,
-    );
-    let from = start + parents;
-    let size = write_rows(words, keys, places, entity, out, from, scratch);
-    let head = Head {
-        flag: entity,
-        parents,
-        rows: size,
-    };
-    out[to] = head.word();
-    from + size
+    // Writes the entity's parents, united with the ancestors answered for it, and answers how many they are.
+    fn write_parents(
+        self,
+        ancestors: Ancestors<'_>,
+        out: &mut [u64],
+        to: usize,
+        scratch: &mut [u64],
+    ) -> usize
+        requires { ParentsFit self.words.now self.keys.now (places_of self.places.now self.keys.now) ancestors.sets.now (places_of ancestors.places.now self.keys.now) self.entity out.old to scratch.old }
+        ensures { (value : Entity) → merged_of (answers_for self.entry.words.now self.entry.keys.now (places_of self.entry.places.now self.entry.keys.now) self.entry.entity) ≡ some value → Wrote out.old to (with_ids (ids_for self.entry.keys.now ancestors.entry.sets.now (places_of ancestors.entry.places.now self.entry.keys.now) self.entry.entity) value.parents) out.new (to + result) }
+    {
+        let Some(first) = self.next_answer(0) else {
+            return 0;
+        };
+        let place = place_of(self.keys, self.places, first);
+        let start = place + 1;
+        let end = rows_start(self.words, place);
+        copy_words(&self.words[start..end], out, to);
+        add_ancestors(
+            self.keys,
+            ancestors.sets,
+            ancestors.places,
+            self.entity,
+            out,
+            to,
+            end - start,
+            scratch,
+        )
+    }
+
+    // Writes the entity with its answers merged and its ancestors among its parents, and answers the place after it.
+    pub fn write_entity(
+        self,
+        ancestors: Ancestors<'_>,
+        out: &mut [u64],
+        to: usize,
+        scratch: &mut [u64],
+    ) -> usize
+        requires { EntityFit self.words.now self.keys.now (places_of self.places.now self.keys.now) ancestors.sets.now (places_of ancestors.places.now self.keys.now) self.entity out.old to scratch.old }
+        ensures { EntityWritten self.entry.words.now self.entry.keys.now (places_of self.entry.places.now self.entry.keys.now) ancestors.entry.sets.now (places_of ancestors.entry.places.now self.entry.keys.now) self.entry.entity out.old to out.new result }
+    {
+        let start = to + 1;
+        let parents = self.write_parents(ancestors, out, start, scratch);
+        let from = start + parents;
+        let size = self.write_rows(out, from, scratch);
+        let head = Head {
+            flag: self.entity,
+            parents,
+            rows: size,
+        };
+        out[to] = head.word();
+        from + size
+    }
 }

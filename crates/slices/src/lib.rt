@@ -11,7 +11,7 @@ ghost use Rattle.rules.specs.Loading.{Loaded, with_ancestors};
 ghost use Rattle.rules.specs.SliceLaws.{SliceOf};
 ghost use Rattle.slices.specs.Slices.{rows_asked, answers_in, sets_in, SliceFit, WroteSlice};
 
-use entity::{next_answer, write_entity};
+use entity::{Ancestors, Group};
 pub use ids::union_ids;
 use keys::{IDS, group_end, sort_keys, write_keys};
 
@@ -42,17 +42,24 @@ pub fn build_slice(
     write_keys(rows, &mut keys[..]);
     sort_keys(&mut keys[..], 0, len, scratch);
     let sorted = &keys[..len];
+    let ancestors = Ancestors {
+        sets,
+        places: set_places,
+    };
     let mut end = to;
     let mut count: u64 = 0;
     let mut from = 0;
     while from < len {
         let entity = sorted[from] % IDS;
         let behind = group_end(sorted, from);
-        let group = &sorted[from..behind];
-        if next_answer(words, group, places, entity, 0).is_some() {
-            end = write_entity(
-                words, group, places, sets, set_places, entity, out, end, scratch,
-            );
+        let group = Group {
+            words,
+            keys: &sorted[from..behind],
+            places,
+            entity,
+        };
+        if group.next_answer(0).is_some() {
+            end = group.write_entity(ancestors, out, end, scratch);
             count += 1;
         }
         from = behind;

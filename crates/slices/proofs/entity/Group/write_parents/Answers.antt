@@ -1,16 +1,16 @@
--- `slices::entity::write_parents` meets its contract: the parents of the first answer are copied, and united with the ancestors.
+-- `slices::entity::Group::write_parents` meets its contract: the parents of the first answer are copied, and united with the ancestors.
 use native.Mathlib.Omega.{arith}
 use Rattle.slices.specs.Keys.{places_of}
 use Rattle.slices.specs.Writing.{FirstAnswer}
 use Rattle.slices.specs.EntityLaws.{parents_some, first_stands, parents_room, parents_unite, parents_wrote}
-use Rattle.slices.proofs.entity.write_parents.Goals as goal
-use Rattle.slices.proofs.entity.write_parents.Goals.{In-Some}
+use Rattle.slices.proofs.entity.Group.write_parents.Goals as goal
+use Rattle.slices.proofs.entity.Group.write_parents.Goals.{In-Some}
 
 -- the first answer is found
 found :
     (c : In-Some)
     → let a = c.args in
-    FirstAnswer a.words.now a.keys.now (places_of a.places.now a.keys.now) a.entity 0 c.in-Some.first
+    FirstAnswer a.self.words.now a.self.keys.now (places_of a.self.places.now a.self.keys.now) a.self.entity 0 c.in-Some.first
 found c = rw c.in-Some.is at c.next_answer.ensures
 
 pub returns-in_default : goal.returns-in_default
@@ -26,8 +26,8 @@ overflow_add-start c = omega (arith, (first_stands c.requires (found (goal.at.ov
 pub rows_start-end-requires : goal.rows_start-end-requires
 rows_start-end-requires c = rw c.place_of-place.ensures (first_stands c.requires (found (goal.at.rows_start-end-requires c).In-Some))
 
-pub offset_bounds-words-start : goal.offset_bounds-words-start
-offset_bounds-words-start c = omega (arith, (first_stands c.requires (found (goal.at.offset_bounds-words-start c).In-Some)).fits, c.place_of-place.ensures)
+pub offset_bounds-self-start : goal.offset_bounds-self-start
+offset_bounds-self-start c = omega (arith, (first_stands c.requires (found (goal.at.offset_bounds-self-start c).In-Some)).fits, c.place_of-place.ensures)
 
 pub slice_bounds-copy_words-end : goal.slice_bounds-copy_words-end
 slice_bounds-copy_words-end c = omega (arith, (first_stands c.requires (found (goal.at.slice_bounds-copy_words-end c).In-Some)).fits, (rw c.place_of-place.ensures at c.rows_start-end.ensures))

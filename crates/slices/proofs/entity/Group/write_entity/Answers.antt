@@ -1,11 +1,11 @@
--- `slices::entity::write_entity` meets its contract: its parents, its rows behind them, and its head in front.
+-- `slices::entity::Group::write_entity` meets its contract: its parents, its rows behind them, and its head in front.
 use Prim.Native.Nat.{◌<◌, ◌^◌}
 use native.Mathlib.Omega.{arith}
 use lib.ListN.{length, length-set}
 use borrow.Author.Rules.{rules}
 use Rattle.slices.specs.EntityLaws.{entity_parents, entity_rows, parents_small, size_small, entity_inside, entity_written}
-use Rattle.slices.proofs.entity.write_entity.Goals as goal
-use Rattle.slices.proofs.entity.write_entity.Goals.{After-slice_known-4-1, After-slice_known-6-1}
+use Rattle.slices.proofs.entity.Group.write_entity.Goals as goal
+use Rattle.slices.proofs.entity.Group.write_entity.Goals.{After-slice_known-4-1, After-slice_known-6-1}
 
 small-parents : (c : After-slice_known-4-1) → c.write_parents-parents.result < 2 ^ 16
 small-parents c =
@@ -31,7 +31,7 @@ overflow_add-from c =
       arith,
       small-parents (goal.at.overflow_add-from c).After-slice_known-4-1,
       c.requires.room,
-      c.before.before.before.before.before.before.before.before.before.before.before.before.before.before,
+      c.well_formed,
     )
 
 pub write_rows-size-requires : goal.write_rows-size-requires
@@ -58,7 +58,7 @@ overflow_add-result c =
       small-parents (goal.at.overflow_add-result c).After-slice_known-4-1,
       small_size (goal.at.overflow_add-result c).After-slice_known-6-1,
       c.requires.room,
-      c.before.before.before.before.before.before.before.before.before.before.before.before.before.before.before.before.before.before.before.before.before.before,
+      c.well_formed,
     )
 
 pub shape_of-out : goal.shape_of-out

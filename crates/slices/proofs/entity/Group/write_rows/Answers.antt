@@ -1,18 +1,18 @@
--- `slices::entity::write_rows` meets its contract: the answers before row k are merged, and their rows are held.
+-- `slices::entity::Group::write_rows` meets its contract: the answers before row k are merged, and their rows are held.
 use native.Mathlib.Omega.{arith}
 use borrow.Author.Rules.{rules}
 use Rattle.words.specs.RunLaws.{wrote_length}
 use Rattle.slices.specs.Keys.{places_of}
 use Rattle.slices.specs.Writing.{FirstAnswer}
 use Rattle.slices.specs.WriteLaws.{merged_none, merged_few, merged-all, may_merge, merged_next}
-use Rattle.slices.proofs.entity.write_rows.Goals as goal
-use Rattle.slices.proofs.entity.write_rows.Goals.{In-Some}
+use Rattle.slices.proofs.entity.Group.write_rows.Goals as goal
+use Rattle.slices.proofs.entity.Group.write_rows.Goals.{In-Some}
 
 -- the next answer is found
 found :
     (c : In-Some)
     → let a = c.args in
-    FirstAnswer a.words.now a.keys.now (places_of a.places.now a.keys.now) a.entity c.loop-next.k
+    FirstAnswer a.self.words.now a.self.keys.now (places_of a.self.places.now a.self.keys.now) a.self.entity c.loop-next.k
     c.in-Some.next
 found c = rw c.in-Some.is at c.next_answer.ensures
 
