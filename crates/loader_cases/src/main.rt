@@ -246,7 +246,7 @@ fn replay_call(
     let mut before = [0u64; STATE];
     words::copy_words(state, &mut before, 0);
     if call_word(line, word, items, state, requests) {
-        if state != &before {
+        if state[..] != before[..] {
             print(b" CHANGED");
         }
     }
