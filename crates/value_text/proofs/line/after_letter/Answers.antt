@@ -1,8 +1,8 @@
 -- `value_text::line::after_letter` meets its contract: the fields behind the first are those behind its tab.
 use native.Mathlib.Omega.{arith}
-use mathlib.Core.Path.{refl, sym, ◌∙◌}
+use mathlib.Core.Path.{sym, ◌∙◌}
 use lib.Seq.{length-take-le}
-use Rattle.text.proofs.FieldLaws.{Ends, field_ends, fields_whole}
+use Rattle.text.proofs.FieldLaws.{Ends, field_ends}
 use Rattle.value_text.specs.LineLaws.{letter_behind, letter_other}
 use Rattle.value_text.proofs.line.after_letter.Goals as goal
 use Rattle.value_text.proofs.line.after_letter.Goals.{In_ok-end}
@@ -10,9 +10,6 @@ use Rattle.value_text.proofs.line.after_letter.Goals.{In_ok-end}
 -- where the first field ends
 word-ends : (c : In_ok-end) → Ends c.args.line.now 0 c.in_ok-end.end
 word-ends c = field_ends c.args.line.now 0 _ _ c.field_end.ensures c.in_ok-end.was
-
-pub returns-in_err-end : goal.returns-in_err-end
-returns-in_err-end c = rw (c.from_residual.ensures, fields_whole c.args.line.now _ c.field_end.ensures c.in_err-end.was) refl
 
 pub slice_bounds-is_letter-end : goal.slice_bounds-is_letter-end
 slice_bounds-is_letter-end c = sym (length-take-le _ _ (omega (arith, word-ends (goal.at.slice_bounds-is_letter-end c).In_ok-end)))

@@ -37,12 +37,6 @@ past-letter c =
     field_ends c.args.line.now (c.in_ok-key.key_end + 1) _ _
     c.field_end.ensures c.in_ok-letter_end.was
 
-pub returns-in_err-depth : goal.returns-in_err-depth
-returns-in_err-depth c =
-    let a = c.args in
-    rw c.from_residual.ensures
-    (number_none a.line.now a.at key_fields c.number_at.ensures (λ n. refl) c.in_err-depth.was)
-
 pub overflow_add-depth_end : goal.overflow_add-depth_end
 overflow_add-depth_end c = omega (arith, past-depth (goal.at.overflow_add-depth_end c).In_ok-depth)
 
@@ -62,12 +56,6 @@ returns-in_err-letter_end c =
     (field_alone c.args.line.now (c.in_ok-key.key_end + 1) (place_in kind_letters)
     (number_fields c.in_ok-depth.depth c.in_ok-key.key) c.field_end.ensures c.in_err-letter_end.was (λ n. refl)
     ∙ sym ((past-depth (goal.at.returns-in_err-letter_end c).In_ok-depth).3 ∙ (past-key (goal.at.returns-in_err-letter_end c).In_ok-key).3))
-
-pub slice_bounds-letter_place-count : goal.slice_bounds-letter_place-count
-slice_bounds-letter_place-count c = omega (arith, past-letter (goal.at.slice_bounds-letter_place-count c).In_ok-letter_end)
-
-pub slice_bounds-letter_place-start : goal.slice_bounds-letter_place-start
-slice_bounds-letter_place-start c = omega (arith, past-letter (goal.at.slice_bounds-letter_place-start c).In_ok-letter_end)
 
 pub slice_bounds-letter_place-end-2 : goal.slice_bounds-letter_place-end-2
 slice_bounds-letter_place-end-2 c = omega (arith, past-letter (goal.at.slice_bounds-letter_place-end-2 c).In_ok-letter_end)

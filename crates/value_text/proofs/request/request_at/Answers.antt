@@ -65,12 +65,6 @@ past-resource c past-principal-here =
     _ c.read_decimal.ensures c.in_ok-resource.was
     ).1
 
-pub returns-in_err-p : goal.returns-in_err-p
-returns-in_err-p c =
-    let a = c.args in
-    rw c.from_residual.ensures
-    (number_none a.line.now a.at action_fields c.number_at.ensures (λ n. refl) c.in_err-p.was)
-
 pub overflow_add-p_end : goal.overflow_add-p_end
 overflow_add-p_end c = omega (arith, past-p (goal.at.overflow_add-p_end c).In_ok-p)
 

@@ -8,9 +8,6 @@ use Rattle.value_text.specs.RowLaws.{ordering_none, ordering_found, ordering_non
 use Rattle.value_text.proofs.rows.first_misplaced.Goals as goal
 use Rattle.value_text.proofs.rows.first_misplaced.Goals.{At-loop-i, in-Some, in_default}
 
-pub bounds-levels-0 : goal.bounds-levels-0
-bounds-levels-0 c = omega (arith, c.requires.1)
-
 pub loop-i-init : goal.loop-i-init
 loop-i-init c =
     (refl, ordering_none c.args.words.now c.args.levels.now (omega (arith, c.requires.1)) c.requires.0)
@@ -25,15 +22,6 @@ room c = omega (arith, kept c, c.requires.1)
 pub overflow_sub-own : goal.overflow_sub-own
 overflow_sub-own c =
     omega (arith, c.depth.ensures, ordering_depth c.loop-i.invariant.1 c.loop-i-test.true (room (goal.at.overflow_sub-own c).At-loop-i))
-
-pub offset_bounds-levels-own : goal.offset_bounds-levels-own
-offset_bounds-levels-own c =
-    omega (
-      arith,
-      c.depth.ensures,
-      ordering_depth c.loop-i.invariant.1 c.loop-i-test.true (room (goal.at.offset_bounds-levels-own c).At-loop-i),
-      c.loop-i.invariant.1.few,
-    )
 
 pub bounds-levels-own : goal.bounds-levels-own
 bounds-levels-own c =

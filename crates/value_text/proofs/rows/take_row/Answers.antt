@@ -1,16 +1,14 @@
 -- `value_text::rows::take_row` meets its contract: the line's row, where it may come, is stored, and the levels after it are kept.
-use native.Mathlib.Omega.{arith}
 use mathlib.Core.Bool.{true}
 use mathlib.Core.Option.{some}
 use mathlib.Core.Path.{◌≡◌, sym, ap, ◌∙◌}
 use lib.ListN.{take}
-use lib.Seq.{length-take-le}
 use Rattle.rules.specs.Text.{fields_of}
 use Rattle.rules.specs.ValueTexts.{value_row_of, may_come}
 use Rattle.values.specs.ValueWords.{value_row_in}
 use Rattle.values.specs.Lawful.{levels_in}
 use Rattle.value_text.specs.Fields.{row_read}
-use Rattle.value_text.specs.RowLaws.{taken_depth, row_passed}
+use Rattle.value_text.specs.RowLaws.{row_passed}
 use Rattle.value_text.proofs.rows.take_row.Goals as goal
 use Rattle.value_text.proofs.rows.take_row.Goals.{Else-not-may_come, In_ok-row}
 
@@ -24,21 +22,6 @@ row-comes : (c : Else-not-may_come) →
     let a = c.args in
     may_come (levels_in (take a.len a.levels.now)) (value_row_in c.in_ok-row.row.word) ≡ true
 row-comes c = sym c.may_come.ensures ∙ c.if-not-may_come.false
-
-pub returns-in_err-row : goal.returns-in_err-row
-returns-in_err-row c = rw (c.from_residual.ensures, sym c.parse.ensures ∙ ap row_read c.in_err-row.was) tt
-
-pub slice_bounds-may_come-end-2 : goal.slice_bounds-may_come-end-2
-slice_bounds-may_come-end-2 c = sym (length-take-le _ _ (omega (arith, c.requires.1)))
-
-pub returns-then-not-may_come : goal.returns-then-not-may_come
-returns-then-not-may_come c = rw (row-read (goal.at.returns-then-not-may_come c).In_ok-row) (sym c.may_come.ensures ∙ c.if-not-may_come.true)
-
-pub open_levels-requires : goal.open_levels-requires
-open_levels-requires c =
-    let a = c.args in
-    let (below, near) = taken_depth a.line.now a.words.now a.levels.now a.at a.len _ c.requires.1 (row-comes (goal.at.open_levels-requires c).Else-not-may_come) in
-    (below, omega (arith, near, c.requires.1))
 
 pub returns : goal.returns
 returns c =
