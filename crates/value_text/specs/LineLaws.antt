@@ -1,7 +1,7 @@
 -- Laws of the fields of a line, read one after the other. No contract cites this file.
 use Rattle.std.specs.Prelude.{ℕ, ◌+◌, ◌-◌, ◌^◌, ◌≤◌, ◌<◌, true, false, List, [], ◌∷◌, ◌≡◌, refl, length, take, drop, Option as Maybe, Some, None}
 use Rattle.std.proofs.Math.Nat.{sub-zero}
-use Rattle.std.proofs.Common.{arith, sym, ap, ◌∙◌, eq-eqb, ne_eqb, lt-ltb, le-ltb, le-leb, length-drop, take_all}
+use Rattle.std.proofs.Common.{arith, sym, ap, ◌∙◌, length-drop, take_all}
 use Rattle.std.proofs.Math.Option.{Option, none, some}
 use Rattle.rules.specs.Facts.{by_test, by_option}
 use Rattle.rules.specs.Text.{fields_of, decimal_of, TAB}
@@ -13,7 +13,7 @@ use Rattle.text.specs.Answers.{number_of, number_at, field_at}
 use Rattle.text.proofs.Laws.{value_most, number_ends, number_unended}
 use Rattle.text.proofs.FieldLaws.{Ends, fields_last}
 use Rattle.values.specs.ValueWords.{value_row_in, value_word}
-use Rattle.value_text.specs.Fields.{lettered, of_form, first_by, only_by, row_fields}
+use Rattle.value_text.specs.Fields.{lettered, first_by, only_by, row_fields}
 use Rattle.value_text.specs.Asking.{asked_fields}
 
 -- ---- the first field
@@ -162,15 +162,3 @@ row_again depth key kind number k t n =
     let b : (value_row_in w).kind ≡ kind = omega arith in
     let c : (value_row_in w).number ≡ number = omega arith in
     cc
-
-module _ (depth key kind number : ℕ) (k : key ≤ 65535) (t : kind < 5) (n : number ≤ 65535) where
-  -- a set or a record with a number is not of its form, any other is
-  pub row_numbered : (number ≡ 0 → ⊥) → 3 ≤ kind → none ≡ of_form (value_row depth key kind number)
-  row_numbered some-number opens =
-      rw (le-leb kind 4 (omega arith), lt-ltb key 65536 (omega arith), le-ltb kind 3 opens, ne_eqb number 0 some-number)
-
-  pub row_formed : (kind < 3) → some (value_row depth key kind number) ≡ of_form (value_row depth key kind number)
-  row_formed plain = rw (le-leb kind 4 (omega arith), lt-ltb key 65536 (omega arith), lt-ltb kind 3 plain, lt-ltb number 65536 (omega arith))
-
-  pub row_zero : number ≡ 0 → 3 ≤ kind → some (value_row depth key kind number) ≡ of_form (value_row depth key kind number)
-  row_zero zero opens = rw (le-leb kind 4 (omega arith), lt-ltb key 65536 (omega arith), le-ltb kind 3 opens, eq-eqb number 0 zero)

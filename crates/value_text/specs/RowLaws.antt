@@ -1,51 +1,23 @@
 -- Laws of taking rows and of their order (Rows). No contract cites this file.
-use Prim.Native.Nat.{ℕ, suc, ◌+◌, ◌-◌, ◌/◌, ◌%◌, ◌≤◌, ◌<◌}
-use Rattle.std.proofs.Common.{le_of_lt, add-zero, true≢false, sym, ap, ◌∙◌, leb-true, ltb-true, eq-eqb, ne_eqb, lt-ltb, le-ltb, le-leb, length-drop, drop_of_length-le, get_or-take, length-take-le}
+use Prim.Native.Nat.{ℕ, suc, ◌+◌, ◌-◌, ◌≤◌, ◌<◌}
+use Rattle.std.proofs.Common.{le_of_lt, add-zero, true≢false, sym, ap, ◌∙◌, leb-true, ltb-true, lt-ltb, le-ltb, length-drop, drop_of_length-le, get_or-take, length-take-le}
 use native.Mathlib.Omega.{arith}
-use Rattle.std.specs.Prelude.{true, false, ◌&&◌, List, [], ◌∷◌, ◌≡◌, refl, cond, eqb, leb, ltb, take, drop, get_or, set, Option as Maybe, Some, None}
+use Rattle.std.specs.Prelude.{true, false, ◌&&◌, List, [], ◌∷◌, ◌≡◌, refl, cond, leb, ltb, take, drop, get_or, set, Option as Maybe, Some, None}
 use Rattle.std.proofs.Math.Option.{Option, none, some}
-use Rattle.std.proofs.lemmas.Bool.{lt-leb}
 use Rattle.std.proofs.Math.ListN.{length, get_or-map}
 use Rattle.std.proofs.lemmas.List.{length-map}
 use Rattle.rules.specs.Facts.{by_test, by_option, both_true, cond-true, compared}
 use Rattle.rules.specs.Text.{fields_of}
 use Rattle.rules.specs.ValueRows.{ValueRow}
-use Rattle.rules.specs.ValueRowTests.{Level, is_value_row, inside_value, beyond_value, ahead_of, in_turn, fits_level, level_at, levels_after}
+use Rattle.rules.specs.ValueRowTests.{Level, is_value_row, inside_value, beyond_value, ahead_of, in_turn, level_at, levels_after}
 use Rattle.rules.specs.ValueTexts.{value_row_of, field_level, may_come, unordered, lesser, least_of}
 use Rattle.rules.proofs.ValueTextLaws.{may_pass}
-use Rattle.values.specs.ValueWords.{depth_from, key_from, value_row_in, value_rows_of}
-use Rattle.values.specs.Lawful.{PastInside, is_ahead_at, level_in, levels_in, row_at, rows_behind, Opened}
+use Rattle.values.specs.ValueWords.{depth_from, value_row_in, value_rows_of}
+use Rattle.values.specs.Lawful.{level_in, levels_in, row_at, rows_behind, Opened}
 use Rattle.values.specs.LawfulLaws.{words_left, after_taken}
 use Rattle.value_text.specs.Rows.{ValueLinePassed, next_unless, Misplaced}
 
 -- ---- whether a row may come
-
-module _ (word : ℕ) (levels : List ℕ) where
-  pub may_not_above : depth_from word ≡ 0 → false ≡ may_come (levels_in levels) (value_row_in word)
-  may_not_above e = rw (lt-leb 1 (depth_from word) (omega arith))
-
-  module _ (below : 0 < depth_from word) where
-    pub may_not_deeper : length levels ≤ depth_from word - 1 → false ≡ may_come (levels_in levels) (value_row_in word)
-    may_not_deeper h = rw (le-leb 1 (depth_from word) below, length-map levels level_in, le-ltb (depth_from word - 1) (length levels) h)
-
-    module _ (near : depth_from word - 1 < length levels) where
-      -- its level decides
-      at_level : may_come (levels_in levels) (value_row_in word) ≡ fits_level (level_in (get_or levels (depth_from word - 1) 0)) (value_row_in word)
-      at_level =
-          rw (
-            le-leb 1 (depth_from word) below,
-            length-map levels level_in,
-            lt-ltb (depth_from word - 1) (length levels) near,
-            get_or-map level_in levels (depth_from word - 1) 0,
-          )
-
-      pub may_in_record : get_or levels (depth_from word - 1) 0 % 2 ≡ 0 →
-          leb (get_or levels (depth_from word - 1) 0 / 2) (key_from word) ≡ may_come (levels_in levels) (value_row_in word)
-      may_in_record e = sym (at_level ∙ rw (ne_eqb (get_or levels (depth_from word - 1) 0 % 2) 1 (λ odd. omega arith)))
-
-      pub may_in_set : (get_or levels (depth_from word - 1) 0 % 2 ≡ 0 → ⊥) →
-          eqb (key_from word) (get_or levels (depth_from word - 1) 0 / 2) ≡ may_come (levels_in levels) (value_row_in word)
-      may_in_set odd = sym (at_level ∙ rw (eq-eqb (get_or levels (depth_from word - 1) 0 % 2) 1 (omega arith)))
 
 -- a row that may come is at one of the levels
 pub may_depth : (word : ℕ) (levels : List ℕ) → may_come (levels_in levels) (value_row_in word) ≡ true →
@@ -77,24 +49,6 @@ module _ (line words levels : List ℕ) (at len word : ℕ) (room : len < length
         after = opened.after ∙ sym (after_taken levels len word below near);
         few = omega (arith, opened.few, length-take-le len levels (omega arith));
       }
-
--- ---- an element out of order
-
-module _ (words : List ℕ) (at word : ℕ) where
-  pub next_in_record : word % 2 ≡ 0 → None ≡ next_unless words at (level_in word)
-  next_in_record e = rw (ne_eqb (word % 2) 1 (λ odd. omega arith))
-
-  module _ (odd : word % 2 ≡ 0 → ⊥) where
-    pub next_ahead : is_ahead_at words at ≡ true → None ≡ next_unless words at (level_in word)
-    next_ahead e = rw (eq-eqb (word % 2) 1 (omega arith), e)
-
-    pub next_there : {next : ℕ} → is_ahead_at words at ≡ false → PastInside words (at + 1) (depth_from (get_or words at 0)) next →
-        Some next ≡ next_unless words at (level_in word)
-    next_there {next} e past =
-        let size : length (inside_value (depth_from (get_or words at 0)) (rows_behind words at)) ≡ next - (at + 1) =
-        rw (past.inside, length-map (take (next - (at + 1)) (drop (at + 1) words)) value_row_in)
-        (length-take-le _ _ (omega (arith, past.within, length-drop (at + 1) words))) in
-        rw (eq-eqb (word % 2) 1 (omega arith), e, size) (ap {B = Maybe ℕ} Some (omega (arith, past.from)))
 
 -- ---- the least of the places out of order
 
