@@ -66,9 +66,12 @@ kind_ends rest (Some end) e =
     (omega (arith, ends.1), ends.2 ∙ rw (sub-zero, behind_tab rest end ends.1))
 
 -- an entity type has its names
-pub value_names : (kind : ℕ) (field : List ℕ) (fields : List (List ℕ)) → kind ≡ 9 → value_of kind (field ∷ fields) ≡ named_by (field ∷ fields)
-value_names kind field [] e = rw e (sym (named_one field))
-value_names kind field (next ∷ fields) e = rw e
+pub value_names : (kind : ℕ) (more : List ℕ) → kind ≡ 9 → value_of kind (fields_of more) ≡ named_by (fields_of more)
+value_names kind more e = let (field, fields, some-field) = parted_some TAB more in rw some-field (go field fields)
+  where
+    go : (field : List ℕ) (fields : List (List ℕ)) → value_of kind (field ∷ fields) ≡ named_by (field ∷ fields)
+    go field [] = rw e (sym (named_one field))
+    go field (next ∷ fields) = rw e
 
 -- a set has one element type
 pub value_one : (kind : ℕ) (more : List ℕ) (r : Maybe ℕ) → r ≡ field_at more 0 → is_some r ≡ false → kind ≡ 6 → value_of kind (fields_of more) ≡ decimal_of more
@@ -82,9 +85,12 @@ value_more kind more (Some end) e others k =
     rw ((field_ends more 0 end (Some end) e refl).2, rest.2, ne_eqb kind 9 k)
 
 -- any other kind has nothing more
-pub value_none : (kind : ℕ) (field : List ℕ) (fields : List (List ℕ)) → kind ≢ 9 → kind ≢ 6 → value_of kind (field ∷ fields) ≡ none
-value_none kind field [] h k = rw (ne_eqb kind 6 k, ne_eqb kind 9 h)
-value_none kind field (next ∷ fields) h k = rw (ne_eqb kind 9 h)
+pub value_none : (kind : ℕ) (more : List ℕ) → kind ≢ 9 → kind ≢ 6 → value_of kind (fields_of more) ≡ none
+value_none kind more h k = let (field, fields, some-field) = parted_some TAB more in rw some-field (go field fields)
+  where
+    go : (field : List ℕ) (fields : List (List ℕ)) → value_of kind (field ∷ fields) ≡ none
+    go field [] = rw (ne_eqb kind 6 k, ne_eqb kind 9 h)
+    go field (next ∷ fields) = rw (ne_eqb kind 9 h)
 
 -- ---- a type's line
 

@@ -98,10 +98,6 @@ kept_length : (stores : Bool) (out : List ℕ) (at word : ℕ) → length (kept_
 kept_length true out at word = simp length-set
 kept_length false out at word = refl
 
-kept_none : (stores : Bool) (out : List ℕ) → out ≡ kept_from stores out []
-kept_none true out = refl
-kept_none false out = refl
-
 -- one more goes behind the others
 kept_next : (stores : Bool) (out words : List ℕ) (count word : ℕ) → length words ≡ count →
     kept_at stores (kept_from stores out words) (count + 1) word ≡ kept_from stores out (words ++ (word ∷ []))

@@ -21,6 +21,7 @@ fn names(more: &[u8]) -> Option<u64>
 }
 
 // What a type of a kind has that is followed by more: a set its element type, an entity type its names.
+#[tactic(auto, using(crate::specs::LineLaws::value_names, crate::specs::LineLaws::value_one, crate::specs::LineLaws::value_more, crate::specs::LineLaws::value_none))]
 fn valued(kind: u64, more: &[u8]) -> Option<u64>
     ensures { number_of result ≡ value_of kind (fields_of more.now) }
 {
@@ -51,6 +52,7 @@ fn value_of(kind: u64, behind: &[u8]) -> Option<u64>
 }
 
 // Where the kind of a type ends: at a tab, or where the line ends.
+#[tactic(auto, using(crate::specs::LineLaws::kind_ends))]
 fn kind_end(rest: &[u8]) -> usize
     ensures { KindEnds rest.now result }
 {
@@ -83,6 +85,7 @@ fn pair(word: &[u8], left: &[u8], right: &[u8]) -> Option<Item>
 }
 
 // An entity type, by its name.
+#[tactic(auto, unfolding(rules::specs::Schema::item_of))]
 fn entity(word: &[u8], name: &[u8]) -> Option<Item>
     ensures { item_read result ≡ item_of (word.now ∷ name.now ∷ []) }
 {

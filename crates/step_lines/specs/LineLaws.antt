@@ -5,23 +5,23 @@ use Rattle.std.proofs.Common.{arith, sym, ◌∙◌, drop_of_length-le}
 use Rattle.std.proofs.Math.Option.{none}
 use Rattle.std.proofs.Math.Seq.{take-length}
 use Rattle.std.specs.Str.{bytes_eq}
-use Rattle.rules.specs.Facts.{by_test}
-use Rattle.rules.specs.Text.{bytes, fields_of, decimal_of, TAB}
+use Rattle.rules.specs.Text.{bytes, fields_of, TAB}
 use Rattle.rules.proofs.TextLaws.{parted_some}
 use Rattle.rules.specs.Tries.{same_list}
 use Rattle.rules.proofs.PlaceLaws.{same-list}
-use Rattle.rules.specs.Steps.{is_text, rec_of, bare_step, step_with, step_from}
+use Rattle.rules.specs.Steps.{is_text, rec_of, bare_step, step_from}
 
 -- ---- the word of a line
 
--- what a comparison of a field with a word says
-same_bytes : (xs ys : List ℕ) → same_list xs ys ≡ bytes_eq xs ys
+-- whether a field is a word, as slices are compared
+pub same_bytes : (xs ys : List ℕ) → same_list xs ys ≡ bytes_eq xs ys
 unfolding same_list
 same_bytes [] [] = refl
 same_bytes [] (y ∷ ys) = refl
 same_bytes (x ∷ xs) [] = refl
 same_bytes (x ∷ xs) (y ∷ ys) = rw (same_bytes xs ys)
 
+-- what that says where the word is a constant
 pub text_same : (given : List ℕ) {r : Bool} {lent word : List ℕ} → r ≡ bytes_eq given lent → lent ≡ word → is_text word given ≡ r
 text_same given {word} tested is = same_bytes given word ∙ rw (← is) (sym tested)
 
@@ -33,15 +33,6 @@ no_name names h = let end : length names ≤ 32 = omega arith in drop_of_length-
 pub one_field : (line : List ℕ) → fields_of line ≡ take (length line - 0) line ∷ [] → step_from (fields_of line) ≡ bare_step line
 unfolding step_from
 one_field line e = rw (e, sub-zero, take-length line)
-
--- a word and a field that is no number, where the word takes one
-pub no_number : (word name : List ℕ) → is_text (bytes "var") word ≡ false → is_text (bytes "rec") word ≡ false → decimal_of name ≡ none → step_with word name ≡ none
-no_number word name not-var not-rec e =
-    rw (not-var, not-rec, e)
-    (by_test (is_text (bytes "lit") word) (λ f. rw f)
-    (λ f. rw f
-    (by_test (is_text (bytes "attr") word) (λ g. rw g)
-    (λ g. rw g (by_test (is_text (bytes "full") word) (λ h. rw h) (λ h. rw h))))))
 
 -- a line of `rec` and names
 pub rec_fields : (word line : List ℕ) (at : ℕ) → is_text (bytes "rec") word ≡ true → step_from (word ∷ fields_of (drop at line)) ≡ rec_of (fields_of (drop at line))

@@ -28,6 +28,7 @@ impl Step {
 }
 
 // A step of one word.
+#[tactic(auto, using(crate::specs::LineLaws::same_bytes, crate::specs::LineLaws::no_name))]
 fn bare_step(word: &[u8]) -> Option<Step>
     ensures { Bare result (bare_step word.now) }
 {
@@ -61,6 +62,7 @@ fn var_step(field: &[u8]) -> Option<Step>
 }
 
 // A step of a word and one field, other than `rec`.
+#[tactic(auto, using(crate::specs::LineLaws::same_bytes))]
 fn step_with(word: &[u8], field: &[u8]) -> Option<Step>
     requires { is_text (bytes "rec") word.now ≡ false }
     ensures { Bare result (step_with word.now field.now) }
@@ -95,6 +97,7 @@ fn rec_step(fields: &[u8], names: &mut [u64]) -> Option<Step>
 }
 
 // The step of a line, by its fields.
+#[tactic(auto, using(crate::specs::LineLaws::same_bytes))]
 pub fn parse(line: &[u8], names: &mut [u64]) -> Option<Step>
     requires { length names.old ≡ 32 }
     ensures names_after { line_read result names.new ≡ step_from (fields_of line.now) }

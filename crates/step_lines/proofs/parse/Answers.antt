@@ -49,9 +49,6 @@ returns-then-is_some-clause-names_after c =
     let whole = many_fields (take c.in-Some.word_end c.args.line.now) (take (end - (c.in-Some.word_end + 1)) (drop (c.in-Some.word_end + 1) c.args.line.now)) c.args.line.now (end + 1) (rec-said (goal.at.returns-then-is_some-clause-names_after c).After-eq ∙ c.if-eq.false) in
     sym (rw ((word-ends (goal.at.returns-then-is_some-clause-names_after c).In-Some).2, sub-zero, second.2) whole)
 
-pub step_with-requires : goal.step_with-requires
-step_with-requires c = rec-said (goal.at.step_with-requires c).After-eq ∙ c.if-eq.false
-
 pub returns-clause-names_after : goal.returns-clause-names_after
 unfolding step_from
 returns-clause-names_after c =
