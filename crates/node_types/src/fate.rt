@@ -40,7 +40,7 @@ impl SchemaTables<'_> {
     // That of the node at a place among rows, below one of a type, as a row has it; 0 where that one is dropped.
     pub fn fate_at(&self, request: u64, above: u64, rows: &[u64], i: usize) -> Fate
         requires { i < length rows.now }
-        ensures { FateGiven (fate (items_of self.now.words.now) request (type_from above) (row_in (get_or rows.now i 0)) (rows_of (drop (i + 1) rows.now))) result }
+        ensures { FateGiven (fate (items_of self.now.types.words.now) request (type_from above) (row_in (get_or rows.now i 0)) (rows_of (drop (i + 1) rows.now))) result }
     {
         if above == 0 {
             return Fate::Dropped;
@@ -64,9 +64,9 @@ impl SchemaTables<'_> {
 
     // The type of a root, as a row has it; 0 where the schema lacks the literal or the action.
     fn root_type(&self, request: u64, step: u64) -> u64
-        ensures { result ≡ number_for (root_type (items_of self.now.words.now) request step) }
+        ensures { result ≡ number_for (root_type (items_of self.now.types.words.now) request step) }
     {
-        let words = self.words;
+        let words = self.types.words;
         let action = RequestType::from(request).action;
         let parts = StepParts::from(step);
         let kind = parts.kind;
@@ -84,20 +84,20 @@ impl SchemaTables<'_> {
     // The type of a field below a node of a type, as a row has both; 0 where the type lacks the field.
     fn field_type(&self, request: u64, above: u64, field: u64) -> u64
         requires { 0 < above }
-        ensures { result ≡ number_for (field_type (items_of self.now.words.now) request (above - 1) field) }
+        ensures { result ≡ number_for (field_type (items_of self.now.types.words.now) request (above - 1) field) }
     {
         let shape = self.shape(request, above);
         let Shape::Known(first, end) = shape else {
             return 0;
         };
-        let words = self.words;
+        let words = self.types.words;
         type_named(&words[first..end], field)
     }
 
     // That of a node with a type, by what the type says of fields and whether the node has field children.
     fn typed_fate(&self, request: u64, number: u64, children: bool) -> Fate
         requires { (0 < number) × (number ≤ 1026) }
-        ensures { FateGiven (of_shape (shape_of (items_of self.now.words.now) request (number - 1)) (number - 1) children) result }
+        ensures { FateGiven (of_shape (shape_of (items_of self.now.types.words.now) request (number - 1)) (number - 1) children) result }
     {
         match self.shape(request, number) {
             Shape::Known(_, _) => Fate::Stays(number),

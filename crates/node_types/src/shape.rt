@@ -27,7 +27,7 @@ impl SchemaTables<'_> {
     // That of a node's type, as a row has it.
     pub fn shape(&self, request: u64, number: u64) -> Shape
         requires { 0 < number }
-        ensures { ShapeAt self.now.words.now (shape_of (items_of self.now.words.now) request (number - 1)) result }
+        ensures { ShapeAt self.now.types.words.now (shape_of (items_of self.now.types.words.now) request (number - 1)) result }
     {
         match number {
             OF_PRINCIPAL => self.entity_shape(RequestType::from(request).principal),
@@ -38,13 +38,13 @@ impl SchemaTables<'_> {
 
     // That of a type of the schema, by its number.
     fn type_shape(&self, t: u64) -> Shape
-        ensures { ShapeAt self.now.words.now (type_shape (items_of self.now.words.now) t) result }
+        ensures { ShapeAt self.now.types.words.now (type_shape (items_of self.now.types.words.now) t) result }
     {
-        if self.types <= t {
+        if self.types.count <= t {
             return Shape::Leaf;
         }
-        let words = self.words;
-        let place = size_at(self.table, t).place;
+        let words = self.types.words;
+        let place = size_at(self.types.table, t).place;
         let item = Item::of(words[place]);
         let kind = item.tag;
         match kind {
@@ -57,13 +57,13 @@ impl SchemaTables<'_> {
 
     // That of an entity type, by its name; a number past all ids stands for several names, which no entity type has.
     fn entity_shape(&self, name: u64) -> Shape
-        ensures { ShapeAt self.now.words.now (entity_shape (items_of self.now.words.now) name) result }
+        ensures { ShapeAt self.now.types.words.now (entity_shape (items_of self.now.types.words.now) name) result }
     {
         let entities = self.entities;
         let Ok(i) = search_key(entities, name) else {
             return Shape::NotStrict;
         };
         let first = (entities[i] % 0x100_0000_0000) as usize + 1;
-        Shape::Known(first, attributes_end(self.words, first))
+        Shape::Known(first, attributes_end(self.types.words, first))
     }
 }

@@ -12,7 +12,7 @@ ghost use Rattle.type_annotations.specs.Outcomes.{typed_in, TypedInto};
 use node_types::{Fate, Places, SchemaTables};
 use rows::{Kind, Row};
 use schema::Schema;
-use type_table::{TypeSize, fill_table};
+use type_table::{TypeSize, Types, fill_table};
 use words::Refusal;
 
 // Writes the rows that stay into `out`, from place 1 on, and answers how many they are; a refusal is at a node. For each depth `above` has
@@ -20,7 +20,7 @@ use words::Refusal;
 fn type_rows(schema: &SchemaTables, rows: &[u64], out: &mut [u64]) -> Result<u64, Refusal>
     requires in_bounds { length rows.now < length out.old }
     requires rows_value { (all_words rows.now ≡ true) × (ordered [] (rows_of rows.now) ≡ true) }
-    ensures { TypedInto (typed_rows (items_of schema.now.words.now) (rows_of rows.now)) out.new result }
+    ensures { TypedInto (typed_rows (items_of schema.now.types.words.now) (rows_of rows.now)) out.new result }
 {
     let mut above = [0u64; 25];
     let mut request = 0;
@@ -65,16 +65,15 @@ fn type_manifest(words: &[u64], rows: &[u64], out: &mut [u64]) -> Result<(), Ref
     ensures { (result ≡ (storing out.old (typed_rows (items_of words.now) (rows_of rows.now))).reply) × (out.new ≡ (storing out.old (typed_rows (items_of words.now) (rows_of rows.now))).buffer) }
 {
     let mut table = [0u64; TypeSize::TYPES];
-    let types = fill_table(words, &mut table);
+    let count = fill_table(words, &mut table);
     let mut entities = [0u64; Places::ENTITIES];
     let places = Places::of(words, &mut entities);
-    let tables = SchemaTables {
+    let types = Types {
         words,
         table: &table,
-        types,
-        entities: &entities[..places.entities],
-        places,
+        count,
     };
+    let tables = SchemaTables::new(types, &entities[..places.entities], places);
     let mut kept = [0u64; 4_161];
     let count = type_rows(&tables, rows, &mut kept)?;
     kept[0] = count;

@@ -21,13 +21,13 @@ stayed :
     (c : In_ok-count) →
     let a = c.args in
     TypedRows (typed (items_of a.words.now) (rows_of a.rows.now)) c.type_rows.new.out c.in_ok-count.count
-stayed c = rw c.in_ok-count.was at c.type_rows.ensures
+stayed c = rw (c.in_ok-count.was, c.new-tables.ensures) at c.type_rows.ensures
 
-pub slice_bounds-tables-end : goal.slice_bounds-tables-end
-slice_bounds-tables-end c = omega (arith, c.of-places.ensures.entities_bound.0, c.of-places.auto.entities)
+pub slice_bounds-entities-end : goal.slice_bounds-entities-end
+slice_bounds-entities-end c = omega (arith, c.of-places.ensures.entities_bound.0, c.of-places.auto.entities)
 
-pub slice_bounds-tables-end-2 : goal.slice_bounds-tables-end-2
-slice_bounds-tables-end-2 c = sym (length-take-le _ _ (omega (arith, c.of-places.ensures.entities_bound.0, c.of-places.auto.entities)))
+pub slice_bounds-new-end : goal.slice_bounds-new-end
+slice_bounds-new-end c = sym (length-take-le _ _ (omega (arith, c.of-places.ensures.entities_bound.0, c.of-places.auto.entities)))
 
 pub type_rows-requires : goal.type_rows-requires
 type_rows-requires c = record {
@@ -46,7 +46,7 @@ returns-in_err-count c =
     let why = c.in_err-count.field-0.0 in
     let handed = err_from_is_err_and c.from_residual.result c.from_residual.ensures.1 in
     let answered : typed (items_of c.args.words.now) (rows_of c.args.rows.now) ≡ refused why.number why.place =
-    rw c.in_err-count.was at c.type_rows.ensures in
+    rw (c.in_err-count.was, c.new-tables.ensures) at c.type_rows.ensures in
     rw (handed.1, handed.2, answered) (refl, refl)
 
 pub returns : goal.returns

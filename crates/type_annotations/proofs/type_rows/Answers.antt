@@ -19,7 +19,7 @@ whole : (c : After-depth-depth) → is_word ((get_or c.args.rows.now c.loop-i.i 
 whole c = word_at c.args.rows.now c.loop-i.i c.requires.rows_value.0 c.loop-i-test.true
 
 low : (c : After-depth-depth) → depth_in ((get_or c.args.rows.now c.loop-i.i 0)) ≤ 24
-low c = shallow (items_of c.args.schema.now.words.now) c.args.rows.now c.loop-i.invariant.0 c.loop-i-test.true
+low c = shallow (items_of c.args.schema.now.types.words.now) c.args.rows.now c.loop-i.invariant.0 c.loop-i-test.true
 
 -- there is room for another row
 room : (c : After-depth-depth) → c.loop-i.count + 1 < length c.loop-i.out
@@ -33,7 +33,7 @@ node c e = c.if-depth-eq0.false (c.depth-depth.ensures ∙ e)
 given :
     (c : After-fate_at) →
     FateGiven
-    (fate (items_of c.args.schema.now.words.now) c.loop-i.request (type_from (get_or c.loop-i.above (depth_in ((get_or c.args.rows.now c.loop-i.i 0)) - 1) 0)) (row_in ((get_or c.args.rows.now c.loop-i.i 0)))
+    (fate (items_of c.args.schema.now.types.words.now) c.loop-i.request (type_from (get_or c.loop-i.above (depth_in ((get_or c.args.rows.now c.loop-i.i 0)) - 1) 0)) (row_in ((get_or c.args.rows.now c.loop-i.i 0)))
     (rows_of (drop (c.loop-i.i + 1) c.args.rows.now)))
     c.fate_at.result
 given c = rw c.depth-depth.ensures at c.fate_at.ensures
@@ -43,7 +43,7 @@ inside : (c : After-depth-depth) → depth_in ((get_or c.args.rows.now c.loop-i.
 inside c = omega (arith, low c, c.loop-i.invariant.2)
 
 pub loop-i-init : goal.loop-i-init
-loop-i-init c = (typing_none (items_of c.args.schema.now.words.now) c.args.rows.now _ c.args.out.now c.requires.rows_value.1, refl, refl)
+loop-i-init c = (typing_none (items_of c.args.schema.now.types.words.now) c.args.rows.now _ c.args.out.now c.requires.rows_value.1, refl, refl)
 
 pub overflow_add-entries : goal.overflow_add-entries
 overflow_add-entries c = omega (arith, c.loop-i.invariant.0.few_entries)
@@ -104,12 +104,12 @@ shape_of-out-in-Wrong c = c.loop-i.invariant.1
 
 pub returns-in-Wrong : goal.returns-in-Wrong
 returns-in-Wrong c =
-    typing_wrong (items_of c.args.schema.now.words.now) c.args.rows.now c.loop-i.invariant.0 c.loop-i-test.true (inside (goal.at.returns-in-Wrong c).After-depth-depth) (node (goal.at.returns-in-Wrong c).Else-depth-eq0) _
+    typing_wrong (items_of c.args.schema.now.types.words.now) c.args.rows.now c.loop-i.invariant.0 c.loop-i-test.true (inside (goal.at.returns-in-Wrong c).After-depth-depth) (node (goal.at.returns-in-Wrong c).Else-depth-eq0) _
     (rw c.in-Wrong.is at (given (goal.at.returns-in-Wrong c).After-fate_at))
 
 pub loop-i-preserved : goal.loop-i-preserved
 loop-i-preserved c =
-    let items = items_of c.args.schema.now.words.now in
+    let items = items_of c.args.schema.now.types.words.now in
     let at = goal.at.loop-i-preserved c in
     elim c.if-depth-eq0.branch [
       | then-depth-eq0 w ↦
@@ -145,7 +145,7 @@ pub returns : goal.returns
 returns c =
     record {
       rows = c.loop-i.invariant.0.kept;
-      answered = typing_all (items_of c.args.schema.now.words.now) c.args.rows.now c.loop-i.invariant.0 c.loop-i-test.false;
+      answered = typing_all (items_of c.args.schema.now.types.words.now) c.args.rows.now c.loop-i.invariant.0 c.loop-i-test.false;
       words_stored = c.loop-i.invariant.0.words_kept;
       inside = omega (arith, c.loop-i.invariant.0.few_kept, c.loop-i.invariant.1, c.requires.in_bounds, c.loop-i.invariant.0.went.inside, length-map c.args.rows.now row_in);
     }

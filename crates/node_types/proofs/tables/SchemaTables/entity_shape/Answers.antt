@@ -14,7 +14,7 @@ use Rattle.node_types.proofs.tables.SchemaTables.entity_shape.Goals.{In-Ok}
 there :
     (c : In-Ok) →
     let entities = c.args.self.now.entities.now in
-    let words = c.args.self.now.words.now in
+    let words = c.args.self.now.types.words.now in
     (c.in-Ok.i < length entities)
     × (entity_place (get_or entities c.in-Ok.i 0) < length words)
     × (from_line entity_line c.args.name (items_of words) ≡ items_of (drop (entity_place (get_or entities c.in-Ok.i 0)) words))
@@ -34,4 +34,4 @@ attributes_end-requires c = omega (arith, (there (goal.at.attributes_end-require
 
 pub returns : goal.returns
 returns c =
-    entity_known c.args.self.now.words.now c.args.name c.args.self.now.good_types.good-items (there (goal.at.returns c).In-Ok).1 (there (goal.at.returns c).In-Ok).2 (omega arith) c.attributes_end.ensures
+    entity_known c.args.self.now.types.words.now c.args.name c.args.self.now.types.good.good-items (there (goal.at.returns c).In-Ok).1 (there (goal.at.returns c).In-Ok).2 (omega arith) c.attributes_end.ensures

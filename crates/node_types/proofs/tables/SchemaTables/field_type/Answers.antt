@@ -11,13 +11,13 @@ use Rattle.node_types.proofs.tables.SchemaTables.field_type.Goals as goal
 use Rattle.node_types.proofs.tables.SchemaTables.field_type.Goals.{In-Known}
 
 -- the attributes of the type above
-attributes : (c : In-Known) → let a = c.args in AttributesAt a.self.now.words.now (shape_of (items_of a.self.now.words.now) a.request (a.above - 1)) c.in-Known.first c.in-Known.end
+attributes : (c : In-Known) → let a = c.args in AttributesAt a.self.now.types.words.now (shape_of (items_of a.self.now.types.words.now) a.request (a.above - 1)) c.in-Known.first c.in-Known.end
 attributes c = rw c.in-Known.is at c.shape-shape.ensures
 
 pub returns-in_default : goal.returns-in_default
 returns-in_default c =
     let a = c.args in
-    field_lacking a.self.now.words.now a.request (a.above - 1) a.field c.shape-shape.result c.shape-shape.ensures
+    field_lacking a.self.now.types.words.now a.request (a.above - 1) a.field c.shape-shape.result c.shape-shape.ensures
     (λ first end e. c.in_default.not-Known first end e)
 
 pub offset_bounds-words-first : goal.offset_bounds-words-first
@@ -35,4 +35,4 @@ slice_bounds-type_named-end c = (attributes (goal.at.slice_bounds-type_named-end
 pub returns : goal.returns
 returns c =
     let a = c.args in
-    c.type_named.ensures ∙ ap number_for (field_held a.self.now.words.now a.request (a.above - 1) a.field (attributes (goal.at.returns c).In-Known))
+    c.type_named.ensures ∙ ap number_for (field_held a.self.now.types.words.now a.request (a.above - 1) a.field (attributes (goal.at.returns c).In-Known))

@@ -10,7 +10,7 @@ use Rattle.node_types.proofs.tables.SchemaTables.root_type.Goals.{Start}
 
 -- the schema's lines
 abbrev items : (s : Start) → List Item
-items s = items_of s.args.self.now.words.now
+items s = items_of s.args.self.now.types.words.now
 
 pub returns-in-1 : goal.returns-in-1
 returns-in-1 c = root_principal (items (goal.at.returns-in-1 c).Start) c.args.request c.args.step (sym c.from-parts.ensures.0 ∙ c.in-1.is)

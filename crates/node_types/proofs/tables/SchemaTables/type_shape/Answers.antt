@@ -10,24 +10,24 @@ use Rattle.node_types.proofs.tables.SchemaTables.type_shape.Goals as goal
 use Rattle.node_types.proofs.tables.SchemaTables.type_shape.Goals.{After-of-item, After-size_at-place}
 
 -- the type stands there
-there : (c : After-size_at-place) → TypeStands c.args.self.now.words.now c.args.t c.size_at-place.result.place
+there : (c : After-size_at-place) → TypeStands c.args.self.now.types.words.now c.args.t c.size_at-place.result.place
 there c =
-    tabled_stands c.args.self.now.words.now c.args.self.now.table.now c.args.self.now.good_types.good-items c.args.self.now.good_types.tabled c.if-self-t.false c.size_at-place.ensures.0
+    tabled_stands c.args.self.now.types.words.now c.args.self.now.types.table.now c.args.self.now.types.good.good-items c.args.self.now.types.good.tabled c.if-self-t.false c.size_at-place.ensures.0
 
 -- what its line says
-kind : (c : After-of-item) → c.of-item.result.tag ≡ get_or c.args.self.now.words.now c.size_at-place.result.place 0 % 16
+kind : (c : After-of-item) → c.of-item.result.tag ≡ get_or c.args.self.now.types.words.now c.size_at-place.result.place 0 % 16
 kind c = ap (λ (it : Item). it.tag) c.of-item.ensures
 
-name : (c : After-of-item) → c.of-item.result.value ≡ get_or c.args.self.now.words.now c.size_at-place.result.place 0 / 16 % 2 ^ 36
+name : (c : After-of-item) → c.of-item.result.value ≡ get_or c.args.self.now.types.words.now c.size_at-place.result.place 0 / 16 % 2 ^ 36
 name c = ap (λ (it : Item). it.value) c.of-item.ensures
 
 pub returns-then-self-t : goal.returns-then-self-t
 returns-then-self-t c =
-    type_none _ _ c.args.self.now.good_types.good-items (omega (arith, c.args.self.now.good_types.all_types, c.if-self-t.true))
+    type_none _ _ c.args.self.now.types.good.good-items (omega (arith, c.args.self.now.types.good.all_types, c.if-self-t.true))
 
 pub size_at-place-requires : goal.size_at-place-requires
 size_at-place-requires c =
-    tabled_inside c.args.self.now.words.now c.args.self.now.table.now c.args.self.now.good_types.good-items c.args.self.now.good_types.tabled c.if-self-t.false
+    tabled_inside c.args.self.now.types.words.now c.args.self.now.types.table.now c.args.self.now.types.good.good-items c.args.self.now.types.good.tabled c.if-self-t.false
 
 pub offset_bounds-words-place : goal.offset_bounds-words-place
 offset_bounds-words-place c = omega (arith, (there (goal.at.offset_bounds-words-place c).After-size_at-place).inside)
