@@ -93,6 +93,21 @@ kind_none line at h =
     by_option (kind_in (fields_of (drop at line))) (λ e. e)
     (λ kind e. let ends = step_ends line at kind e in absurd (h ends.1 ends.2))
 
+-- the same, by what is left of a text as the code slices it
+module _ (text : List ℕ) (at : ℕ) (left : List ℕ) where
+  pub kind_left : left ≡ left_from text at → 2 ≤ length left → get_or left 1 0 ≡ TAB → kind_in (fields_of (drop at text)) ≡ place_in letters (get_or left 0 0 ∷ [])
+  kind_left is two tab =
+      kind_letter text at (omega (arith, left_length text at is)) (sym (left_second text at is) ∙ tab) (sym (left_first text at is))
+
+  pub kind_short : left ≡ left_from text at → length left < 2 → kind_in (fields_of (drop at text)) ≡ none
+  kind_short is few = kind_none text at λ inside tab. omega (arith, left_length text at is)
+
+  pub kind_untabbed : left ≡ left_from text at → get_or left 1 0 ≢ TAB → kind_in (fields_of (drop at text)) ≡ none
+  kind_untabbed is other = kind_none text at λ inside tab. other (left_second text at is ∙ tab)
+
+pub kind_past : (text : List ℕ) (at : ℕ) → length text < at → kind_in (fields_of (drop at text)) ≡ none
+kind_past text at past = kind_none text at λ inside tab. omega arith
+
 -- fields that are read as a row begin with A or N, and others follow
 lettered : (line : List ℕ) (row : Row) → row_of (fields_of line) ≡ some row →
     (1 < length line) × (get_or line 1 0 ≡ TAB) × ((get_or line 0 0 ≡ 65) ⊎ (get_or line 0 0 ≡ 78))

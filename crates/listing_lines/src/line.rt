@@ -16,6 +16,7 @@ pub struct ParsedRow {
 }
 
 // The kind of the step that is the field at a place, with a tab behind it: its letter's place in f p a r c e.
+#[tactic(auto, using(crate::specs::LineLaws::kind_left, crate::specs::LineLaws::kind_short, crate::specs::LineLaws::kind_untabbed, crate::specs::LineLaws::kind_past), unfolding(rules::specs::Listing::place_in))]
 fn step_kind(text: &[u8], at: usize) -> Option<u64>
     ensures { number_of result ≡ kind_in (fields_of (drop at text.now)) }
 {
