@@ -62,7 +62,7 @@ fn has_all(attributes: &[u64], names: &[u16]) -> bool
     ensures { (fields : Fields) → names.now ≡ names_in fields → result ≡ has_all fields (items_of attributes.now) }
 {
     for attribute in attributes {
-        if name_place(names, Item::of(*attribute).key).is_none() {
+        if name_place(names, Item::from(*attribute).key).is_none() {
             return false;
         }
     }
@@ -110,7 +110,7 @@ fn await_record(
     ensures { RecordStacked code.now (items_of types.now.words.now) at t waiting.old left waiting.new result }
 {
     let place = size_at(types.table, t).place;
-    if Item::of(types.words[place]).tag != Item::RECORD {
+    if Item::from(types.words[place]).tag != Item::RECORD {
         return None;
     }
     let first = place + 1;
@@ -129,7 +129,7 @@ fn await_set(types: &Types<'_>, t: u64, waiting: &mut [u64], left: usize) -> Opt
     ensures { StackedBy (set_awaits (items_of types.now.words.now) t) waiting.old left waiting.new result }
 {
     let place = size_at(types.table, t).place;
-    let item = Item::of(types.words[place]);
+    let item = Item::from(types.words[place]);
     if item.tag != Item::SET {
         return None;
     }
@@ -228,13 +228,7 @@ pub fn is_any_too_deep(code: &[u16], table: &[u64], pairs: &[u64]) -> bool
 }
 
 // Merges a path with the trie of a type as its leaf into a trie by way of a buffer, and answers whether it stays within the limit of nodes.
-fn add_typed_by(
-    trie: &mut [u64],
-    path: &[u64],
-    types: &Types<'_>,
-    t: u64,
-    leaf: &mut [u64],
-) -> bool
+fn add_typed_by(trie: &mut [u64], path: &[u64], types: &Types<'_>, t: u64, leaf: &mut [u64]) -> bool
     requires { TypedLeaf trie.old path.now types.now t leaf.old }
     ensures { Became (add_access_path (rows_in trie.old) path.now (type_to_access_trie (items_of types.now.words.now) t)) trie.new result }
 {
@@ -260,12 +254,7 @@ fn add_typed(trie: &mut [u64], path: &[u64], types: &Types<'_>, t: u64) -> bool
 }
 
 // Merges all paths with the tries of their types into a trie, and answers whether it stays within the limit of nodes.
-pub fn add_taken(
-    trie: &mut [u64],
-    code: &[u16],
-    types: &Types<'_>,
-    pairs: &[u64],
-) -> bool
+pub fn add_taken(trie: &mut [u64], code: &[u16], types: &Types<'_>, pairs: &[u64]) -> bool
     requires { TypedPairs trie.old code.now types.now pairs.now }
     ensures { Became (add_taken (items_of types.now.words.now) (rows_in trie.old) (map (taken_at code.now) pairs.now)) trie.new result }
 {

@@ -27,7 +27,7 @@ impl Places {
         let mut literals = 0;
         let mut actions = 0;
         for at in 0..words.len() {
-            let item = Item::of(words[at]);
+            let item = Item::from(words[at]);
             if item.tag == Item::ENTITY_LINE {
                 entities[count] = item.key * 0x100_0000_0000 + at as u64;
                 count += 1;

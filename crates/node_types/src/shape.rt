@@ -45,7 +45,7 @@ impl SchemaTables<'_> {
         }
         let words = self.types.words;
         let place = size_at(self.types.table, t).place;
-        let item = Item::of(words[place]);
+        let item = Item::from(words[place]);
         let kind = item.tag;
         match kind {
             0..=6 => Shape::Leaf,

@@ -9,6 +9,19 @@ pub struct Item {
     pub key: u64,
 }
 
+// What a word says.
+impl From<u64> for Item {
+    fn from(word: u64) -> Item
+        ensures { item_for result ≡ item_in word }
+    {
+        Item {
+            tag: word % 16,
+            value: word / 16 % 0x10_0000_0000,
+            key: word / 0x100_0000_0000,
+        }
+    }
+}
+
 impl Item {
     // The kinds of types with more than a number; those up to LAST are types.
     pub const SET: u64 = 6;
@@ -27,17 +40,6 @@ impl Item {
     pub const ATTRIBUTE_LINE: u64 = 12;
 
     pub const LITERAL_LINE: u64 = 13;
-
-    // What a word says.
-    pub fn of(word: u64) -> Item
-        ensures { item_for result ≡ item_in word }
-    {
-        Item {
-            tag: word % 16,
-            value: word / 16 % 0x10_0000_0000,
-            key: word / 0x100_0000_0000,
-        }
-    }
 
     // The word that says it.
     pub fn word(self) -> u64

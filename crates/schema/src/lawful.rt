@@ -19,7 +19,7 @@ fn are_items(words: &[u64]) -> bool
 {
     let mut known = Known::new();
     for word in words {
-        let item = Item::of(*word);
+        let item = Item::from(*word);
         if !item.is_item() {
             return false;
         }

@@ -12,10 +12,9 @@ ghost use Rattle.type_table.specs.Tables.{size_word, type_place, type_depth, typ
 
 mod types;
 
-pub use types::Types;
-
 use rows::{Kind, Row};
 use schema::Item;
+pub use types::Types;
 use words::search_key;
 
 // A type's place among the schema's words, and the depth and nodes of its trie, both stopping one past their limit.
@@ -66,7 +65,7 @@ pub fn is_attribute(words: &[u64], at: usize) -> bool
     if words.len() <= at {
         return false;
     }
-    Item::of(words[at]).tag == Item::ATTRIBUTE_LINE
+    Item::from(words[at]).tag == Item::ATTRIBUTE_LINE
 }
 
 // The place after the attributes that begin at a place.
@@ -88,7 +87,7 @@ pub fn type_named(run: &[u64], key: u64) -> u64
     let Ok(place) = search_key(run, key) else {
         return 0;
     };
-    Item::of(run[place]).value + 1
+    Item::from(run[place]).value + 1
 }
 
 // The size of the type at a place, by the sizes of the lower types.
@@ -103,7 +102,7 @@ fn type_size(words: &[u64], place: usize, table: &[u64]) -> TypeSize
     let mut nodes: u64 = 0;
     let mut at = place + 1;
     while is_attribute(words, at) {
-        let below = size_at(table, Item::of(words[at]).value);
+        let below = size_at(table, Item::from(words[at]).value);
         depth = depth.max((1 + below.depth).min(Kind::STEPS + 1));
         nodes = (nodes + 1 + below.nodes).min(Kind::CONTRIBUTION_NODES + 1);
         at += 1;
@@ -122,7 +121,7 @@ pub fn fill_table(words: &[u64], table: &mut [u64]) -> u64
 {
     let mut types: u64 = 0;
     for at in 0..words.len() {
-        if Item::of(words[at]).tag <= Item::LAST {
+        if Item::from(words[at]).tag <= Item::LAST {
             let t = types as usize;
             table[t] = type_size(words, at, table).word();
             types += 1;
@@ -148,7 +147,7 @@ pub fn type_to_access_trie(
     let mut at = size_at(table, t).place + 1;
     let mut next = to;
     while is_attribute(words, at) {
-        let item = Item::of(words[at]);
+        let item = Item::from(words[at]);
         out[next] = Row::node(depth + 1, item.key, false).word;
         next = type_to_access_trie(words, table, item.value, depth + 1, out, next + 1);
         at += 1;

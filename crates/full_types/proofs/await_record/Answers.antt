@@ -11,14 +11,14 @@ use Rattle.type_table.specs.TypeTableLaws.{TypeStands}
 use Rattle.type_table.specs.TypeTableLaws.{known_type}
 use Rattle.full_types.specs.RequiredLaws.{known_inside, known_stands, type_inside, type_cut, type_ascends, meeting_room, meeting_within, record_none, record_lacks, record_stacked}
 use Rattle.full_types.proofs.await_record.Goals as goal
-use Rattle.full_types.proofs.await_record.Goals.{After-attributes_end-end, After-has_all, After-of, After-size_at-place}
+use Rattle.full_types.proofs.await_record.Goals.{After-attributes_end-end, After-has_all, After-from, After-size_at-place}
 
 -- the type stands there
 there : (c : After-size_at-place) → TypeStands c.args.types.now.words.now c.args.t c.size_at-place.result.place
 there c = known_stands (known_type c.args.types.now c.requires.known) c.size_at-place.ensures.0
 
-tag : (c : After-of) → c.of.result.tag ≡ get_or c.args.types.now.words.now c.size_at-place.result.place 0 % 16
-tag c = ap (λ (it : Item). it.tag) c.of.ensures
+tag : (c : After-from) → c.from.result.tag ≡ get_or c.args.types.now.words.now c.size_at-place.result.place 0 % 16
+tag c = ap (λ (it : Item). it.tag) c.from.ensures
 
 -- its attributes are inside, and so are the names
 inside : (c : After-attributes_end-end) → (TypeStands c.args.types.now.words.now c.args.t c.size_at-place.result.place) → c.attributes_end-end.result ≤ length c.args.types.now.words.now
@@ -47,10 +47,10 @@ offset_bounds-types-place c = omega (arith, (there (goal.at.offset_bounds-types-
 pub bounds-types-place : goal.bounds-types-place
 bounds-types-place c = (there (goal.at.bounds-types-place c).After-size_at-place).inside
 
-pub returns-then-of-ne-RECORD : goal.returns-then-of-ne-RECORD
-returns-then-of-ne-RECORD c =
-    record_none (there (goal.at.returns-then-of-ne-RECORD c).After-size_at-place) c.args.code.now c.args.at c.args.fields c.args.waiting.now c.args.left
-    (λ e. c.if-of-ne-RECORD.true (tag (goal.at.returns-then-of-ne-RECORD c).After-of ∙ e))
+pub returns-then-from-ne-RECORD : goal.returns-then-from-ne-RECORD
+returns-then-from-ne-RECORD c =
+    record_none (there (goal.at.returns-then-from-ne-RECORD c).After-size_at-place) c.args.code.now c.args.at c.args.fields c.args.waiting.now c.args.left
+    (λ e. c.if-from-ne-RECORD.true (tag (goal.at.returns-then-from-ne-RECORD c).After-from ∙ e))
 
 pub overflow_add-first : goal.overflow_add-first
 overflow_add-first c = omega (arith, (there (goal.at.overflow_add-first c).After-size_at-place).inside)
@@ -79,7 +79,7 @@ slice_bounds-has_all-end-2 c = (room (goal.at.slice_bounds-has_all-end-2 c).Afte
 pub returns-then-not-has_all : goal.returns-then-not-has_all
 returns-then-not-has_all c =
     record_lacks (there (goal.at.returns-then-not-has_all c).After-size_at-place) c.args.code.now c.args.at c.args.fields c.args.waiting.now c.args.left c.requires.said
-    (sym (tag (goal.at.returns-then-not-has_all c).After-of) ∙ c.if-of-ne-RECORD.false)
+    (sym (tag (goal.at.returns-then-not-has_all c).After-from) ∙ c.if-from-ne-RECORD.false)
     (asked (goal.at.returns-then-not-has_all c).After-has_all (there (goal.at.returns-then-not-has_all c).After-size_at-place))
     (c.if-not-has_all.true)
 
@@ -105,7 +105,7 @@ await_fields-requires c =
 pub returns : goal.returns
 returns c =
     record_stacked (there (goal.at.returns c).After-size_at-place) c.args.code.now c.args.at c.args.fields c.args.waiting.now c.args.left c.requires.said
-    (sym (tag (goal.at.returns c).After-of) ∙ c.if-of-ne-RECORD.false)
+    (sym (tag (goal.at.returns c).After-from) ∙ c.if-from-ne-RECORD.false)
     (asked (goal.at.returns c).After-has_all (there (goal.at.returns c).After-size_at-place))
     (take (c.attributes_end-end.result - (c.size_at-place.result.place + 1)) (drop (c.size_at-place.result.place + 1) c.args.types.now.words.now))
     (c.if-not-has_all.false)

@@ -13,7 +13,7 @@ place :
     (c : After-name_place) →
     let args = c.args in
     IsPlace args.names.now (get_or args.attributes.now c.loop-attribute.attribute-index 0 / 2 ^ 40) c.name_place.result
-place c = rw (← ap (λ (it : Item). it.key) c.of.ensures) c.name_place.ensures
+place c = rw (← ap (λ (it : Item). it.key) c.from.ensures) c.name_place.ensures
 
 pub loop-attribute-init : goal.loop-attribute-init
 loop-attribute-init c = checking_none _ _

@@ -7,7 +7,7 @@ use Rattle.words.specs.RunLaws.{wrote_length}
 use Rattle.type_table.specs.Tables.{type_rows, attribute_at}
 use Rattle.type_table.specs.TypeTableLaws.{TypeStands, tabled_stands, tabled_inside, attribute_inside, passing_below, key_small, good_all, writing_none, writing_all, writing_room, writing_shallow, writing_next}
 use Rattle.type_table.proofs.+type_to_access_trie.Goals as goal
-use Rattle.type_table.proofs.+type_to_access_trie.Goals.{After-size_at-at, In-loop-item, After-of-item}
+use Rattle.type_table.proofs.+type_to_access_trie.Goals.{After-size_at-at, In-loop-item, After-from-item}
 
 there : (t : ℕ) (c : After-size_at-at t) → TypeStands c.args.words.now c.args.t c.size_at-at.result.place
 there t c = tabled_stands c.args.words.now c.args.table.now c.requires.words_value.0 c.requires.words_value.1 c.requires.t_bound c.size_at-at.ensures.0
@@ -31,11 +31,11 @@ shallow :
     → c.args.depth + 1 + deepest (type_rows c.args.words.now (get_or c.args.words.now c.loop-item.at 0 / 16 % 2 ^ 36)) ≤ 24
 shallow t c stands = writing_shallow c.loop-item.invariant stands.rows (here t c) c.requires.t_in_bounds.1
 
-value : (t : ℕ) (c : After-of-item t) → c.of-item.result.value ≡ get_or c.args.words.now c.loop-item.at 0 / 16 % 2 ^ 36
-value t c = ap (λ (it : Item). it.value) c.of-item.ensures
+value : (t : ℕ) (c : After-from-item t) → c.from-item.result.value ≡ get_or c.args.words.now c.loop-item.at 0 / 16 % 2 ^ 36
+value t c = ap (λ (it : Item). it.value) c.from-item.ensures
 
-key : (t : ℕ) (c : After-of-item t) → c.of-item.result.key ≡ get_or c.args.words.now c.loop-item.at 0 / 2 ^ 40
-key t c = ap (λ (it : Item). it.key) c.of-item.ensures
+key : (t : ℕ) (c : After-from-item t) → c.from-item.result.key ≡ get_or c.args.words.now c.loop-item.at 0 / 2 ^ 40
+key t c = ap (λ (it : Item). it.key) c.from-item.ensures
 
 pub size_at-at-requires : goal.size_at-at-requires
 size_at-at-requires t c = tabled_inside c.args.words.now c.args.table.now c.requires.words_value.0 c.requires.words_value.1 c.requires.t_bound
@@ -53,7 +53,7 @@ pub node-requires : goal.node-requires
 node-requires t c =
     let at = goal.at.node-requires t c in (
       omega (arith, shallow t at.In-loop-item (there t at.After-size_at-at)),
-      omega (arith, key t at.After-of-item, key_small _ c.loop-item.at (good_all _ c.requires.words_value.0) (attribute_inside _ _ (here t at.In-loop-item))),
+      omega (arith, key t at.After-from-item, key_small _ c.loop-item.at (good_all _ c.requires.words_value.0) (attribute_inside _ _ (here t at.In-loop-item))),
     )
 
 pub offset_bounds-out-next : goal.offset_bounds-out-next
@@ -74,7 +74,7 @@ overflow_add-next t c =
 pub type_to_access_trie-next-requires : goal.type_to_access_trie-next-requires
 type_to_access_trie-next-requires t c =
     let at = goal.at.type_to_access_trie-next-requires t c in
-    let v = value t at.After-of-item in
+    let v = value t at.After-from-item in
     let stands = there t at.After-size_at-at in
     let lower = below t at.In-loop-item stands in (
       omega (arith, v, lower, c.decreases),
@@ -93,7 +93,7 @@ loop-item-smaller t c = omega (arith, attribute_inside _ _ (here t (goal.at.loop
 pub loop-item-preserved : goal.loop-item-preserved
 loop-item-preserved t c =
     let at = goal.at.loop-item-preserved t c in
-    writing_next c.loop-item.invariant (there t at.After-size_at-at).rows (here t at.In-loop-item) (value t at.After-of-item) (rw (← key t at.After-of-item) c.node.ensures) c.type_to_access_trie-next.ensures
+    writing_next c.loop-item.invariant (there t at.After-size_at-at).rows (here t at.In-loop-item) (value t at.After-from-item) (rw (← key t at.After-from-item) c.node.ensures) c.type_to_access_trie-next.ensures
 
 pub returns : goal.returns
 returns t c = writing_all c.loop-item.invariant (there t (goal.at.returns t c).After-size_at-at).rows (sym c.is_attribute.ensures ∙ c.loop-item-test.false)

@@ -12,4 +12,4 @@ returns-then-words-at c = rw (le-ltb c.args.at (length c.args.words.now) c.if-wo
 
 pub returns : goal.returns
 unfolding attribute_at
-returns c = rw (lt-ltb c.args.at (length c.args.words.now) c.if-words-at.false, ap (λ (it : Item). it.tag) c.of.ensures)
+returns c = rw (lt-ltb c.args.at (length c.args.words.now) c.if-words-at.false, ap (λ (it : Item). it.tag) c.from.ensures)

@@ -8,7 +8,7 @@ use Rattle.words.specs.Keys.{searched}
 use Rattle.std.specs.Prelude.{Ok}
 use Rattle.type_table.specs.NamedLaws.{key_inside, type_found, type_missing}
 use Rattle.type_table.proofs.type_named.Goals as goal
-use Rattle.type_table.proofs.type_named.Goals.{After-of, In-Ok}
+use Rattle.type_table.proofs.type_named.Goals.{After-from, In-Ok}
 
 -- the place that was found
 found : (c : In-Ok) → searched c.args.run.now c.args.key ≡ Ok c.in-Ok.place
@@ -28,12 +28,12 @@ pub bounds-run-place : goal.bounds-run-place
 bounds-run-place c = inside (goal.at.bounds-run-place c).In-Ok
 
 -- the value of the line that was found
-value : (c : After-of) → c.of.result.value ≡ get_or c.args.run.now c.in-Ok.place 0 / 16 % 2 ^ 36
-value c = ap (λ (it : Item). it.value) c.of.ensures
+value : (c : After-from) → c.from.result.value ≡ get_or c.args.run.now c.in-Ok.place 0 / 16 % 2 ^ 36
+value c = ap (λ (it : Item). it.value) c.from.ensures
 
 pub overflow_add-result : goal.overflow_add-result
-overflow_add-result c = omega (arith, value (goal.at.overflow_add-result c).After-of)
+overflow_add-result c = omega (arith, value (goal.at.overflow_add-result c).After-from)
 
 pub returns : goal.returns
 returns c =
-    rw (value (goal.at.returns c).After-of) (type_found c.args.run.now c.args.key c.in-Ok.place (found (goal.at.returns c).In-Ok))
+    rw (value (goal.at.returns c).After-from) (type_found c.args.run.now c.args.key c.in-Ok.place (found (goal.at.returns c).In-Ok))

@@ -10,7 +10,7 @@ use Rattle.schema.specs.Items.{items_of}
 use Rattle.type_table.specs.Tables.{attribute_at, TypeMeasured}
 use Rattle.type_table.specs.TypeTableLaws.{TypeStands, sizing_none, sizing_small, sizing_next, sizing_all, stands_here, attribute_inside, passing_below}
 use Rattle.type_table.proofs.type_size.Goals as goal
-use Rattle.type_table.proofs.type_size.Goals.{After-of, In-loop-below, Start}
+use Rattle.type_table.proofs.type_size.Goals.{After-from, In-loop-below, Start}
 
 -- the type at the place, and its number
 there : (c : Start) → TypeStands c.args.words.now (types_in (items_of (take c.args.place c.args.words.now))) c.args.place
@@ -21,14 +21,14 @@ here : (c : In-loop-below) → attribute_at c.args.words.now c.loop-below.at ≡
 here c = sym c.is_attribute.ensures ∙ c.loop-below-test.true
 
 -- its type is lower, so its size is known
-value : (c : After-of) → c.of.result.value ≡ get_or c.args.words.now c.loop-below.at 0 / 16 % 2 ^ 36
-value c = ap (λ (it : Item). it.value) c.of.ensures
+value : (c : After-from) → c.from.result.value ≡ get_or c.args.words.now c.loop-below.at 0 / 16 % 2 ^ 36
+value c = ap (λ (it : Item). it.value) c.from.ensures
 
-below : (c : After-of) → TypeStands c.args.words.now (types_in (items_of (take c.args.place c.args.words.now))) c.args.place → (attribute_at c.args.words.now c.loop-below.at ≡ true) → c.of.result.value < types_in (items_of (take c.args.place c.args.words.now))
+below : (c : After-from) → TypeStands c.args.words.now (types_in (items_of (take c.args.place c.args.words.now))) c.args.place → (attribute_at c.args.words.now c.loop-below.at ≡ true) → c.from.result.value < types_in (items_of (take c.args.place c.args.words.now))
 below c there-here here-here = rw (value c) (passing_below c.loop-below.invariant.passing (here-here) (there-here).lines.below)
 
-sized : (c : After-of) → TypeStands c.args.words.now (types_in (items_of (take c.args.place c.args.words.now))) c.args.place → (attribute_at c.args.words.now c.loop-below.at ≡ true) → TypeMeasured c.args.words.now c.of.result.value (get_or c.args.table.now c.of.result.value 0)
-sized c there-here here-here = c.requires.tabled.1 c.of.result.value (below c there-here here-here)
+sized : (c : After-from) → TypeStands c.args.words.now (types_in (items_of (take c.args.place c.args.words.now))) c.args.place → (attribute_at c.args.words.now c.loop-below.at ≡ true) → TypeMeasured c.args.words.now c.from.result.value (get_or c.args.table.now c.from.result.value 0)
+sized c there-here here-here = c.requires.tabled.1 c.from.result.value (below c there-here here-here)
 
 pub loop-below-init : goal.loop-below-init
 loop-below-init c = sizing_none c.args.words.now (c.args.place + 1) (omega arith)
@@ -37,7 +37,7 @@ pub bounds-words-at : goal.bounds-words-at
 bounds-words-at c = omega (arith, attribute_inside _ _ (here (goal.at.bounds-words-at c).In-loop-below))
 
 pub size_at-below-requires : goal.size_at-below-requires
-size_at-below-requires c = omega (arith, below (goal.at.size_at-below-requires c).After-of (there (goal.at.size_at-below-requires c).Start) (here (goal.at.size_at-below-requires c).In-loop-below), (there (goal.at.size_at-below-requires c).Start).lines.small, c.requires.tabled.0)
+size_at-below-requires c = omega (arith, below (goal.at.size_at-below-requires c).After-from (there (goal.at.size_at-below-requires c).Start) (here (goal.at.size_at-below-requires c).In-loop-below), (there (goal.at.size_at-below-requires c).Start).lines.small, c.requires.tabled.0)
 
 pub overflow_add-nodes : goal.overflow_add-nodes
 overflow_add-nodes c = omega (arith, sizing_small c.loop-below.invariant)
@@ -50,7 +50,7 @@ loop-below-smaller c = omega (arith, attribute_inside _ _ (here (goal.at.loop-be
 
 pub loop-below-preserved : goal.loop-below-preserved
 loop-below-preserved c = rw (c.max-depth.ensures, c.min.ensures, c.min-nodes.ensures, c.size_at-below.ensures.1.0, c.size_at-below.ensures.1.1)
-    (sizing_next c.loop-below.invariant (here (goal.at.loop-below-preserved c).In-loop-below) (value (goal.at.loop-below-preserved c).After-of) (sized (goal.at.loop-below-preserved c).After-of (there (goal.at.loop-below-preserved c).Start) (here (goal.at.loop-below-preserved c).In-loop-below)))
+    (sizing_next c.loop-below.invariant (here (goal.at.loop-below-preserved c).In-loop-below) (value (goal.at.loop-below-preserved c).After-from) (sized (goal.at.loop-below-preserved c).After-from (there (goal.at.loop-below-preserved c).Start) (here (goal.at.loop-below-preserved c).In-loop-below)))
 
 pub returns : goal.returns
 returns c = let small = sizing_small c.loop-below.invariant in
