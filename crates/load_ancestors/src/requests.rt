@@ -9,7 +9,7 @@ ghost use Rattle.load_ends.specs.Ends.{ReadTo};
 ghost use Rattle.load_ancestors.specs.Asking.{asking_of, ancestors_in};
 
 use ancestors::compute_ancestors_requests;
-use load_state::{LoadReply, LoadState, nodes_from, read_load};
+use load_state::{LoadReply, LoadState, Worked, Workspace, nodes_from, read_load};
 use row_walk::Request;
 use slices::build_slice;
 use words::Refusal;
@@ -17,51 +17,41 @@ use words::Refusal;
 // The one length of requests that are handed out: a count, heads and ids.
 const REQUEST_WORDS: usize = 528_385;
 
-// Writes the slice of a load, without ancestors, and answers the place after it. `scratch` is scratch.
-fn write_slice(
-    state: &[u64],
-    rows: &[u64],
-    places: &[u64],
-    asked: usize,
-    out: &mut [u64],
-    scratch: &mut [u64],
-) -> usize
-    requires in_bounds { (36874 ≤ length state.now) × (4096 ≤ length places.now) }
-    requires in_bounds_2 { (12288 ≤ length out.old) × (12288 ≤ length scratch.old) }
-    requires by_index { (batches : ℕ) × (sum : ℕ) × ReadTo state.now rows.now places.now asked batches sum }
-    ensures { (result ≤ length out.new) × ((load : Load) → lent_load state.now ≡ done load → slice_in (take result out.new) ≡ load.slice) }
+// Writes the slice of a load, without ancestors, and answers the place after it.
+fn write_slice(state: &[u64], load: Worked, work: &mut Workspace, out: &mut [u64]) -> usize
+    requires in_bounds { (36874 ≤ length state.now) × (12288 ≤ length out.old) }
+    requires read_to { ReadTo state.now work.old.rows work.old.places load.asked load.batches load.sum }
+    ensures slice { (result ≤ length out.new) × ((told : Load) → lent_load state.now ≡ done told → slice_in (take result out.new) ≡ told.slice) }
+    ensures rows_stay { work.new.rows ≡ work.old.rows }
 {
     let built = build_slice(
         &state[LoadState::ANSWERS..LoadState::SETS],
-        &rows[..asked],
-        &places[..asked],
+        &work.rows[..load.asked],
+        &work.places[..load.asked],
         &state[..0],
         &state[..0],
         out,
         0,
-        scratch,
+        &mut work.scratch,
     );
     built.end
 }
 
-// Writes the requests of a load of which no row waits, or refuses the first that is too large or meets a wrong value. `scratch` is scratch.
+// Writes the requests of a load of which no row waits, or refuses the first that is too large or meets a wrong value.
 fn write_requests(
     state: &[u64],
-    rows: &[u64],
-    places: &[u64],
-    asked: usize,
+    load: Worked,
+    work: &mut Workspace,
     out: &mut [u64],
-    scratch: &mut [u64],
 ) -> Result<(), Refusal>
-    requires in_bounds { (36874 ≤ length state.now) × ((4096 ≤ length places.now) × (get_or state.now 0 0 ≡ 3)) }
-    requires in_bounds_2 { (528385 ≤ length out.old) × (12288 ≤ length scratch.old) }
-    requires by_index { (batches : ℕ) × (sum : ℕ) × ReadTo state.now rows.now places.now asked batches sum }
-    ensures { (load : Load) → lent_load state.now ≡ done load
-        → RequestsAnswered (ancestors_requests (transcript_in state.now).request (transcript_in state.now).nodes load.slice 0 load.asked)
-        (take asked rows.now) out.old out.new result }
+    requires in_bounds { (36874 ≤ length state.now) × (get_or state.now 0 0 ≡ 3) × (528385 ≤ length out.old) }
+    requires read_to { ReadTo state.now work.old.rows work.old.places load.asked load.batches load.sum }
+    ensures { (told : Load) → lent_load state.now ≡ done told
+        → RequestsAnswered (ancestors_requests (transcript_in state.now).request (transcript_in state.now).nodes told.slice 0 told.asked)
+        (take load.asked work.old.rows) out.old out.new result }
 {
     let mut slice = [0u64; 12_288];
-    let stop = write_slice(state, rows, places, asked, &mut slice, scratch);
+    let stop = write_slice(state, load, work, &mut slice);
     let request = Request {
         triple: state[1],
         principal: state[2],
@@ -75,33 +65,27 @@ fn write_requests(
         &slice[..stop],
         request,
         &state[LoadState::CONTEXT..last],
-        &rows[..asked],
+        &work.rows[..load.asked],
         out,
     )
 }
 
-// Hands out the requests of a load, whose answers are awaited then. `scratch` is scratch.
+// Hands out the requests of a load, whose answers are awaited then.
 fn ask_ancestors(
     state: &mut [u64],
-    rows: &[u64],
-    places: &[u64],
-    asked: usize,
-    batches: u64,
+    load: Worked,
+    work: &mut Workspace,
     out: &mut [u64],
-    scratch: &mut [u64],
 ) -> LoadReply
-    requires in_bounds { (36874 ≤ length state.old) × ((4096 ≤ length places.now) × (get_or state.old 0 0 ≡ 3)) }
-    requires in_bounds_2 { (528385 ≤ length out.old) × (12288 ≤ length scratch.old) }
-    requires by_index { (sum : ℕ) × ReadTo state.old rows.now places.now asked batches sum }
+    requires in_bounds { (36874 ≤ length state.old) × (get_or state.old 0 0 ≡ 3) × (528385 ≤ length out.old) }
+    requires read_to { ReadTo state.old work.old.rows work.old.places load.asked load.batches load.sum }
     ensures { HandedAs (asking_of state.old out.old (lent_load state.old)) result state.new out.new }
 {
-    if let Err(Refusal { number, place }) = write_requests(
-        state, rows, places, asked, out, scratch,
-    ) {
+    if let Err(Refusal { number, place }) = write_requests(state, load, work, out) {
         return LoadReply::Refused(number, place);
     }
     state[0] = 4;
-    LoadReply::Done(asked as u64, batches, asked as u64)
+    LoadReply::Done(load.asked as u64, load.batches, load.asked as u64)
 }
 
 // Asks for the ancestors of all rows: 31, 1, 16, then by request the first of 14 and 15. A refusal leaves both buffers as they were.
@@ -114,22 +98,12 @@ pub fn load_ancestors(state: &mut [u64], out: &mut [u64]) -> LoadReply
     if out.len() < REQUEST_WORDS {
         return LoadReply::Refused(31, 0);
     }
-    let mut rows = [0u64; 8_192];
-    let mut places = [0u64; 4_096];
-    let mut scratch = [0u64; 24_577];
-    let Some(load) = read_load(state, &mut rows, &mut places, &mut scratch) else {
+    let mut work = Workspace::new();
+    let Some(load) = read_load(state, &mut work) else {
         return LoadReply::Refused(1, 0);
     };
     if state[0] != 3 {
         return LoadReply::Refused(16, 0);
     }
-    ask_ancestors(
-        state,
-        &rows,
-        &places,
-        load.asked,
-        load.batches,
-        out,
-        &mut scratch,
-    )
+    ask_ancestors(state, load, &mut work, out)
 }

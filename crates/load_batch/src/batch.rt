@@ -5,7 +5,7 @@ ghost use Rattle.values.specs.ValueWords.{row_asked, request_word};
 ghost use Rattle.load_state.specs.Outcomes.{HandedAs};
 ghost use Rattle.load_batch.specs.Handing.{numbered, batch_in};
 
-use load_state::{LoadReply, LoadState, read_load};
+use load_state::{LoadReply, LoadState, Workspace, read_load};
 use values::EntityRequest;
 
 // The one length of a batch's rows.
@@ -37,16 +37,14 @@ pub fn load_batch(state: &mut [u64], out: &mut [u64]) -> LoadReply
     if out.len() < BATCH_WORDS {
         return LoadReply::Refused(31, 0);
     }
-    let mut rows = [0u64; 8_192];
-    let mut places = [0u64; 4_096];
-    let mut scratch = [0u64; 24_577];
-    let Some(load) = read_load(state, &mut rows, &mut places, &mut scratch) else {
+    let mut work = Workspace::new();
+    let Some(load) = read_load(state, &mut work) else {
         return LoadReply::Refused(1, 0);
     };
     if state[0] != 1 {
         return LoadReply::Refused(16, 0);
     }
-    write_batch(&rows[load.asked..load.end], state[4], out);
+    write_batch(&work.rows[load.asked..load.end], state[4], out);
     state[0] = 2;
     LoadReply::Done(
         (load.end - load.asked) as u64,

@@ -32,25 +32,26 @@ fn is_lawful_context(context: &[u64]) -> bool
 fn store_begun(
     state: &mut [u64],
     turn: u64,
-    triple: u64,
-    principal: u64,
-    resource: u64,
+    request: Request,
     first: u64,
     entry: &[u64],
     context: &[u64],
 )
     requires { (36874 ≤ length state.old) × ((length entry.now ≤ 4097) × (length context.now ≤ 8192)) }
-    ensures { state.new ≡ begun_state state.old turn triple principal resource first entry.now context.now }
+    ensures { state.new ≡ begun_state state.old turn request.triple request.principal request.resource first entry.now context.now }
 {
-    state[0] = turn;
-    state[1] = triple;
-    state[2] = principal;
-    state[3] = resource;
-    state[4] = first;
-    state[5] = entry.len() as u64;
-    state[6] = context.len() as u64;
-    state[7] = 0;
-    state[8] = 0;
+    let head = [
+        turn,
+        request.triple,
+        request.principal,
+        request.resource,
+        first,
+        entry.len() as u64,
+        context.len() as u64,
+        0,
+        0,
+    ];
+    words::copy_words(&head, state, 0);
     words::copy_words(entry, state, LoadState::ENTRY);
     words::copy_words(context, state, LoadState::CONTEXT);
 }
@@ -85,16 +86,7 @@ fn begin_entry(
         return LoadReply::Refused(14, 0);
     };
     let turn = turn_for(waiting);
-    store_begun(
-        state,
-        turn,
-        request.triple,
-        request.principal,
-        request.resource,
-        first,
-        &rows[at..end],
-        context,
-    );
+    store_begun(state, turn, request, first, &rows[at..end], context);
     LoadReply::Done(count as u64, 0, 0)
 }
 
@@ -106,16 +98,7 @@ fn begin_load(rows: &[u64], request: Request, context: &[u64], state: &mut [u64]
 {
     match find_entry(rows, request.triple) {
         None => {
-            store_begun(
-                state,
-                5,
-                request.triple,
-                request.principal,
-                request.resource,
-                0,
-                &rows[..0],
-                context,
-            );
+            store_begun(state, 5, request, 0, &rows[..0], context);
             LoadReply::Done(0, 0, 0)
         }
         Some(entry) => begin_entry(

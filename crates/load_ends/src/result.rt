@@ -1,5 +1,5 @@
 // result: the slice of a load that has ended, with the answered ancestors.
-ghost use Rattle.std.specs.Prelude.{ℕ, ◌≤◌, length, get_or};
+ghost use Rattle.std.specs.Prelude.{◌≤◌, length, get_or};
 ghost use Rattle.rules.specs.Loading.{◌then◌};
 ghost use Rattle.rules.specs.LoadCalls.{result_of};
 ghost use Rattle.load_state.specs.Transcripts.{transcript_in, lent_load};
@@ -7,25 +7,16 @@ ghost use Rattle.load_state.specs.Outcomes.{AnsweredAs};
 ghost use Rattle.load_ends.specs.Ends.{ReadTo, handing_slice, result_in};
 
 use answers::Lending;
-use load_state::{LoadReply, LoadState, read_load};
+use load_state::{LoadReply, LoadState, Worked, Workspace, read_load};
 use slices::build_slice;
 
 // The one length of a slice that is handed out: its count, and words behind it.
 const SLICE_WORDS: usize = 12_289;
 
-// Writes the slice of a load that has ended, its count in front. `scratch` is scratch.
-fn write_result(
-    state: &[u64],
-    rows: &[u64],
-    places: &[u64],
-    asked: usize,
-    batches: u64,
-    out: &mut [u64],
-    scratch: &mut [u64],
-) -> LoadReply
-    requires in_bounds { (36874 ≤ length state.now) × ((4096 ≤ length places.now) × (5 ≤ get_or state.now 0 0)) }
-    requires in_bounds_2 { (12289 ≤ length out.old) × (12288 ≤ length scratch.old) }
-    requires by_index { (sum : ℕ) × ReadTo state.now rows.now places.now asked batches sum }
+// Writes the slice of a load that has ended, its count in front.
+fn write_result(state: &[u64], load: Worked, work: &mut Workspace, out: &mut [u64]) -> LoadReply
+    requires in_bounds { (36874 ≤ length state.now) × (5 ≤ get_or state.now 0 0) × (12289 ≤ length out.old) }
+    requires read_to { ReadTo state.now work.old.rows work.old.places load.asked load.batches load.sum }
     ensures { AnsweredAs (handing_slice out.old (lent_load state.now then result_of (transcript_in state.now))) result out.new }
 {
     let mut set_places = [0u64; 4_096];
@@ -40,16 +31,16 @@ fn write_result(
     let end = count as usize;
     let built = build_slice(
         &state[LoadState::ANSWERS..LoadState::SETS],
-        &rows[..asked],
-        &places[..asked],
+        &work.rows[..load.asked],
+        &work.places[..load.asked],
         &state[LoadState::SETS..LoadState::WORDS],
         &set_places[..end],
         out,
         1,
-        scratch,
+        &mut work.scratch,
     );
     out[0] = built.count;
-    LoadReply::Done(built.count, batches, asked as u64)
+    LoadReply::Done(built.count, load.batches, load.asked as u64)
 }
 
 // Hands out the slice of a load that has ended: 31, 1, 16. The state stays.
@@ -62,22 +53,12 @@ pub fn load_result(state: &[u64], out: &mut [u64]) -> LoadReply
     if out.len() < SLICE_WORDS {
         return LoadReply::Refused(31, 0);
     }
-    let mut rows = [0u64; 8_192];
-    let mut places = [0u64; 4_096];
-    let mut scratch = [0u64; 24_577];
-    let Some(load) = read_load(state, &mut rows, &mut places, &mut scratch) else {
+    let mut work = Workspace::new();
+    let Some(load) = read_load(state, &mut work) else {
         return LoadReply::Refused(1, 0);
     };
     if state[0] < 5 {
         return LoadReply::Refused(16, 0);
     }
-    write_result(
-        state,
-        &rows,
-        &places,
-        load.asked,
-        load.batches,
-        out,
-        &mut scratch,
-    )
+    write_result(state, load, &mut work, out)
 }

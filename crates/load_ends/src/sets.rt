@@ -9,7 +9,7 @@ ghost use Rattle.load_state.specs.Outcomes.{AnsweredAs};
 ghost use Rattle.load_ends.specs.Ends.{sets_stored, taking_sets, ancestors_answer_in};
 
 use answers::Lending;
-use load_state::{LoadReply, LoadState, read_load};
+use load_state::{LoadReply, LoadState, Workspace, read_load};
 
 // The one length of ancestors' answers: a count, and words behind it.
 const LENT_WORDS: usize = 24_577;
@@ -75,10 +75,8 @@ pub fn load_ancestors_answer(state: &mut [u64], sets: &[u64]) -> LoadReply
     if sets.len() < LENT_WORDS {
         return LoadReply::Refused(31, 0);
     }
-    let mut rows = [0u64; 8_192];
-    let mut places = [0u64; 4_096];
-    let mut scratch = [0u64; 24_577];
-    let Some(load) = read_load(state, &mut rows, &mut places, &mut scratch) else {
+    let mut work = Workspace::new();
+    let Some(load) = read_load(state, &mut work) else {
         return LoadReply::Refused(1, 0);
     };
     if state[0] != 4 {

@@ -7,7 +7,7 @@ mod working;
 
 pub use parts::is_request;
 pub use turns::{read_load, turn_for};
-pub use working::{Worked, nodes_from};
+pub use working::{Worked, Workspace, nodes_from};
 
 // What a call of a load answers: done, with its own count and the batches and rows asked so far; refused with a number and a place; or 12,
 // with how many answers were expected and how many were got.

@@ -23,6 +23,24 @@ pub struct Worked {
     pub sum: u64,
 }
 
+// Where a load is worked out: its rows, the places of its answers, and scratch.
+#[derive(Drop)]
+pub struct Workspace {
+    pub rows: [u64; 8_192],
+    pub places: [u64; 4_096],
+    pub scratch: [u64; 24_577],
+}
+
+impl Workspace {
+    pub fn new() -> Workspace {
+        Workspace {
+            rows: [0; 8_192],
+            places: [0; 4_096],
+            scratch: [0; 24_577],
+        }
+    }
+}
+
 // Where the nodes of an entry of so many rows begin.
 pub fn nodes_from(count: u64) -> usize
     ensures { result ≡ nodes_from count }
@@ -62,18 +80,12 @@ fn work_out_load(
     })
 }
 
-// Works out the load that a state tells of, if there is one. `scratch` is scratch.
-pub fn work_out(
-    state: &[u64],
-    rows: &mut [u64],
-    places: &mut [u64],
-    scratch: &mut [u64],
-) -> Option<Worked>
-    requires in_bounds { (36874 ≤ length state.now) × (8192 ≤ length rows.old) }
-    requires in_bounds_2 { (4096 ≤ length places.old) × (24577 ≤ length scratch.old) }
-    ensures { WorkedTo (load_in state.now) (answer_words state.now) rows.new places.new (get_or state.now 7 0) (rows_of (node_words state.now)) result }
+// Works out the load that a state tells of, if there is one.
+pub fn work_out(state: &[u64], work: &mut Workspace) -> Option<Worked>
+    requires { 36874 ≤ length state.now }
+    ensures { WorkedTo (load_in state.now) (answer_words state.now) work.new.rows work.new.places (get_or state.now 7 0) (rows_of (node_words state.now)) result }
 {
-    if !has_good_parts(state, scratch) {
+    if !has_good_parts(state, &mut work.scratch) {
         return None;
     }
     let request = Request {
@@ -90,8 +102,8 @@ pub fn work_out(
         &state[LoadState::CONTEXT..last],
         &state[LoadState::ANSWERS..LoadState::SETS],
         state[7],
-        rows,
-        places,
-        scratch,
+        &mut work.rows,
+        &mut work.places,
+        &mut work.scratch,
     )
 }

@@ -13,7 +13,7 @@ ghost use Rattle.loader.specs.Calls.{taken_into, taken_from, answer_in};
 
 use answers::Lending;
 use batches::take_answers;
-use load_state::{LoadReply, LoadState, Worked, nodes_from, read_load, turn_for};
+use load_state::{LoadReply, LoadState, Worked, Workspace, nodes_from, read_load, turn_for};
 
 // The one length of answers: a count, and words behind it.
 const LENT_WORDS: usize = 24_577;
@@ -29,16 +29,9 @@ fn store_answers(state: &mut [u64], turn: u64, count: u64, fresh: &[u64], at: us
 }
 
 // Takes answers, as many as rows wait, of a sum within the limit: behind those before them, in words of their own, and stored where none is refused.
-fn take_given(
-    state: &mut [u64],
-    fresh: &[u64],
-    load: Worked,
-    rows: &mut [u64],
-    places: &mut [u64],
-    scratch: &mut [u64],
-) -> LoadReply
-    requires in_bounds { (36874 ≤ length state.old) × (8192 ≤ length rows.old) × (4096 ≤ length places.old) × (24577 ≤ length scratch.old) }
-    requires lent_to { LentTo (lent_load state.old) (answer_words state.old) rows.old places.old (get_or state.old 7 0) (rows_of (node_words state.old)) (Some load) }
+fn take_given(state: &mut [u64], fresh: &[u64], load: Worked, work: &mut Workspace) -> LoadReply
+    requires in_bounds { 36874 ≤ length state.old }
+    requires lent_to { LentTo (lent_load state.old) (answer_words state.old) work.old.rows work.old.places (get_or state.old 7 0) (rows_of (node_words state.old)) (Some load) }
     requires asked_lt_end { (load.asked < load.end) × AllRead (lent_from Answers 0 (load.end - load.asked) fresh.now) × (words_of Answers (load.end - load.asked) fresh.now ≡ length fresh.now) }
     requires fresh_value { is_summed (summed size_of_answer 0 load.sum (lent_items Answers (load.end - load.asked) fresh.now)) ≡ true }
     ensures { AnsweredAs
@@ -50,17 +43,23 @@ fn take_given(
     let mut words = [0u64; 12_288];
     words::copy_words(&state[LoadState::ANSWERS..LoadState::SETS], &mut words, 0);
     words::copy_words(fresh, &mut words, used);
-    answers::place(Lending::Answers, &words, load.end as u64, places, 0);
+    answers::place(
+        Lending::Answers,
+        &words,
+        load.end as u64,
+        &mut work.places,
+        0,
+    );
     let from = nodes_from(state[5]);
     let last = LoadState::ENTRY + state[5] as usize;
     match take_answers(
         &state[from..last],
         &words,
-        rows,
-        places,
+        &mut work.rows,
+        &work.places,
         load.asked,
         load.end,
-        scratch,
+        &mut work.scratch,
     ) {
         Err(refusal) => LoadReply::Refused(refusal.number, refusal.place),
         Ok(next) => {
@@ -79,16 +78,9 @@ fn take_given(
 }
 
 // Takes lent answers: 1 by row, 12, 15, then by row 14, 13.
-fn take_batch(
-    state: &mut [u64],
-    lent: &[u64],
-    load: Worked,
-    rows: &mut [u64],
-    places: &mut [u64],
-    scratch: &mut [u64],
-) -> LoadReply
-    requires in_bounds { (36874 ≤ length state.old) × (8192 ≤ length rows.old) × (4096 ≤ length places.old) × (24577 ≤ length scratch.old) }
-    requires lent_to { LentTo (lent_load state.old) (answer_words state.old) rows.old places.old (get_or state.old 7 0) (rows_of (node_words state.old)) (Some load) }
+fn take_batch(state: &mut [u64], lent: &[u64], load: Worked, work: &mut Workspace) -> LoadReply
+    requires in_bounds { 36874 ≤ length state.old }
+    requires lent_to { LentTo (lent_load state.old) (answer_words state.old) work.old.rows work.old.places (get_or state.old 7 0) (rows_of (node_words state.old)) (Some load) }
     requires asked_lt_end { (load.asked < load.end) × (24577 ≤ length lent.now) }
     ensures { AnsweredAs
         (taken_from state.old lent.now
@@ -96,7 +88,12 @@ fn take_batch(
         result state.new }
 {
     let count = lent[0];
-    let size = match answers::check(Lending::Answers, &lent[1..LENT_WORDS], count, scratch) {
+    let size = match answers::check(
+        Lending::Answers,
+        &lent[1..LENT_WORDS],
+        count,
+        &mut work.scratch,
+    ) {
         Ok(size) => size,
         Err(row) => {
             return LoadReply::Refused(1, row);
@@ -110,7 +107,7 @@ fn take_batch(
         return LoadReply::Refused(15, row);
     }
     let behind = 1 + size;
-    take_given(state, &lent[1..behind], load, rows, places, scratch)
+    take_given(state, &lent[1..behind], load, work)
 }
 
 // Takes a batch's answers: 31, 1, 16, 1 by row, 12, 15, then by row 14, 13; a refusal leaves the state as it was.
@@ -123,14 +120,12 @@ pub fn load_answer(state: &mut [u64], answers: &[u64]) -> LoadReply
     if answers.len() < LENT_WORDS {
         return LoadReply::Refused(31, 0);
     }
-    let mut rows = [0u64; 8_192];
-    let mut places = [0u64; 4_096];
-    let mut scratch = [0u64; 24_577];
-    let Some(load) = read_load(state, &mut rows, &mut places, &mut scratch) else {
+    let mut work = Workspace::new();
+    let Some(load) = read_load(state, &mut work) else {
         return LoadReply::Refused(1, 0);
     };
     if state[0] != 2 {
         return LoadReply::Refused(16, 0);
     }
-    take_batch(state, answers, load, &mut rows, &mut places, &mut scratch)
+    take_batch(state, answers, load, &mut work)
 }

@@ -23,7 +23,7 @@ long c =
 -- the load of the state
 read :
     (c : In-Some) →
-    ReadTo c.args.state.now c.read_load.new.rows c.read_load.new.places c.in-Some.load.asked c.in-Some.load.batches c.in-Some.load.sum
+    ReadTo c.args.state.now c.read_load.new.work.rows c.read_load.new.work.places c.in-Some.load.asked c.in-Some.load.batches c.in-Some.load.sum
 read c = lent_read c.args.state.now _ _ _ c.read_load.result c.read_load.ensures c.in-Some.is
 
 pub returns-then-state-lt-WORDS : goal.returns-then-state-lt-WORDS
@@ -49,7 +49,7 @@ returns-then-state-ne3 c =
     rw (ask_long a.state.now a.out.now (long (goal.at.returns-then-state-ne3 c).Else-out-lt-REQUEST_WORDS), ask_early a.state.now a.out.now (read (goal.at.returns-then-state-ne3 c).In-Some).told c.if-state-ne3.true) (refl, refl, refl)
 
 pub ask_ancestors-requires : goal.ask_ancestors-requires
-ask_ancestors-requires c = record { in_bounds = (omega (arith, c.if-state-lt-WORDS.false), (omega (arith, c.read_load.auto.places), omega (arith, c.if-state-ne3.false))); in_bounds_2 = (omega (arith, c.if-out-lt-REQUEST_WORDS.false), omega (arith, c.read_load.auto.scratch)); by_index = (_, read (goal.at.ask_ancestors-requires c).In-Some) }
+ask_ancestors-requires c = record { in_bounds = (omega (arith, c.if-state-lt-WORDS.false), omega (arith, c.if-state-ne3.false), omega (arith, c.if-out-lt-REQUEST_WORDS.false)); read_to = read (goal.at.ask_ancestors-requires c).In-Some }
 
 pub returns : goal.returns
 returns c =

@@ -23,10 +23,10 @@ nodes :
 nodes c = rw c.nodes_from-from.ensures (nodes_part c.args.state.now (get_or c.args.state.now 5 0))
 
 pub overflow_add-end : goal.overflow_add-end
-overflow_add-end c = omega (arith, (read_parts c.requires.by_index.2).few_rows)
+overflow_add-end c = omega (arith, (read_parts c.requires.read_to).few_rows)
 
 pub overflow_add-last : goal.overflow_add-last
-overflow_add-last c = omega (arith, (read_parts c.requires.by_index.2).few_values)
+overflow_add-last c = omega (arith, (read_parts c.requires.read_to).few_values)
 
 pub offset_bounds-state-from : goal.offset_bounds-state-from
 offset_bounds-state-from c = omega (arith, (within (goal.at.offset_bounds-state-from c).After-nodes_from-from).0)
@@ -38,20 +38,20 @@ pub slice_bounds-compute_ancestors_requests-start : goal.slice_bounds-compute_an
 slice_bounds-compute_ancestors_requests-start c = omega (arith, (within (goal.at.slice_bounds-compute_ancestors_requests-start c).After-nodes_from-from).1)
 
 pub slice_bounds-compute_ancestors_requests-end : goal.slice_bounds-compute_ancestors_requests-end
-slice_bounds-compute_ancestors_requests-end c = omega (arith, (read_parts c.requires.by_index.2).few_rows, c.requires.in_bounds.0)
+slice_bounds-compute_ancestors_requests-end c = omega (arith, (read_parts c.requires.read_to).few_rows, c.requires.in_bounds.0)
 
 pub slice_bounds-compute_ancestors_requests-end-2 : goal.slice_bounds-compute_ancestors_requests-end-2
-slice_bounds-compute_ancestors_requests-end-2 c = sym (length-take-le _ _ c.write_slice-stop.ensures.0)
+slice_bounds-compute_ancestors_requests-end-2 c = sym (length-take-le _ _ c.write_slice-stop.ensures.slice.0)
 
 pub slice_bounds-compute_ancestors_requests-end-3 : goal.slice_bounds-compute_ancestors_requests-end-3
-slice_bounds-compute_ancestors_requests-end-3 c = omega (arith, (read_parts c.requires.by_index.2).few_values, c.requires.in_bounds.0)
+slice_bounds-compute_ancestors_requests-end-3 c = omega (arith, (read_parts c.requires.read_to).few_values, c.requires.in_bounds.0)
 
 pub compute_ancestors_requests-requires : goal.compute_ancestors_requests-requires
 compute_ancestors_requests-requires c =
-    let parts = read_parts c.requires.by_index.2 in
-    rw (nodes (goal.at.compute_ancestors_requests-requires c).After-nodes_from-from) record { nodes_len_bound = (nodes_few c.args.state.now parts.few_rows, parts.small.0, parts.small.1); room_for = λ lists is. omega (arith, asking_room c.requires.by_index.2 _ lists c.requires.in_bounds.1.1 (rw (c.write_slice-stop.ensures.1 c.requires.by_index.2.load c.requires.by_index.2.told, rows_are c.requires.by_index.2) at is), c.requires.in_bounds_2.0) }
+    let parts = read_parts c.requires.read_to in
+    rw (nodes (goal.at.compute_ancestors_requests-requires c).After-nodes_from-from, c.write_slice-stop.ensures.rows_stay) record { nodes_len_bound = (nodes_few c.args.state.now parts.few_rows, parts.small.0, parts.small.1); room_for = λ lists is. omega (arith, asking_room c.requires.read_to _ lists c.requires.in_bounds.1 (rw (c.write_slice-stop.ensures.slice.1 c.requires.read_to.load c.requires.read_to.told, rows_are c.requires.read_to) at is), c.requires.in_bounds.2) }
 
 pub returns : goal.returns
 returns c load told =
-    let asked_are = rows_are c.requires.by_index.2 ∙ ap (λ (l : Load). l.asked) (read_same c.requires.by_index.2 told) in
-    rw (nodes (goal.at.returns c).After-nodes_from-from, add-sub_cancel_left 4106 (get_or c.args.state.now 6 0), c.write_slice-stop.ensures.1 load told, asked_are) at c.compute_ancestors_requests.ensures
+    let asked_are = rows_are c.requires.read_to ∙ ap (λ (l : Load). l.asked) (read_same c.requires.read_to told) in
+    rw (nodes (goal.at.returns c).After-nodes_from-from, add-sub_cancel_left 4106 (get_or c.args.state.now 6 0), c.write_slice-stop.ensures.rows_stay, c.write_slice-stop.ensures.slice.1 load told, asked_are) at c.compute_ancestors_requests.ensures

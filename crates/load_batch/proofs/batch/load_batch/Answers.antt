@@ -30,7 +30,7 @@ came :
     (c : In-Some) →
     (load : Load)
     × (lent_load c.args.state.now ≡ done load)
-    × CameTo (answer_words c.args.state.now) c.read_load.new.rows c.read_load.new.places (get_or c.args.state.now 7 0) (rows_of (node_words c.args.state.now)) load
+    × CameTo (answer_words c.args.state.now) c.read_load.new.work.rows c.read_load.new.work.places (get_or c.args.state.now 7 0) (rows_of (node_words c.args.state.now)) load
     c.in-Some.load.asked c.in-Some.load.end c.in-Some.load.batches c.in-Some.load.sum
 came c =
     lent_came (answer_words c.args.state.now) _ _ (get_or c.args.state.now 7 0) _ (lent_load c.args.state.now) c.read_load.result _ c.read_load.ensures c.in-Some.is
@@ -68,8 +68,8 @@ returns-then-state-ne1 c =
     let (load, lent, at) = came (goal.at.returns-then-state-ne1 c).In-Some in
     batch_late a.state.now a.out.now (long (goal.at.returns-then-state-ne1 c).Else-out-lt-BATCH_WORDS (long-state (goal.at.returns-then-state-ne1 c).Else-state-lt-WORDS)) load lent c.if-state-ne1.true
 
-pub offset_bounds-rows-load : goal.offset_bounds-rows-load
-offset_bounds-rows-load c = omega (arith, within (goal.at.offset_bounds-rows-load c).In-Some)
+pub offset_bounds-work-load : goal.offset_bounds-work-load
+offset_bounds-work-load c = omega (arith, within (goal.at.offset_bounds-work-load c).In-Some)
 
 pub slice_bounds-write_batch-count : goal.slice_bounds-write_batch-count
 slice_bounds-write_batch-count c = omega (arith, within (goal.at.slice_bounds-write_batch-count c).In-Some)
@@ -83,7 +83,7 @@ slice_bounds-write_batch-end c = omega (arith, within (goal.at.slice_bounds-writ
 pub write_batch-requires : goal.write_batch-requires
 write_batch-requires c =
     let (load, lent, at) = came (goal.at.write_batch-requires c).In-Some in
-    let rows = drop c.in-Some.load.asked c.read_load.new.rows in record { rows_in_bounds = (omega (arith, within (goal.at.write_batch-requires c).In-Some, length-take (c.in-Some.load.end - c.in-Some.load.asked) rows, c.if-out-lt-BATCH_WORDS.false), omega (arith, (parts (goal.at.write_batch-requires c).In-Some).numbers_few)); by_index = waiting_small at (nodes (goal.at.write_batch-requires c).In-Some) }
+    let rows = drop c.in-Some.load.asked c.read_load.new.work.rows in record { rows_in_bounds = (omega (arith, within (goal.at.write_batch-requires c).In-Some, length-take (c.in-Some.load.end - c.in-Some.load.asked) rows, c.if-out-lt-BATCH_WORDS.false), omega (arith, (parts (goal.at.write_batch-requires c).In-Some).numbers_few)); by_index = waiting_small at (nodes (goal.at.write_batch-requires c).In-Some) }
 
 pub overflow_sub-result : goal.overflow_sub-result
 overflow_sub-result c = omega (arith, within (goal.at.overflow_sub-result c).In-Some)

@@ -23,7 +23,7 @@ long c =
 -- the load of the state
 read :
     (c : In-Some) →
-    ReadTo c.args.state.now c.read_load.new.rows c.read_load.new.places c.in-Some.load.asked c.in-Some.load.batches c.in-Some.load.sum
+    ReadTo c.args.state.now c.read_load.new.work.rows c.read_load.new.work.places c.in-Some.load.asked c.in-Some.load.batches c.in-Some.load.sum
 read c = lent_read c.args.state.now _ _ _ c.read_load.result c.read_load.ensures c.in-Some.is
 
 pub returns-then-state-lt-WORDS : goal.returns-then-state-lt-WORDS
@@ -51,7 +51,7 @@ returns-then-state-lt5 c =
     rw (result_long state a.out.now (long (goal.at.returns-then-state-lt5 c).Else-out-lt-SLICE_WORDS), at.told, result_early state at.load (read_parts at).turn (omega (arith, c.if-state-lt5.true))) (refl, refl)
 
 pub write_result-requires : goal.write_result-requires
-write_result-requires c = record { in_bounds = (omega (arith, c.if-state-lt-WORDS.false), (omega (arith, c.read_load.auto.places), omega (arith, c.if-state-lt5.false))); in_bounds_2 = (omega (arith, c.if-out-lt-SLICE_WORDS.false), omega (arith, c.read_load.auto.scratch)); by_index = (_, read (goal.at.write_result-requires c).In-Some) }
+write_result-requires c = record { in_bounds = (omega (arith, c.if-state-lt-WORDS.false), omega (arith, c.if-state-lt5.false), omega (arith, c.if-out-lt-SLICE_WORDS.false)); read_to = read (goal.at.write_result-requires c).In-Some }
 
 pub returns : goal.returns
 returns c =

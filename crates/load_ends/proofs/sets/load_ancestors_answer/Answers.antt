@@ -23,7 +23,7 @@ long c =
 -- the load of the state
 read :
     (c : In-Some) →
-    ReadTo c.args.state.now c.read_load.new.rows c.read_load.new.places c.in-Some.load.asked c.in-Some.load.batches c.in-Some.load.sum
+    ReadTo c.args.state.now c.read_load.new.work.rows c.read_load.new.work.places c.in-Some.load.asked c.in-Some.load.batches c.in-Some.load.sum
 read c = lent_read c.args.state.now _ _ _ c.read_load.result c.read_load.ensures c.in-Some.is
 
 pub returns-then-state-lt-WORDS : goal.returns-then-state-lt-WORDS

@@ -27,7 +27,7 @@ long c long-state-here = rw (long-state-here, le-leb 24577 (length c.args.answer
 -- the load of the state
 lent :
     (c : In-Some) →
-    LentTo (lent_load c.args.state.now) (answer_words c.args.state.now) c.read_load.new.rows c.read_load.new.places (get_or c.args.state.now 7 0) (rows_of (node_words c.args.state.now))
+    LentTo (lent_load c.args.state.now) (answer_words c.args.state.now) c.read_load.new.work.rows c.read_load.new.work.places (get_or c.args.state.now 7 0) (rows_of (node_words c.args.state.now))
     (Some c.in-Some.load)
 lent c = rw c.in-Some.is at c.read_load.ensures
 
@@ -35,7 +35,7 @@ came :
     (c : In-Some) →
     (load : Load)
     × (lent_load c.args.state.now ≡ done load)
-    × CameTo (answer_words c.args.state.now) c.read_load.new.rows c.read_load.new.places (get_or c.args.state.now 7 0) (rows_of (node_words c.args.state.now)) load
+    × CameTo (answer_words c.args.state.now) c.read_load.new.work.rows c.read_load.new.work.places (get_or c.args.state.now 7 0) (rows_of (node_words c.args.state.now)) load
     c.in-Some.load.asked c.in-Some.load.end c.in-Some.load.batches c.in-Some.load.sum
 came c =
     lent_came (answer_words c.args.state.now) _ _ (get_or c.args.state.now 7 0) _ (lent_load c.args.state.now) c.read_load.result _ c.read_load.ensures c.in-Some.is
@@ -65,7 +65,7 @@ returns-then-state-ne2 c =
 pub take_batch-requires : goal.take_batch-requires
 take_batch-requires c =
     let (load, lends, at) = came (goal.at.take_batch-requires c).In-Some in
-    let waits = turn_waits c.args.state.now load lends (omega arith) (omega arith) in record { in_bounds = (omega (arith, c.if-state-lt-WORDS.false), omega (arith, c.read_load.auto.rows, length-replicate {A = ℕ} 8192 0), omega (arith, c.read_load.auto.places, length-replicate {A = ℕ} 4096 0), omega (arith, c.read_load.auto.scratch, length-replicate {A = ℕ} 24577 0)); lent_to = lent (goal.at.take_batch-requires c).In-Some; asked_lt_end = (omega (arith, waits, came_waiting at), omega (arith, c.if-answers-lt-LENT_WORDS.false)) }
+    let waits = turn_waits c.args.state.now load lends (omega arith) (omega arith) in record { in_bounds = omega (arith, c.if-state-lt-WORDS.false); lent_to = lent (goal.at.take_batch-requires c).In-Some; asked_lt_end = (omega (arith, waits, came_waiting at), omega (arith, c.if-answers-lt-LENT_WORDS.false)) }
 
 pub returns : goal.returns
 returns c =
