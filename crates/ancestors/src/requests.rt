@@ -42,7 +42,7 @@ impl AncestorsRequest {
 fn has_ancestors_trie(nodes: &[u64], row: u64) -> bool
     ensures { result ≡ roots_below (drop (row_asked row).node (rows_of nodes.now)) }
 {
-    let node = EntityRequest::of(row).node as usize;
+    let node = EntityRequest::from(row).node as usize;
     if nodes.len() <= node {
         return false;
     }
@@ -118,7 +118,7 @@ fn write_requests(
             }
         }
         let head = AncestorsRequest {
-            id: EntityRequest::of(row).id,
+            id: EntityRequest::from(row).id,
             count: at - start,
         };
         out[i + 1] = head.word();

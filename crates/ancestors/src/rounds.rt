@@ -89,7 +89,7 @@ pub fn compute_ancestors_request(
         (slice_in slice.now) place (row_asked row)) result }
 {
     let set = AncestorSet::new();
-    let node = EntityRequest::of(row).node as usize;
+    let node = EntityRequest::from(row).node as usize;
     if nodes.len() <= node {
         return Ok(set);
     }

@@ -42,7 +42,7 @@ pub fn take_row(
     ensures { Takes (λ place. take_row (rows_of nodes.now) (slice_in slice.now) place (row_asked row)
         (wanted_in set out.old to)) out.new result }
 {
-    let asked = EntityRequest::of(row);
+    let asked = EntityRequest::from(row);
     let node = asked.node as usize;
     let more = put_marked(nodes, node, set, asked.id).ok_or(15u64)?;
     match find_loaded(slice, asked.id) {

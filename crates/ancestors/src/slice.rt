@@ -11,7 +11,7 @@ pub fn find_loaded(slice: &[u64], id: u64) -> Option<&[u64]>
     let room = slice.len() as u64;
     let mut at = 0;
     while at < slice.len() {
-        let head = Head::of(slice[at]);
+        let head = Head::from(slice[at]);
         let start = (at as u64 + 1 + head.parents as u64).min(room);
         let end = (start + head.rows as u64).min(room);
         if head.flag == id {

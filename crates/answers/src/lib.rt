@@ -24,8 +24,8 @@ pub enum Lending {
     Sets,
 }
 
-impl Head {
-    pub fn of(word: u64) -> Head
+impl From<u64> for Head {
+    fn from(word: u64) -> Head
         ensures { result ≡ head_in word }
     {
         Head {
@@ -34,7 +34,9 @@ impl Head {
             rows: (word / 0x1_0000_0000) as usize,
         }
     }
+}
 
+impl Head {
     pub fn word(self) -> u64
         requires { (self.flag < 2 ^ 16) × (self.parents < 2 ^ 16) × (self.rows < 2 ^ 32) }
         ensures { result ≡ head_word self.flag self.parents self.rows }
@@ -50,7 +52,7 @@ impl Lending {
     {
         match self {
             Lending::Answers => {
-                let head = Head::of(word);
+                let head = Head::from(word);
                 head.parents + head.rows
             }
             Lending::Sets => word as usize,
@@ -120,7 +122,7 @@ fn front_answer(words: &[u64], levels: &mut [u64]) -> Option<usize>
     if word == 0 {
         return Some(1);
     }
-    let head = Head::of(word);
+    let head = Head::from(word);
     if !is_entity(head, &words[1..], levels) {
         return None;
     }

@@ -28,7 +28,7 @@ fn write_rows(words: &[u64], out: &mut [EntityRequest])
     ensures { out.new ≡ begins (map request_of words.now) out.old }
 {
     for i in 0..words.len() {
-        out[i] = EntityRequest::of(words[i]);
+        out[i] = EntityRequest::from(words[i]);
     }
 }
 

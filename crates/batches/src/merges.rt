@@ -22,8 +22,8 @@ fn agree(words: &[u64], left: usize, right: usize, scratch: &mut [u64]) -> bool
     if second == 0 {
         return true;
     }
-    let a = Head::of(first);
-    let b = Head::of(second);
+    let a = Head::from(first);
+    let b = Head::from(second);
     let a_parents = left + 1;
     let a_rows = a_parents + a.parents;
     let a_end = a_rows + a.rows;
@@ -53,7 +53,7 @@ fn agrees_if_asked(
     requires { AnswerStands words.now place × AnswerStands words.now at × (length words.now + length words.now ≤ length scratch.old) }
     ensures { result ≡ agrees_if_asked id (row_asked row) (heard_at words.now place) (heard_at words.now at) }
 {
-    if EntityRequest::of(row).id == id {
+    if EntityRequest::from(row).id == id {
         return agree(words, place, at, scratch);
     }
     true

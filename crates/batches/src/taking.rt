@@ -40,10 +40,10 @@ fn take_answer(
     if word == 0 {
         return Ok(end);
     }
-    let head = Head::of(word);
+    let head = Head::from(word);
     let from = at + 1 + head.parents;
     let to = from + head.rows;
-    let asked = EntityRequest::of(row);
+    let asked = EntityRequest::from(row);
     let node = asked.node as usize;
     let Some(next) = find_remaining_entities(nodes, node, &words[from..to], rows, end) else {
         return Err(Refusal { number: 14, place });

@@ -18,7 +18,7 @@ fn write_batch(rows: &[u64], first: u64, out: &mut [u64])
     ensures { out.new ≡ sets out.old 0 (map (λ w. request_word (numbered first (row_asked w))) rows.now) }
 {
     for i in 0..rows.len() {
-        let row = EntityRequest::of(rows[i]);
+        let row = EntityRequest::from(rows[i]);
         let asked = EntityRequest {
             id: row.id,
             node: first + row.node,

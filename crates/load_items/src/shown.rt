@@ -121,7 +121,7 @@ impl Left {
                 rows: less(self.rows),
             };
         }
-        let head = Head::of(word);
+        let head = Head::from(word);
         print(b" #");
         io::print_decimal(STDOUT_FILENO, head.flag);
         Left {

@@ -11,7 +11,7 @@ fn write_entity(to: To, entity: &[u64]) -> Result<(), Failure> {
     let Some((word, behind)) = entity.split_first() else {
         return Ok(());
     };
-    let head = Head::of(*word);
+    let head = Head::from(*word);
     write_line(to, b'E', &[head.flag])?;
     if behind.len() < head.parents {
         return Ok(());

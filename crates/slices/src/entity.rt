@@ -38,7 +38,7 @@ pub struct Ancestors<'a> {
 fn asks_for(row: u64, head: u64, entity: u64) -> bool
     ensures { result ≡ asks_for row head entity }
 {
-    if EntityRequest::of(row).id == entity {
+    if EntityRequest::from(row).id == entity {
         return head != 0;
     }
     false
@@ -49,7 +49,7 @@ fn rows_start(words: &[u64], place: usize) -> usize
     requires { EntityStands words.now place }
     ensures { result ≡ place + 1 + parent_count words.now place }
 {
-    let head = Head::of(words[place]);
+    let head = Head::from(words[place]);
     place + 1 + head.parents
 }
 
@@ -58,7 +58,7 @@ fn rows_end(words: &[u64], place: usize) -> usize
     requires { EntityStands words.now place }
     ensures { result ≡ place + 1 + parent_count words.now place + row_count words.now place }
 {
-    let head = Head::of(words[place]);
+    let head = Head::from(words[place]);
     rows_start(words, place) + head.rows
 }
 

@@ -8,8 +8,8 @@ pub struct EntityRequest {
     pub node: u64,
 }
 
-impl EntityRequest {
-    pub fn of(word: u64) -> EntityRequest
+impl From<u64> for EntityRequest {
+    fn from(word: u64) -> EntityRequest
         ensures { (result.id ≡ (row_asked word).id) × (result.node ≡ (row_asked word).node) }
     {
         EntityRequest {
@@ -17,7 +17,9 @@ impl EntityRequest {
             node: word / 0x1_0000,
         }
     }
+}
 
+impl EntityRequest {
     pub fn word(self) -> u64
         requires { (self.id < 2 ^ 16) × (self.node < 2 ^ 48) }
         ensures { result ≡ request_word (record { id = self.id; node = self.node }) }

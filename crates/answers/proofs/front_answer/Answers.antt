@@ -19,7 +19,7 @@ returns-then-word-eq0 c = sym (front_absent c.args.words.now (omega arith) c.if-
 
 pub is_entity-requires : goal.is_entity-requires
 is_entity-requires c = (
-  rw c.of-head.ensures (omega (arith, c.shared_slice_known-2-1.given 0)),
+  rw c.from-head.ensures (omega (arith, c.shared_slice_known-2-1.given 0)),
   simp (length-take, length-drop) (omega (arith, c.requires, c.if-words-eq0.false)),
 )
 
@@ -29,7 +29,7 @@ entity :
     front_of (answer_at c.args.words.now) ≡ cond c.is_entity.result (Some (1 + words_behind Answers (get_or c.args.words.now 0 0))) None
 entity c =
     front_entity c.args.words.now c.is_entity.result (omega arith) c.if-word-eq0.false
-    (sym (rw c.of-head.ensures at c.is_entity.ensures))
+    (sym (rw c.from-head.ensures at c.is_entity.ensures))
 
 pub returns-then-not-is_entity : goal.returns-then-not-is_entity
 returns-then-not-is_entity c =

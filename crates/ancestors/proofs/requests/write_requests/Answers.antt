@@ -60,7 +60,7 @@ pub overflow_sub-head : goal.overflow_sub-head
 overflow_sub-head c = omega (arith, (ids (goal.at.overflow_sub-head c).Joined-has_ancestors_trie).wrote.after)
 
 pub word-requires : goal.word-requires
-word-requires c = (omega (arith, c.of.ensures.0), omega (arith, (ids (goal.at.word-requires c).Joined-has_ancestors_trie).wrote.after, (ids (goal.at.word-requires c).Joined-has_ancestors_trie).few))
+word-requires c = (omega (arith, c.from.ensures.0), omega (arith, (ids (goal.at.word-requires c).Joined-has_ancestors_trie).wrote.after, (ids (goal.at.word-requires c).Joined-has_ancestors_trie).few))
 
 pub overflow_add-out : goal.overflow_add-out
 overflow_add-out c = omega (arith, c.loop-i-test.true, c.well_formed)
@@ -75,7 +75,7 @@ pub loop-i-preserved : goal.loop-i-preserved
 loop-i-preserved c = (
   (lengths (goal.at.loop-i-preserved c).Joined-has_ancestors_trie).0,
   (lengths (goal.at.loop-i-preserved c).Joined-has_ancestors_trie).1,
-  writing_next _ _ _ _ c.requires.may_write c.loop-i.invariant.2 c.loop-i-test.true (ids (goal.at.loop-i-preserved c).Joined-has_ancestors_trie) (c.word.ensures ∙ ap (λ id. head_of id (c.if-has_ancestors_trie.at - c.loop-i.at)) c.of.ensures.0),
+  writing_next _ _ _ _ c.requires.may_write c.loop-i.invariant.2 c.loop-i-test.true (ids (goal.at.loop-i-preserved c).Joined-has_ancestors_trie) (c.word.ensures ∙ ap (λ id. head_of id (c.if-has_ancestors_trie.at - c.loop-i.at)) c.from.ensures.0),
 )
 
 pub bounds-out-0 : goal.bounds-out-0

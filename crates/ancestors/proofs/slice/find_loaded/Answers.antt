@@ -12,13 +12,13 @@ pub loop-at-init : goal.loop-at-init
 loop-at-init c = (omega arith, record { most = length c.args.slice.now; enough = omega arith; sofar = refl })
 
 pub overflow_add-at-in-loop-at : goal.overflow_add-at-in-loop-at
-overflow_add-at-in-loop-at c = omega (arith, ap (λ (h : Head). h.parents) c.of-head.ensures, c.well_formed.0.1)
+overflow_add-at-in-loop-at c = omega (arith, ap (λ (h : Head). h.parents) c.from-head.ensures, c.well_formed.0.1)
 
 pub overflow_add-start : goal.overflow_add-start
 overflow_add-start c =
     omega (
       arith,
-      ap (λ (h : Head). h.rows) c.of-head.ensures,
+      ap (λ (h : Head). h.rows) c.from-head.ensures,
       c.min-start.ensures,
       c.well_formed.0.1,
       c.shared_slice_known-in-loop-at-1.given c.loop-at.at,
@@ -26,16 +26,16 @@ overflow_add-start c =
 
 pub returns-then-head-id : goal.returns-then-head-id
 returns-then-head-id c =
-    found_here c.loop-at.invariant.1 c.loop-at-test.true _ _ (rw c.of-head.ensures at c.min-start.ensures)
-    (rw c.of-head.ensures at c.min-end.ensures) _ refl (rw c.of-head.ensures at c.if-head-id.true)
+    found_here c.loop-at.invariant.1 c.loop-at-test.true _ _ (rw c.from-head.ensures at c.min-start.ensures)
+    (rw c.from-head.ensures at c.min-end.ensures) _ refl (rw c.from-head.ensures at c.if-head-id.true)
 
 -- the place after the entity
 past :
     (c : After-min-end) →
     (c.loop-at.at < c.min-end.result) × (c.min-end.result ≤ length c.args.slice.now) × (c.min-start.result ≤ c.min-end.result)
 past c =
-    past_entity c.loop-at.invariant.1 c.loop-at-test.true _ _ (rw c.of-head.ensures at c.min-start.ensures)
-    (rw c.of-head.ensures at c.min-end.ensures)
+    past_entity c.loop-at.invariant.1 c.loop-at-test.true _ _ (rw c.from-head.ensures at c.min-start.ensures)
+    (rw c.from-head.ensures at c.min-end.ensures)
 
 pub offset_bounds-slice-start : goal.offset_bounds-slice-start
 offset_bounds-slice-start c = omega (arith, past (goal.at.offset_bounds-slice-start c).After-min-end, c.well_formed.0.1)
@@ -55,8 +55,8 @@ loop-at-smaller c = omega (arith, past (goal.at.loop-at-smaller c).After-min-end
 pub loop-at-preserved : goal.loop-at-preserved
 loop-at-preserved c = (
   (past (goal.at.loop-at-preserved c).After-min-end).1,
-  passing_next c.loop-at.invariant.1 c.loop-at-test.true _ _ (rw c.of-head.ensures at c.min-start.ensures)
-      (rw c.of-head.ensures at c.min-end.ensures) (rw c.of-head.ensures at c.if-head-id.false),
+  passing_next c.loop-at.invariant.1 c.loop-at-test.true _ _ (rw c.from-head.ensures at c.min-start.ensures)
+      (rw c.from-head.ensures at c.min-end.ensures) (rw c.from-head.ensures at c.if-head-id.false),
 )
 
 pub returns : goal.returns

@@ -3,7 +3,7 @@ use native.Mathlib.Omega.{arith}
 use Rattle.answers.proofs.Lending.behind.Goals as goal
 
 pub overflow_add-result : goal.overflow_add-result
-overflow_add-result c = rw c.of-head.ensures (omega (arith, c.ranges.word))
+overflow_add-result c = rw c.from-head.ensures (omega (arith, c.ranges.word))
 
 pub returns-in-Answers : goal.returns-in-Answers
-returns-in-Answers c = rw (c.in-Answers.is, c.of-head.ensures)
+returns-in-Answers c = rw (c.in-Answers.is, c.from-head.ensures)

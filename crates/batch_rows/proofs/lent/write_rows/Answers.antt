@@ -15,8 +15,8 @@ loop-i-preserved c =
     let out = c.args.out.now in
     let rows = map request_of c.args.words.now in
     let many = length-map c.args.words.now request_of in
-    let row_is : c.of.result ≡ get_or rows c.loop-i.i (request_of 0) =
-    same_request c.of.result (get_or c.args.words.now c.loop-i.i 0) c.of.ensures.0 c.of.ensures.1 ∙ sym (get_or-map request_of c.args.words.now c.loop-i.i 0) in
+    let row_is : c.from.result ≡ get_or rows c.loop-i.i (request_of 0) =
+    same_request c.from.result (get_or c.args.words.now c.loop-i.i 0) c.from.ensures.0 c.from.ensures.1 ∙ sym (get_or-map request_of c.args.words.now c.loop-i.i 0) in
     ap (λ (r : EntityRequest). set c.loop-i.out c.loop-i.i r) row_is
     ∙ ap (λ (l : List EntityRequest). set l c.loop-i.i (get_or rows c.loop-i.i (request_of 0))) (c.loop-i.invariant ∙ sym (copy_begins out rows c.loop-i.i (omega (arith, many, c.loop-i-test.true))))
     ∙ copy_next out rows c.loop-i.i (request_of 0) (omega (arith, c.requires, c.loop-i-test.true)) (omega (arith, many, c.loop-i-test.true))

@@ -8,11 +8,11 @@ pub overflow_add-result : goal.overflow_add-result
 overflow_add-result c =
     omega (
       arith,
-      ap (λ (h : Head). h.rows) c.of-head.ensures,
+      ap (λ (h : Head). h.rows) c.from-head.ensures,
       c.rows_start.ensures,
       c.requires.fits,
       c.before.before.before.before.before,
     )
 
 pub returns : goal.returns
-returns c = omega (arith, ap (λ (h : Head). h.rows) c.of-head.ensures, c.rows_start.ensures)
+returns c = omega (arith, ap (λ (h : Head). h.rows) c.from-head.ensures, c.rows_start.ensures)

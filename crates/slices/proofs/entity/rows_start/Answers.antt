@@ -8,10 +8,10 @@ pub overflow_add-result-2 : goal.overflow_add-result-2
 overflow_add-result-2 c =
     omega (
       arith,
-      ap (λ (h : Head). h.parents) c.of-head.ensures,
+      ap (λ (h : Head). h.parents) c.from-head.ensures,
       c.requires.fits,
       c.before.before.before.before,
     )
 
 pub returns : goal.returns
-returns c = omega (arith, ap (λ (h : Head). h.parents) c.of-head.ensures)
+returns c = omega (arith, ap (λ (h : Head). h.parents) c.from-head.ensures)
