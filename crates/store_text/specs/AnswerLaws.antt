@@ -188,18 +188,6 @@ pub record AmongMerged (us asked out₀ : List ℕ) (to : ℕ) (out : List ℕ) 
   pub ups : IdsFrom 0 (drop j us)
   pub total : among_of us asked ≡ done ++ among_of (drop j us) (drop i asked)
 
-pub merging_none : (us asked out : List ℕ) (to : ℕ) → IdsFrom 0 us → IdsFrom 0 asked → AmongMerged us asked out to out to 0 0
-merging_none us asked out to ups asks = record {
-  done = [];
-  wrote = record { after = omega arith; text = refl };
-  few = omega arith;
-  inside = omega arith;
-  reached = omega arith;
-  asks = asks;
-  ups = ups;
-  total = refl;
-}
-
 module _ {us asked out₀ : List ℕ} {to : ℕ} {out : List ℕ} {next i j : ℕ} (merging : AmongMerged us asked out₀ to out next i j) where
   -- no id is left, or no ancestor
   all_done : among_of (drop j us) (drop i asked) ≡ [] → Wrote out₀ to (among_of us asked) out next

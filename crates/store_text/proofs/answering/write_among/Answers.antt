@@ -2,10 +2,10 @@
 use Prim.Native.Nat.{◌<◌}
 use native.Mathlib.Omega.{arith}
 use mathlib.Core.List.{map}
-use mathlib.Core.Path.{◌≡◌, refl, ◌∙◌}
+use mathlib.Core.Path.{◌≡◌, ◌∙◌}
 use lib.ListN.{length, get_or, length-map, length-set, get_or-map}
 use Rattle.store_text.specs.Answering.{id_in}
-use Rattle.store_text.specs.AnswerLaws.{merging_none, merging_asked, merging_us, merging_below, merging_same, merging_above}
+use Rattle.store_text.specs.AnswerLaws.{merging_asked, merging_us, merging_below, merging_same, merging_above}
 use Rattle.store_text.proofs.answering.write_among.Goals as goal
 use Rattle.store_text.proofs.answering.write_among.Goals.{then-there-id-2, else-there-id-2, Else-j-ancestors}
 
@@ -22,41 +22,11 @@ there : (c : Else-j-ancestors) →
     get_or (map id_in c.args.ancestors.now) c.loop-i.j 0 ≡ id_in (get_or c.args.ancestors.now c.loop-i.j 0)
 there c = get_or-map id_in c.args.ancestors.now c.loop-i.j 0
 
--- the next id has room
-room : (c : Else-j-ancestors) → c.loop-i.next < length c.loop-i.out
-room c =
-    omega (arith, c.loop-i.invariant.1, c.loop-i-test.true, c.loop-i.invariant.4, c.requires)
-
-pub loop-i-init : goal.loop-i-init
-loop-i-init c = (
-  omega arith,
-  omega arith,
-  omega arith,
-  omega arith,
-  refl,
-  merging_none (map id_in c.args.ancestors.now) c.args.asked.now c.args.out.now c.args.to,
-)
-
-pub shape_of-out-then-j-ancestors : goal.shape_of-out-then-j-ancestors
-shape_of-out-then-j-ancestors c = c.loop-i.invariant.4
-
 pub returns-then-j-ancestors : goal.returns-then-j-ancestors
 returns-then-j-ancestors c = (
   c.loop-i.invariant.0,
   λ ups asks. merging_us (c.loop-i.invariant.5 ups asks) (omega (arith, c.if-j-ancestors.true, length-map c.args.ancestors.now id_in)),
 )
-
-pub offset_bounds-ancestors-j : goal.offset_bounds-ancestors-j
-offset_bounds-ancestors-j c = omega (arith, left (goal.at.offset_bounds-ancestors-j c).Else-j-ancestors)
-
-pub bounds-ancestors-j : goal.bounds-ancestors-j
-bounds-ancestors-j c = omega (arith, left (goal.at.bounds-ancestors-j c).Else-j-ancestors)
-
-pub overflow_add-j : goal.overflow_add-j
-overflow_add-j c = omega (arith, left (goal.at.overflow_add-j c).Else-j-ancestors)
-
-pub loop-i-smaller-then-there-id : goal.loop-i-smaller-then-there-id
-loop-i-smaller-then-there-id c = omega (arith, left (goal.at.loop-i-smaller-then-there-id c).Else-j-ancestors, c.loop-i-test.true)
 
 pub loop-i-preserved-then-there-id : goal.loop-i-preserved-then-there-id
 loop-i-preserved-then-there-id c = (
@@ -67,18 +37,6 @@ loop-i-preserved-then-there-id c = (
   c.loop-i.invariant.4,
   λ ups asks. merging_below (c.loop-i.invariant.5 ups asks) c.loop-i-test.true (others (goal.at.loop-i-preserved-then-there-id c).Else-j-ancestors) (rw (there (goal.at.loop-i-preserved-then-there-id c).Else-j-ancestors) c.if-there-id.true),
 )
-
-pub offset_bounds-out-next : goal.offset_bounds-out-next
-offset_bounds-out-next c = omega (arith, room (goal.at.offset_bounds-out-next c).Else-j-ancestors)
-
-pub bounds-out-next : goal.bounds-out-next
-bounds-out-next c = omega (arith, room (goal.at.bounds-out-next c).Else-j-ancestors)
-
-pub overflow_add-next : goal.overflow_add-next
-overflow_add-next c = omega (arith, room (goal.at.overflow_add-next c).Else-j-ancestors)
-
-pub loop-i-smaller : goal.loop-i-smaller
-loop-i-smaller c = omega (arith, c.loop-i-test.true)
 
 pub loop-i-preserved : goal.loop-i-preserved
 loop-i-preserved c =
@@ -104,9 +62,6 @@ loop-i-preserved c =
                 merging_above (c.loop-i.invariant.5 ups asks) c.loop-i-test.true (others at.Else-j-ancestors) (rw (there at.Else-j-ancestors) (omega (arith, c.if-there-id.false, w.if-there-id-2.false))),
           )
     ]
-
-pub shape_of-out : goal.shape_of-out
-shape_of-out c = c.loop-i.invariant.4
 
 pub returns : goal.returns
 returns c =

@@ -2,15 +2,12 @@
 -- has one has the least place.
 use Prim.Native.Nat.{◌-◌, ◌≤◌, ◌<◌}
 use native.Mathlib.Omega.{arith}
-use mathlib.Core.Path.{refl, ◌∙◌}
+use mathlib.Core.Path.{◌∙◌}
 use lib.ListN.{length, take, drop, length-drop}
 use lib.Seq.{length-take-le}
-use Rattle.store_text.specs.OrderLaws.{Parts, passing_none, passing_all, next_pass, passing_found, passing_next}
+use Rattle.store_text.specs.OrderLaws.{Parts, passing_all, next_pass, passing_found, passing_next}
 use Rattle.store_text.proofs.order.first_unordered.Goals as goal
 use Rattle.store_text.proofs.order.first_unordered.Goals.{After-run_end-end, In-Some}
-
-pub loop-i-init : goal.loop-i-init
-loop-i-init c = (refl, omega arith, passing_none c.args.words.now)
 
 -- where the parts of the next entity end
 parts : (c : After-run_end-end) →
@@ -33,18 +30,6 @@ ends c =
     let p = parts c in
     (omega (arith, p.parents), omega (arith, p.ancestors), omega (arith, p.rows), c.run_end-end.ensures.1)
 
-pub offset_bounds-words-start : goal.offset_bounds-words-start
-offset_bounds-words-start c = omega (arith, ends (goal.at.offset_bounds-words-start c).After-run_end-end)
-
-pub slice_bounds-first_misplaced-count : goal.slice_bounds-first_misplaced-count
-slice_bounds-first_misplaced-count c = omega (arith, ends (goal.at.slice_bounds-first_misplaced-count c).After-run_end-end)
-
-pub slice_bounds-first_misplaced-start : goal.slice_bounds-first_misplaced-start
-slice_bounds-first_misplaced-start c = omega (arith, ends (goal.at.slice_bounds-first_misplaced-start c).After-run_end-end)
-
-pub slice_bounds-first_misplaced-end : goal.slice_bounds-first_misplaced-end
-slice_bounds-first_misplaced-end c = omega (arith, ends (goal.at.slice_bounds-first_misplaced-end c).After-run_end-end)
-
 pub first_misplaced-requires : goal.first_misplaced-requires
 first_misplaced-requires c =
     let (es, holds) = c.requires.0 in (
@@ -64,20 +49,11 @@ own c =
     let there : c.in-Some.first < length (take (c.run_end-end.result - c.run_end-start.result) (drop c.run_end-start.result c.args.words.now)) = c.first_misplaced.ensures.within _ c.in-Some.is in
     omega (arith, there, length-take-le (c.run_end-end.result - c.run_end-start.result) (drop c.run_end-start.result c.args.words.now) (omega (arith, c.run_end-end.ensures.1, length-drop c.run_end-start.result c.args.words.now)))
 
-pub overflow_add-result : goal.overflow_add-result
-overflow_add-result c = omega (arith, own (goal.at.overflow_add-result c).In-Some, ends (goal.at.overflow_add-result c).After-run_end-end)
-
-pub shape_of-levels-in-Some : goal.shape_of-levels-in-Some
-shape_of-levels-in-Some c = c.first_misplaced.auto.levels ∙ c.loop-i.invariant.0
-
 pub returns-in-Some : goal.returns-in-Some
 returns-in-Some c =
     let here = own (goal.at.returns-in-Some c).In-Some in
     passing_found (parts (goal.at.returns-in-Some c).After-run_end-end) c.first_misplaced.ensures c.in-Some.is here
     (omega (arith, here, ends (goal.at.returns-in-Some c).After-run_end-end)) c.loop-i.invariant.2
-
-pub loop-i-smaller : goal.loop-i-smaller
-loop-i-smaller c = omega (arith, ends (goal.at.loop-i-smaller c).After-run_end-end)
 
 pub loop-i-preserved : goal.loop-i-preserved
 loop-i-preserved c = (
@@ -85,9 +61,6 @@ loop-i-preserved c = (
   (ends (goal.at.loop-i-preserved c).After-run_end-end).3,
   λ es holds. passing_next (parts (goal.at.loop-i-preserved c).After-run_end-end) c.first_misplaced.ensures c.in_default.is (c.loop-i.invariant.2 es holds),
 )
-
-pub shape_of-levels : goal.shape_of-levels
-shape_of-levels c = c.loop-i.invariant.0
 
 pub returns : goal.returns
 returns c =
