@@ -630,7 +630,6 @@ pub record Longest (code places : List ℕ) (most i : ℕ) : Type 0 where
   pub within : AllWithin code (drop i places)
   pub left : larger most (longest (paths_at code (drop i places))) ≡ longest (paths_at code places)
 
-
 pub longest_first : (code places : List ℕ) → AllWithin code places → Longest code places 0 0
 longest_first code places within = record { within = within; left = simp larger_max (omega arith) }
 

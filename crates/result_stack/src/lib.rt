@@ -134,12 +134,7 @@ pub fn push(
 }
 
 // Merges the tries of the top results into one, and answers where it begins, unless it has too many nodes. `merged` is scratch.
-pub fn merge_tries(
-    tries: &mut [u64],
-    at: usize,
-    count: u64,
-    merged: &mut [u64],
-) -> Option<usize>
+pub fn merge_tries(tries: &mut [u64], at: usize, count: u64, merged: &mut [u64]) -> Option<usize>
     requires { TriesAt tries.old at count × (length merged.old ≡ 1026) }
     ensures { TriesMergedFrom tries.old at count tries.new result }
 {

@@ -43,7 +43,12 @@ pub struct EntityManifestAnalysisResult {}
 
 impl EntityManifestAnalysisResult {
     // `from_root`: a path that is its root.
-    pub fn from_root(root: u64, code: &mut [u16], tries: &mut [u64], stack: Stack) -> Result<Stack, StepRefusal>
+    pub fn from_root(
+        root: u64,
+        code: &mut [u16],
+        tries: &mut [u64],
+        stack: Stack,
+    ) -> Result<Stack, StepRefusal>
         requires { Holding code.old tries.old stack }
         ensures { StepsBy (λ place results. judged place (from_root root) results) code.old tries.old stack code.new tries.new result }
     {
@@ -63,7 +68,12 @@ impl EntityManifestAnalysisResult {
     }
 
     // `union`: tries merged, paths joined; `trie` is scratch.
-    pub fn union(code: &mut [u16], tries: &mut [u64], trie: &mut [u64], stack: Stack) -> Result<Stack, StepRefusal>
+    pub fn union(
+        code: &mut [u16],
+        tries: &mut [u64],
+        trie: &mut [u64],
+        stack: Stack,
+    ) -> Result<Stack, StepRefusal>
         requires { Working code.old tries.old trie.old stack }
         ensures { StepsBy (λ place results. two_step union_results place results) code.old tries.old stack code.new tries.new result }
     {
@@ -75,7 +85,11 @@ impl EntityManifestAnalysisResult {
     }
 
     // `empty_paths`
-    pub fn empty_paths(code: &mut [u16], tries: &mut [u64], stack: Stack) -> Result<Stack, StepRefusal>
+    pub fn empty_paths(
+        code: &mut [u16],
+        tries: &mut [u64],
+        stack: Stack,
+    ) -> Result<Stack, StepRefusal>
         requires { Holding code.old tries.old stack }
         ensures { StepsBy (λ place results. drop_step place results) code.old tries.old stack code.new tries.new result }
     {
@@ -93,7 +107,12 @@ impl EntityManifestAnalysisResult {
 }
 
 // A set literal of the top result; `trie` is scratch.
-pub fn set_step(code: &mut [u16], tries: &mut [u64], trie: &mut [u64], stack: Stack) -> Result<Stack, StepRefusal>
+pub fn set_step(
+    code: &mut [u16],
+    tries: &mut [u64],
+    trie: &mut [u64],
+    stack: Stack,
+) -> Result<Stack, StepRefusal>
     requires { Working code.old tries.old trie.old stack }
     ensures { StepsBy (λ place results. set_step place results) code.old tries.old stack code.new tries.new result }
 {

@@ -1,7 +1,7 @@
 -- Laws of wrapped paths as words: what stands at a head, how far wrapped paths go, and what `attr` makes of them, head by head.
 -- No contract cites this file.
 use Rattle.std.specs.Prelude.{Option as Maybe, Some, None, Bool, true, false, cond, eqb, ℕ, suc, ◌+◌, ◌*◌, ◌-◌, ◌/◌, ◌%◌, ◌≤◌, ◌<◌, ◌≡◌, List, [], ◌∷◌, ◌++◌, map, take, drop, set}
-use Rattle.std.proofs.Common.{add-zero, add_assoc, add-one, arith, ap, ◌∙◌, append_assoc, append-nil, length-append, length-drop, length-set, drop_of_length-le, drop-drop, get_or-drop, drop-cons, take-suc-set, length-take-le}
+use Rattle.std.proofs.Common.{add-zero, add_assoc, add-one, arith, ap, ◌∙◌, append_assoc, append-nil, length-append, length-drop, length-set, drop-drop, get_or-drop, take-suc-set, length-take-le}
 use Rattle.std.proofs.Math.Path.{refl, sym}
 use Rattle.std.proofs.Math.Dec.{ltb}
 use Rattle.std.proofs.lemmas.Bool.{ltb-true, ltb-false}
@@ -431,7 +431,7 @@ place_in names name place false same h = omega (arith, ltb-false place (length n
 pub place_found :
     (names : List ℕ) (name : ℕ) (found : Maybe ℕ)
     → let place = position_or_len (λ other. eqb other name) names in
-      found ≡ cond (ltb place (length names)) (Some place) None → IsPlace names name found
+    found ≡ cond (ltb place (length names)) (Some place) None → IsPlace names name found
 place_found names name found e =
     let place = position_or_len (λ other. eqb other name) names in
     rw e (place_in names name place (ltb place (length names)) (place_first names name) refl)

@@ -2,7 +2,6 @@
 use Prim.Native.Nat.{◌+◌, ◌≤◌, ◌<◌}
 use lib.ListN.{get_or, length}
 use Rattle.rules.specs.Paths.{add_access_path, type_to_access_trie}
-use Rattle.rules.proofs.TypeLaws.{types_in}
 use Rattle.rows.specs.States.{rows_in}
 use Rattle.wrapped_paths.specs.Code.{steps_at, path_at, AllWithin}
 use Rattle.path_tries.specs.Nodes.{Became}

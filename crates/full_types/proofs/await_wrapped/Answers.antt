@@ -25,8 +25,8 @@ pub returns-in-Empty : goal.returns-in-Empty
 returns-in-Empty c =
     let a = c.args in
     elim c.in-Empty.is [
-      inl e ↦ empty_stacked a.code.now (items_of a.types.now.words.now) a.at a.t a.waiting.now a.left (sym e ∙ c.requires.said) (omega (arith, meeting_room c.requires))
-    | inr (kind, steps, e) ↦ path_stacked a.code.now (items_of a.types.now.words.now) a.at a.t a.waiting.now a.left (sym e ∙ c.requires.said) (omega (arith, meeting_room c.requires))
+      | inl e ↦ empty_stacked a.code.now (items_of a.types.now.words.now) a.at a.t a.waiting.now a.left (sym e ∙ c.requires.said) (omega (arith, meeting_room c.requires))
+      | inr (kind, steps, e) ↦ path_stacked a.code.now (items_of a.types.now.words.now) a.at a.t a.waiting.now a.left (sym e ∙ c.requires.said) (omega (arith, meeting_room c.requires))
     ]
 
 pub returns-in-Union : goal.returns-in-Union

@@ -1,6 +1,6 @@
 -- `full_types::has_all` meets its contract: the attributes that are passed are named.
 use Prim.Native.Nat.{◌/◌, ◌^◌}
-use mathlib.Core.Path.{sym, ap, ◌∙◌}
+use mathlib.Core.Path.{ap}
 use lib.ListN.{get_or}
 use Rattle.rules.specs.Schema.{Item}
 use Rattle.wrapped_paths.specs.Code.{IsPlace}

@@ -1,5 +1,3 @@
-use Prim.Native.Nat.{◌-◌}
-use lib.ListN.{length}
 use Rattle.full_types.specs.FullLaws.{Checking}
 use Rattle.full_types.proofs.has_all.Given as goal
 

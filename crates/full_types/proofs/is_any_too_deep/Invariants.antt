@@ -1,5 +1,3 @@
-use Prim.Native.Nat.{◌-◌}
-use lib.ListN.{length}
 use Rattle.full_types.specs.FullLaws.{LookingTaken}
 use Rattle.full_types.proofs.is_any_too_deep.Given as goal
 

@@ -1,4 +1,4 @@
-use Prim.Native.Nat.{◌-◌, ◌≤◌}
+use Prim.Native.Nat.{◌≤◌}
 use lib.ListN.{length}
 use Rattle.path_tries.specs.NodeLaws.{DepthsPassed}
 use Rattle.path_tries.proofs.is_too_deep.Given as goal

@@ -1,4 +1,4 @@
-use Prim.Native.Nat.{◌-◌, ◌≤◌}
+use Prim.Native.Nat.{◌≤◌}
 use lib.ListN.{length}
 use Rattle.path_tries.specs.NodeLaws.{Lowered}
 use Rattle.path_tries.proofs.write_deeper.Given as goal

@@ -18,8 +18,8 @@ pub returns-in-Empty : goal.returns-in-Empty
 returns-in-Empty c =
     let a = c.args in
     elim c.in-Empty.is [
-      inl e ↦ turned_empty a.code.now a.out.now c.keep_head-moved.new.out a.at a.name a.to c.keep_head-moved.result (sym c.requires.1 ∙ e) c.keep_head-moved.ensures
-    | inr e ↦ turned_union a.code.now a.out.now c.keep_head-moved.new.out a.at a.name a.to c.keep_head-moved.result (sym c.requires.1 ∙ e) c.keep_head-moved.ensures
+      | inl e ↦ turned_empty a.code.now a.out.now c.keep_head-moved.new.out a.at a.name a.to c.keep_head-moved.result (sym c.requires.1 ∙ e) c.keep_head-moved.ensures
+      | inr e ↦ turned_union a.code.now a.out.now c.keep_head-moved.new.out a.at a.name a.to c.keep_head-moved.result (sym c.requires.1 ∙ e) c.keep_head-moved.ensures
     ]
 
 pub returns-in-AccessPath : goal.returns-in-AccessPath
