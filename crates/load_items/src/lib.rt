@@ -4,5 +4,5 @@
 mod items;
 mod shown;
 
-pub use crate::items::{number_at, read_field, read_words};
-pub use crate::shown::{Handed, print_number, print_pair, show_values, show_words};
+pub use crate::items::{number_of, words_of};
+pub use crate::shown::{Handed, Shown, Values};

@@ -2,140 +2,91 @@
 // Rust's answer.
 #![tactic(auto)]
 
-use cases::print;
+use cases::{Case, Refused};
 use entity_manifest::{Kind, Refusal};
 use schema::Schema;
-use text::Line;
+use std::io;
 
 const TEXT: usize = 65_536;
 
-// Says an answer after a gap, or, where the line ends with the published Rust's answer, whether it is that.
-fn tell(line: &[u8], gap: &[u8], answer: &[u8]) {
-    if cases::is_word(line, 3, b"") {
-        print(gap);
-        print(answer);
-    } else {
-        cases::compare_rust(line, 3, answer);
-    }
+// Writes the listing of a state into `out`, and answers its bytes.
+fn listing_of<'a>(kind: Kind, state: &[u64], out: &'a mut [u8]) -> Result<&'a [u8], Refusal> {
+    let n = entity_manifest::write_listing(kind, state, out)?;
+    Ok(out.get(..n).unwrap_or(&[]))
 }
 
-fn tell_refused(line: &[u8], number: u64, place: u64) {
-    let mut out = [0u8; 64];
-    let end = cases::say_refused(&mut out, number, place);
-    tell(line, b"", &out[..end]);
-}
-
-fn tell_listing(line: &[u8], kind: Kind, state: &[u64]) {
-    let mut out = [0u8; TEXT];
-    let written = entity_manifest::write_listing(kind, state, &mut out);
-    match written {
-        Err(Refusal { number, place }) => tell_refused(line, number, place),
-        Ok(n) => {
-            if n <= TEXT {
-                tell(line, b"\n", &out[..n]);
-            }
-        }
-    }
-}
-
-// Analyses the step text of a line with a schema.
-fn ask_steps(line: &[u8], schema: &[u64]) {
-    let mut text = [0u8; TEXT];
-    let n = cases::decode_field(line, 2, &mut text);
+// Analyses a step text with a schema: the listing of the contribution that it makes.
+fn analyse<'a>(schema: &[u64], steps: &[u8], out: &'a mut [u8]) -> Result<&'a [u8], Refusal> {
     let mut state = [0u64; 1_026];
-    let reply = entity_manifest::analyse(schema, 42_982_440_980, &text[..n], &mut state);
-    match reply {
-        Err(Refusal { number, place }) => tell_refused(line, number, place),
-        Ok(()) => tell_listing(line, Kind::Contribution, &state),
-    }
+    entity_manifest::analyse(schema, 42_982_440_980, steps, &mut state)?;
+    listing_of(Kind::Contribution, &state, out)
 }
 
-// Adds the policy text of a field to a manifest, and answers whether it was accepted.
-fn add_text(line: &[u8], field: usize, schema: &[u64], manifest: &mut [u64]) -> bool {
-    let mut text = [0u8; TEXT];
-    let n = cases::decode_field(line, field, &mut text);
-    let reply = entity_manifest::add_policy(schema, &text[..n], manifest);
-    if let Err(Refusal { number, place }) = reply {
-        tell_refused(line, number, place);
-        return false;
-    }
-    true
-}
-
-// Adds the policy texts of a line to an empty manifest; where a field is missing its text is empty and adds nothing.
-fn ask_policies(line: &[u8], schema: &[u64]) {
+// Adds policy texts to an empty manifest: its listing. An empty text adds nothing.
+fn add_policies<'a>(
+    schema: &[u64],
+    policies: &[Vec<u8>],
+    out: &'a mut [u8],
+) -> Result<&'a [u8], Refusal> {
     let mut manifest = [0u64; 4_161];
-    if add_text(line, 2, schema, &mut manifest) {
-        if add_text(line, 4, schema, &mut manifest) {
-            if add_text(line, 5, schema, &mut manifest) {
-                tell_listing(line, Kind::Manifest, &manifest);
-            }
-        }
+    for policy in policies {
+        entity_manifest::add_policy(schema, policy, &mut manifest)?;
     }
+    listing_of(Kind::Manifest, &manifest, out)
 }
 
-// Reads the schema of a line, and then its steps or its policy texts.
-fn ask(line: &[u8]) {
-    let mut text = [0u8; TEXT];
-    let n = cases::decode_field(line, 1, &mut text);
+// Reads a schema, and then analyses a step text or adds policy texts: the listing that comes of it.
+fn answer<'a>(
+    schema: &[u8],
+    texts: &[Vec<u8>],
+    are_policies: bool,
+    out: &'a mut [u8],
+) -> Result<&'a [u8], Refusal> {
     let mut state = [0u64; Schema::WORDS];
-    let reply = entity_manifest::read_schema(&text[..n], &mut state);
-    match reply {
-        Err(Refusal { number, place }) => tell_refused(line, number, place),
-        Ok(()) => {
-            if cases::is_word(line, 0, b"policy") {
-                ask_policies(line, &state);
-            } else {
-                ask_steps(line, &state);
+    entity_manifest::read_schema(schema, &mut state)?;
+    match texts {
+        [steps, ..] if !are_policies => analyse(&state, steps, out),
+        _ => add_policies(&state, texts, out),
+    }
+}
+
+// Says a case and its answer; of one with the Rust's answer its name alone, and whether the answer is that.
+fn replay(rt: &HostRuntime, case: Case) -> io::Result<()> {
+    let alloc = rt.alloc();
+    let schema = case.decoded(alloc, 1)?;
+    let texts = [
+        case.decoded(alloc, 2)?,
+        case.decoded(alloc, 4)?,
+        case.decoded(alloc, 5)?,
+    ];
+    let mut out = [0u8; TEXT];
+    let answer = answer(&schema, &texts, case.is(0, "policy"), &mut out);
+    if case.is(3, "") {
+        print!(rt; "{} -> ", case.line)?;
+        match answer {
+            Ok(listing) => {
+                println!(rt)?;
+                cases::print_bytes(rt, listing)?;
             }
+            Err(refusal) => print!(rt; "{}", Refused(refusal))?,
         }
-    }
-}
-
-// Says a case; one with the Rust's answer by its name alone.
-fn say_case(line: &[u8]) {
-    if cases::is_word(line, 3, b"") {
-        cases::print_case(line);
-        return;
-    }
-    cases::print_name(line, 0);
-}
-
-// One line of a data file: a comment, or a case and what comes of it.
-fn replay(line: &[u8]) {
-    if cases::is_comment(line) {
-        return;
-    }
-    say_case(line);
-    ask(line);
-    print(b"\n");
-}
-
-fn replay_all(text: &[u8]) {
-    let mut at = 0;
-    while at < text.len() {
-        let Line::Whole(end) = Line::at(text, at) else {
-            return;
+        println!(rt)
+    } else {
+        let expected = case.decoded(alloc, 3)?;
+        let is_same = match answer {
+            Ok(listing) => listing == expected.as_slice(),
+            Err(refusal) => format!(in alloc; "{}", Refused(refusal))?.as_bytes()
+                == expected.as_slice(),
         };
-        replay(&text[at..end]);
-        at = end + 1;
+        println!(rt; "{}: {}", case.field(0), cases::as_rust(is_same))
     }
 }
 
-fn replay_file(rt: HostRuntime, path: &str) {
-    let mut buffer = io::large_buffer();
-    let n = cases::read_file(rt, path, &mut buffer);
-    replay_all(&buffer[..n]);
-}
-
-fn main(rt: HostRuntime) {
-    replay_file(rt, "cases");
-    replay_file(rt, "cases2");
-    replay_file(rt, "cases3");
-    replay_file(rt, "cases4");
-    replay_file(rt, "cases5");
-    replay_file(rt, "cases6");
-    replay_file(rt, "cases7");
-    replay_file(rt, "cases8");
-    replay_file(rt, "oracle");
+fn main(rt: HostRuntime) -> io::Result<()> {
+    for path in [
+        "cases", "cases2", "cases3", "cases4", "cases5", "cases6", "cases7", "cases8", "oracle",
+    ] {
+        cases::replay(&rt, path, |case| replay(&rt, case))?;
+    }
+    Ok(())
 }

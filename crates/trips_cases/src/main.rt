@@ -1,138 +1,75 @@
 // Replays the vectors of data/: what a load for a request type takes at most by a manifest, or the refusal.
 #![tactic(auto)]
 
-ghost use Rattle.std.specs.Prelude.{◌≤◌, length};
+ghost use Rattle.std.specs.Prelude.{◌≤◌};
 
-use cases::{STDOUT_FILENO, print, print_refused};
-use entries::TripBound;
+use cases::{Case, Refused};
 use rows::Kind;
-use text::Line;
-use words::Refusal;
-
-// The longest text of a case.
-const TEXT: usize = 65_536;
+use std::alloc::Global;
+use std::io;
 
 // The words of a manifest, and one more, so that a buffer can be too long too.
 const MANIFEST: usize = 4_162;
 
 // The listing of a case, and many lines and an end behind it where the case is of that kind.
-fn text_of(line: &[u8], out: &mut [u8]) -> usize
-    ensures { result ≤ length out.new }
-{
-    let to = cases::say_part(out, 0, line, 2);
-    if cases::is_word(line, 0, b"many") {
-        let end = cases::say_many(out, to, line, 6, 7, 8);
-        return cases::say_part(out, end, line, 9);
+fn text_of(alloc: Global, case: Case) -> io::Result<Vec<u8>> {
+    let mut text = case.decoded(alloc, 2)?;
+    if case.is(0, "many") {
+        case.decode_many(6, 7, 8, &mut text)?;
+        case.decode(9, &mut text)?;
     }
-    to
-}
-
-// Reads the manifest of a case; a refusal is told.
-fn read_manifest(line: &[u8], state: &mut [u64]) -> bool {
-    let mut text = [0u8; TEXT];
-    let end = text_of(line, &mut text);
-    let reply = listing::read_listing(Kind::Manifest, &text[..end], state);
-    if let Err(Refusal { number, place }) = reply {
-        print(b"LISTING ");
-        print_refused(number, place);
-        return false;
-    }
-    true
-}
-
-// The number that a field writes in hexadecimal digits.
-fn hex_field(line: &[u8], n: usize) -> u64 {
-    let part = cases::nth(line, n);
-    let start = part.start;
-    let end = part.end;
-    cases::hex_number(&line[start..end])
+    Ok(text)
 }
 
 // The request type of a case, of three numbers, or as one where the case is of that kind.
-fn request_of(line: &[u8]) -> u64 {
-    if cases::is_word(line, 0, b"raw") {
-        return hex_field(line, 3);
+fn request_of(case: Case) -> u64 {
+    if case.is(0, "raw") {
+        case.word(3)
+    } else {
+        case.triple(3)
     }
-    (cases::number(line, 3) * 0x1_0000 + cases::number(line, 4)) * 0x1_0000 + cases::number(line, 5)
 }
 
 // Sets a word of the manifest, where the case is of that kind.
-fn set_word(line: &[u8], state: &mut [u64]) {
-    if !cases::is_word(line, 0, b"set") {
-        return;
-    }
-    let place = cases::number(line, 6) as usize;
-    if place < state.len() {
-        state[place] = hex_field(line, 7);
+fn set_word(case: Case, state: &mut [u64]) {
+    if case.is(0, "set")
+        && let Some(word) = state.get_mut(usize::from(case.number(6)))
+    {
+        *word = case.word(7);
     }
 }
 
 // How many words of the manifest are lent: all, but as many as a field says where the case is of that kind.
-fn lent(line: &[u8], whole: usize) -> usize
-    ensures { result ≤ whole }
+fn lent(case: Case) -> usize
+    ensures { result ≤ 4162 }
 {
-    if !cases::is_word(line, 0, b"lent") {
-        return whole;
-    }
-    let missing = cases::number(line, 6) as usize;
-    if whole < missing {
-        return 0;
-    }
-    whole - missing
-}
-
-// Says a bound.
-fn tell_bound(most: TripBound) {
-    print(b"rows ");
-    io::print_decimal(STDOUT_FILENO, most.rows);
-    print(b" batches ");
-    io::print_decimal(STDOUT_FILENO, most.batches);
-    print(b" ancestors ");
-    io::print_decimal(STDOUT_FILENO, most.ancestors);
-}
-
-// Asks for the bound, and says it.
-fn ask_bound(line: &[u8], state: &[u64]) {
-    let words = lent(line, state.len());
-    let bound = entries::trip_bound(&state[..words], request_of(line));
-    match bound {
-        Ok(most) => tell_bound(most),
-        Err(Refusal { number, place }) => print_refused(number, place),
+    if case.is(0, "lent") {
+        MANIFEST.saturating_sub(usize::from(case.number(6)))
+    } else {
+        MANIFEST
     }
 }
 
-// Reads the manifest of a case, and asks.
-fn ask(line: &[u8]) {
+// Reads the manifest of a case, asks for the bound, and says it.
+fn replay(rt: &HostRuntime, case: Case) -> io::Result<()> {
+    print!(rt; "{}: ", case.field(1))?;
+    let text = text_of(rt.alloc(), case)?;
     let mut state = [0u64; MANIFEST];
-    if read_manifest(line, &mut state) {
-        set_word(line, &mut state);
-        ask_bound(line, &state);
+    if let Err(refusal) = listing::read_listing(Kind::Manifest, &text, &mut state) {
+        return println!(rt; "LISTING {}", Refused(refusal));
+    }
+    set_word(case, &mut state);
+    match entries::trip_bound(&state[..lent(case)], request_of(case)) {
+        Ok(most) => {
+            println!(rt;
+                "rows {} batches {} ancestors {}",
+                most.rows, most.batches, most.ancestors
+            )
+        }
+        Err(refusal) => println!(rt; "{}", Refused(refusal)),
     }
 }
 
-// One line of the data file: a comment, or a case and what comes of it.
-fn replay(line: &[u8]) {
-    if cases::is_comment(line) {
-        return;
-    }
-    cases::print_name(line, 1);
-    ask(line);
-    print(b"\n");
-}
-
-fn replay_all(text: &[u8]) {
-    let mut at = 0;
-    while at < text.len() {
-        let Line::Whole(end) = Line::at(text, at) else {
-            return;
-        };
-        replay(&text[at..end]);
-        at = end + 1;
-    }
-}
-
-fn main(rt: HostRuntime) {
-    let mut buffer = io::large_buffer();
-    let n = cases::read_file(rt, "cases", &mut buffer);
-    replay_all(&buffer[..n]);
+fn main(rt: HostRuntime) -> io::Result<()> {
+    cases::replay(&rt, "cases", |case| replay(&rt, case))
 }

@@ -2,16 +2,15 @@
 // data/oracle the file stdout has the published Rust's answers.
 #![tactic(auto)]
 
-ghost use Rattle.std.specs.Prelude.{◌≤◌, length};
+ghost use Rattle.std.specs.Prelude.{◌≤◌};
 
-use cases::{STDOUT_FILENO, print, print_refused};
+use cases::{Case, Refused};
 use entity_manifest::{Kind, Refusal};
 use rows::Row;
-use text::Line;
+use std::alloc::Global;
+use std::io;
 
-// The longest text of a case, and the length of a listing out.
-const TEXT: usize = 65_536;
-
+// The length of a listing out.
 const LISTING: usize = 62_720;
 
 // The words of a schema and of a manifest, and one more each, so that a buffer can be too long too.
@@ -25,271 +24,190 @@ const BLANK: u64 = 0x5555_5555_5555_5555;
 const SHOWN: usize = 128;
 
 // The text of a field, in escapes, and many lines and an end behind it where the case is of a kind.
-fn text_of(line: &[u8], n: usize, many: &[u8], out: &mut [u8]) -> usize
-    ensures { result ≤ length out.new }
-{
-    let to = cases::say_part(out, 0, line, n);
-    if cases::is_word(line, 0, many) {
-        let end = cases::say_many(out, to, line, 4, 5, 6);
-        return cases::say_part(out, end, line, 7);
+fn text_of(alloc: Global, case: Case, n: usize, many: &str) -> io::Result<Vec<u8>> {
+    let mut text = case.decoded(alloc, n)?;
+    if case.is(0, many) {
+        case.decode_many(4, 5, 6, &mut text)?;
+        case.decode(7, &mut text)?;
     }
-    to
+    Ok(text)
+}
+
+// Reads the schema of a field, and answers whether it was accepted; a refusal is told.
+fn read_schema(rt: &HostRuntime, case: Case, n: usize, state: &mut [u64]) -> io::Result<bool> {
+    let text = text_of(rt.alloc(), case, n, "many")?;
+    tell_unless(rt, "SCHEMA", entity_manifest::read_schema(&text, state))
+}
+
+// The same for the manifest of a field.
+fn read_manifest(rt: &HostRuntime, case: Case, n: usize, state: &mut [u64]) -> io::Result<bool> {
+    let text = text_of(rt.alloc(), case, n, "wide")?;
+    tell_unless(
+        rt,
+        "LISTING",
+        entity_manifest::read_listing(Kind::Manifest, &text, state),
+    )
 }
 
 // Whether a call was accepted; a refusal is told, after what was refused.
-fn is_done(reply: Result<(), Refusal>, what: &[u8]) -> bool {
-    if let Err(Refusal { number, place }) = reply {
-        print(what);
-        print_refused(number, place);
-        return false;
-    }
-    true
-}
-
-// Reads the schema of a field.
-fn read_schema(line: &[u8], n: usize, state: &mut [u64]) -> bool {
-    let mut text = [0u8; TEXT];
-    let end = text_of(line, n, b"many", &mut text);
-    is_done(
-        entity_manifest::read_schema(&text[..end], state),
-        b"SCHEMA ",
-    )
-}
-
-// Reads the manifest of a field.
-fn read_manifest(line: &[u8], n: usize, state: &mut [u64]) -> bool {
-    let mut text = [0u8; TEXT];
-    let end = text_of(line, n, b"wide", &mut text);
-    is_done(
-        entity_manifest::read_listing(Kind::Manifest, &text[..end], state),
-        b"LISTING ",
-    )
-}
-
-// Says whether an output changed from a place on.
-fn tell_changes(out: &[u64], from: usize) {
-    let mut i = from;
-    while i < out.len() {
-        if out[i] != BLANK {
-            print(b" CHANGED");
-            return;
+fn tell_unless(rt: &HostRuntime, what: &str, reply: Result<(), Refusal>) -> io::Result<bool> {
+    match reply {
+        Ok(()) => Ok(true),
+        Err(refusal) => {
+            print!(rt; "{what} {}", Refused(refusal))?;
+            Ok(false)
         }
-        i += 1;
     }
 }
 
-// Says the type of a node, as the row has it.
-fn tell_type(row: Row) {
-    if row.depth() != 0 {
-        print(b" type ");
-        io::print_decimal(STDOUT_FILENO, row.word / 0x200_0000 % 0x800);
+// Says whether words of an output changed.
+fn tell_changes(rt: &HostRuntime, words: &[u64]) -> io::Result<()> {
+    if words.iter().any(|word| *word != BLANK) {
+        print!(rt; " CHANGED")?;
     }
+    Ok(())
 }
 
 // Says the first lines of a listing, each node with its type beside it.
-fn tell_rows(text: &[u8], state: &[u64]) {
-    let mut at = 0;
-    let mut i = 1;
-    while i < state.len() {
-        if SHOWN < i {
-            return;
+fn tell_rows(rt: &HostRuntime, listing: &[u8], rows: &[u64]) -> io::Result<()> {
+    for (line, word) in listing.split(|b| *b == b'\n').zip(rows).take(SHOWN) {
+        println!(rt)?;
+        cases::print_bytes(rt, line)?;
+        if (Row { word: *word }).depth() != 0 {
+            print!(rt; " type {}", word / 0x200_0000 % 0x800)?;
         }
-        let Line::Whole(end) = Line::at(text, at) else {
-            return;
-        };
-        print(b"\n");
-        print(&text[at..end]);
-        tell_type(Row { word: state[i] });
-        at = end + 1;
-        i += 1;
     }
+    Ok(())
 }
 
 // Says the first rows of a manifest.
-fn tell_manifest(state: &[u64]) {
+fn tell_manifest(rt: &HostRuntime, state: &[u64], rows: &[u64]) -> io::Result<()> {
     let mut out = [0u8; LISTING];
-    let written = entity_manifest::write_listing(Kind::Manifest, state, &mut out);
-    match written {
-        Err(Refusal { number, place }) => {
-            print(b"UNLAWFUL ");
-            print_refused(number, place);
-        }
-        Ok(n) => {
-            if n <= LISTING {
-                tell_rows(&out[..n], state);
-            }
-        }
+    match entity_manifest::write_listing(Kind::Manifest, state, &mut out) {
+        Err(refusal) => print!(rt; "UNLAWFUL {}", Refused(refusal)),
+        Ok(n) => tell_rows(rt, out.get(..n).unwrap_or(&[]), rows),
     }
 }
 
-// Says how many rows an output has, whether it changed behind them, and the first of them.
-fn tell_done(out: &[u64]) {
-    if out.len() == 0 {
-        return;
+// Says what came of a call: how many rows its output has, whether it changed behind them, and the first of them; or the refusal and whether the
+// output changed.
+fn tell(rt: &HostRuntime, reply: Result<(), Refusal>, out: &[u64]) -> io::Result<()> {
+    if let Err(refusal) = reply {
+        print!(rt; "{}", Refused(refusal))?;
+        return tell_changes(rt, out);
     }
-    let count = out[0];
-    io::print_decimal(STDOUT_FILENO, count);
-    print(b" rows");
-    if count <= 4_160 {
-        tell_changes(out, count as usize + 1);
-    }
-    tell_manifest(out);
-}
-
-// Says what came of a call: what is in its output, or the refusal and whether the output changed.
-fn tell(reply: Result<(), Refusal>, out: &[u64]) {
-    match reply {
-        Ok(()) => tell_done(out),
-        Err(Refusal { number, place }) => {
-            print_refused(number, place);
-            tell_changes(out, 0);
-        }
-    }
+    let Some((count, words)) = out.split_first() else {
+        return Ok(());
+    };
+    print!(rt; "{count} rows")?;
+    let (rows, behind) = words.split_at(words.len().min(*count as usize));
+    tell_changes(rt, behind)?;
+    tell_manifest(rt, out, rows)
 }
 
 // Types a manifest.
-fn ask_typed(schema: &[u64], manifest: &[u64]) {
+fn ask_typed(rt: &HostRuntime, schema: &[u64], manifest: &[u64]) -> io::Result<()> {
     let mut out = [BLANK; MANIFEST];
     let reply = entity_manifest::to_typed(schema, manifest, &mut out);
-    tell(reply, &out);
+    tell(rt, reply, &out)
 }
 
-// Sets a word of the state that a line names: its place and its number, in hexadecimal digits, are fields of the line.
-fn set_word(line: &[u8], name: &[u8], state: &mut [u64]) {
-    if !cases::is_word(line, 7, name) {
-        return;
-    }
-    let place = cases::number(line, 8) as usize;
-    let part = cases::nth(line, 9);
-    let start = part.start;
-    let end = part.end;
-    if place < state.len() {
-        state[place] = cases::hex_number(&line[start..end]);
+// Sets a word of the state that a case names: its place and its number, in hexadecimal digits, are fields of the case.
+fn set_word(case: Case, name: &str, state: &mut [u64]) {
+    if case.is(7, name)
+        && let Some(word) = state.get_mut(usize::from(case.number(8)))
+    {
+        *word = case.word(9);
     }
 }
 
 // How many words of a buffer are lent: all but as many as a field says, which are left out at its end.
-fn lent(whole: usize, line: &[u8], n: usize) -> usize
+fn lent(whole: usize, case: Case, n: usize) -> usize
     ensures { result ≤ whole }
 {
-    let missing = cases::number(line, n) as usize;
-    if whole < missing {
-        return 0;
-    }
-    whole - missing
+    whole.saturating_sub(usize::from(case.number(n)))
 }
 
-// Types a manifest with buffers of the lengths that a line gives.
-fn type_lent(line: &[u8], schema: &[u64], manifest: &[u64], out: &mut [u64]) -> Result<(), Refusal> {
-    let s = lent(schema.len(), line, 4);
-    let m = lent(manifest.len(), line, 5);
-    let o = lent(out.len(), line, 6);
-    entity_manifest::to_typed(&schema[..s], &manifest[..m], &mut out[..o])
-}
-
-// The same with a word of one state set, where the line says so.
-fn ask_lent(line: &[u8], schema: &mut [u64], manifest: &mut [u64]) {
-    set_word(line, b"schema", schema);
-    set_word(line, b"manifest", manifest);
+// Types a manifest with buffers of the lengths that a case gives, and a word of one state set, where the case says so.
+fn ask_lent(
+    rt: &HostRuntime,
+    case: Case,
+    schema: &mut [u64],
+    manifest: &mut [u64],
+) -> io::Result<()> {
+    set_word(case, "schema", schema);
+    set_word(case, "manifest", manifest);
     let mut out = [BLANK; MANIFEST];
-    let reply = type_lent(line, schema, manifest, &mut out);
-    tell(reply, &out);
+    let s = lent(schema.len(), case, 4);
+    let m = lent(manifest.len(), case, 5);
+    let o = lent(out.len(), case, 6);
+    let reply = entity_manifest::to_typed(&schema[..s], &manifest[..m], &mut out[..o]);
+    tell(rt, reply, &out)
 }
 
 // Types a manifest by its schema, and what is left by another schema.
-fn ask_again(line: &[u8], schema: &mut [u64], manifest: &[u64]) {
+fn ask_again(rt: &HostRuntime, case: Case, schema: &mut [u64], manifest: &[u64]) -> io::Result<()> {
     let mut typed = [0u64; MANIFEST];
     let reply = entity_manifest::to_typed(schema, manifest, &mut typed);
-    if is_done(reply, b"FIRST ") {
-        if read_schema(line, 4, schema) {
-            ask_typed(schema, &typed);
-        }
+    if tell_unless(rt, "FIRST", reply)? && read_schema(rt, case, 4, schema)? {
+        ask_typed(rt, schema, &typed)?;
     }
+    Ok(())
 }
 
 // Says the union of two manifests.
-fn tell_union(left: &[u64], right: &[u64]) {
+fn tell_union(rt: &HostRuntime, left: &[u64], right: &[u64]) -> io::Result<()> {
     let mut out = [BLANK; MANIFEST];
     let reply = entity_manifest::union(Kind::Manifest, left, right, &mut out);
-    tell(reply, &out);
+    tell(rt, reply, &out)
 }
 
 // Types a manifest, and unites it with an untyped one: on the left, or on the right.
-fn ask_union(line: &[u8], schema: &[u64], manifest: &[u64]) {
+fn ask_union(
+    rt: &HostRuntime,
+    case: Case,
+    schema: &[u64],
+    manifest: &[u64],
+    on_the_left: bool,
+) -> io::Result<()> {
     let mut typed = [0u64; MANIFEST];
     let reply = entity_manifest::to_typed(schema, manifest, &mut typed);
     let mut other = [0u64; MANIFEST];
-    if is_done(reply, b"FIRST ") {
-        if read_manifest(line, 4, &mut other) {
-            if cases::is_word(line, 0, b"left") {
-                tell_union(&typed, &other);
-            } else {
-                tell_union(&other, &typed);
-            }
+    if tell_unless(rt, "FIRST", reply)? && read_manifest(rt, case, 4, &mut other)? {
+        if on_the_left {
+            tell_union(rt, &typed, &other)?;
+        } else {
+            tell_union(rt, &other, &typed)?;
         }
     }
+    Ok(())
 }
 
 // What a case asks of its schema and its manifest.
-fn ask_of(line: &[u8], schema: &mut [u64], manifest: &mut [u64]) {
-    if cases::is_word(line, 0, b"lent") {
-        ask_lent(line, schema, manifest);
-        return;
+fn ask(rt: &HostRuntime, case: Case, schema: &mut [u64], manifest: &mut [u64]) -> io::Result<()> {
+    match case.field(0) {
+        "lent" => ask_lent(rt, case, schema, manifest),
+        "again" => ask_again(rt, case, schema, manifest),
+        "left" => ask_union(rt, case, schema, manifest, true),
+        "right" => ask_union(rt, case, schema, manifest, false),
+        _ => ask_typed(rt, schema, manifest),
     }
-    if cases::is_word(line, 0, b"again") {
-        ask_again(line, schema, manifest);
-        return;
-    }
-    if cases::is_word(line, 0, b"left") {
-        ask_union(line, schema, manifest);
-        return;
-    }
-    if cases::is_word(line, 0, b"right") {
-        ask_union(line, schema, manifest);
-        return;
-    }
-    ask_typed(schema, manifest);
 }
 
-// Reads the schema and the manifest of a case, and asks.
-fn ask(line: &[u8]) {
+// Says a case by its name, reads its schema and its manifest, and asks.
+fn replay(rt: &HostRuntime, case: Case) -> io::Result<()> {
+    print!(rt; "{}: ", case.field(1))?;
     let mut schema = [0u64; SCHEMA];
     let mut manifest = [0u64; MANIFEST];
-    if read_schema(line, 2, &mut schema) {
-        if read_manifest(line, 3, &mut manifest) {
-            ask_of(line, &mut schema, &mut manifest);
-        }
+    if read_schema(rt, case, 2, &mut schema)? && read_manifest(rt, case, 3, &mut manifest)? {
+        ask(rt, case, &mut schema, &mut manifest)?;
     }
+    println!(rt)
 }
 
-// One line of the data file: a comment, or a case and what comes of it.
-fn replay(line: &[u8]) {
-    if cases::is_comment(line) {
-        return;
+fn main(rt: HostRuntime) -> io::Result<()> {
+    for path in ["cases", "oracle"] {
+        cases::replay(&rt, path, |case| replay(&rt, case))?;
     }
-    cases::print_name(line, 1);
-    ask(line);
-    print(b"\n");
-}
-
-fn replay_all(text: &[u8]) {
-    let mut at = 0;
-    while at < text.len() {
-        let Line::Whole(end) = Line::at(text, at) else {
-            return;
-        };
-        replay(&text[at..end]);
-        at = end + 1;
-    }
-}
-
-fn replay_file(rt: HostRuntime, path: &str) {
-    let mut buffer = io::large_buffer();
-    let n = cases::read_file(rt, path, &mut buffer);
-    replay_all(&buffer[..n]);
-}
-
-fn main(rt: HostRuntime) {
-    replay_file(rt, "cases");
-    replay_file(rt, "oracle");
+    Ok(())
 }

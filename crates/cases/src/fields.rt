@@ -1,0 +1,123 @@
+// A line of a data file: its fields, which tabs part, and what they stand for.
+ghost use Rattle.std.specs.Prelude.{◌<◌, ◌^◌, length};
+ghost use Rattle.std.specs.Iterator.{at_most};
+
+use rows::Kind;
+use std::alloc::{AllocError, Global};
+use std::io;
+use std::io::Write;
+
+// A case: a line of a data file.
+#[derive(Clone, Copy)]
+pub struct Case<'a> {
+    pub line: &'a str,
+}
+
+impl<'a> Case<'a> {
+    // The field with a number, from 0; it is empty where there is none.
+    pub fn field(&self, n: usize) -> &'a str {
+        self.line.split('\t').nth(n).unwrap_or("")
+    }
+
+    // Whether a field is a word.
+    pub fn is(&self, n: usize, word: &str) -> bool {
+        self.field(n) == word
+    }
+
+    // The number that a field writes; 0 where it writes none.
+    pub fn number(&self, n: usize) -> u16 {
+        self.field(n).parse::<u16>().unwrap_or(0)
+    }
+
+    // The word that a field writes in hexadecimal digits; 0 where it writes none.
+    pub fn word(&self, n: usize) -> u64 {
+        u64::from_str_radix(self.field(n), 16).unwrap_or(0)
+    }
+
+    // The kind of state that a case asks for.
+    pub fn kind(&self) -> Kind {
+        if self.is(1, "contribution") {
+            Kind::Contribution
+        } else {
+            Kind::Manifest
+        }
+    }
+
+    // The request type that a field and the two behind it name.
+    pub fn triple(&self, n: usize) -> u64
+        ensures { result < 2 ^ 48 }
+    {
+        let part = |k: usize| u64::from(self.number(n.saturating_add(k)));
+        (part(0) * 0x1_0000 + part(1)) * 0x1_0000 + part(2)
+    }
+
+    // What a field stands for, in escapes.
+    pub fn decoded(&self, alloc: Global, n: usize) -> Result<Vec<u8>, AllocError> {
+        Unescaped(self.field(n).as_bytes()).collect(alloc)
+    }
+
+    // Puts what a field stands for behind `out`.
+    pub fn decode(&self, n: usize, out: &mut Vec<u8>) -> Result<(), AllocError> {
+        out.extend(Unescaped(self.field(n).as_bytes()))
+    }
+
+    // Puts many lines behind `out`: each number below that of the field `count` stands in one, behind the field `head` and a tab, and in
+    // front of the field `tail`.
+    pub fn decode_many(
+        &self,
+        head: usize,
+        count: usize,
+        tail: usize,
+        out: &mut Vec<u8>,
+    ) -> io::Result<()> {
+        for i in 0..self.number(count) {
+            self.decode(head, out)?;
+            write!(out, "\t{i}")?;
+            self.decode(tail, out)?;
+        }
+        Ok(())
+    }
+}
+
+// What a digit of a hexadecimal byte is worth; 0 where it is none.
+fn hex_digit(b: u8) -> u8
+    ensures { result < 16 }
+{
+    match b {
+        b'0'..=b'9' => b - b'0',
+        b'a'..=b'f' => b - b'a' + 10,
+        _ => 0,
+    }
+}
+
+// The byte that the letter after a backslash stands for; any other letter stands for itself.
+fn letter(b: u8) -> u8 {
+    match b {
+        b't' => text::TAB,
+        b'n' => text::LF,
+        b'r' => 13,
+        b'0' => 0,
+        _ => b,
+    }
+}
+
+// The bytes that an escaped text stands for: `\t`, `\n`, `\r`, `\0`, `\xHH`, or a byte itself.
+#[derive(Drop)]
+struct Unescaped<'a>(&'a [u8]);
+
+impl Iterator for Unescaped<'_> {
+    type Item = u8;
+
+    ghost remaining = { λ s. at_most (length s.0.now) };
+
+    fn next(&mut self) -> Option<u8> {
+        let (byte, rest) = match self.0 {
+            [] => return None,
+            [b'\\', b'x', high, low, rest @ ..] => (hex_digit(*high) * 16 + hex_digit(*low), rest),
+            [b'\\', named, rest @ ..] => (letter(*named), rest),
+            [byte, rest @ ..] => (*byte, rest),
+        };
+        self.0 = rest;
+        Some(byte)
+    }
+}

@@ -1,7 +1,0 @@
--- `manifest_cases::say_lines` stays within `out`.
-use borrow.Author.Rules.{rules}
-use Rattle.io.proofs.Counting.{prefix_len_of_le}
-use Rattle.manifest_cases.proofs.say_lines.Goals as goal
-
-pub returns : goal.returns
-returns c = prefix_len_of_le _ _ (search rules)
