@@ -7,8 +7,7 @@ use Rattle.rules.specs.Facts.{by_test}
 use Rattle.values.specs.ValueWords.{row_asked}
 use Rattle.values.specs.declared.request.EntityRequest.{EntityRequest}
 use Rattle.load_state.specs.Outcomes.{HandedOut, HandedAs, refusing_out}
-use Rattle.load_state.specs.declared.LoadReply.{LoadReply}
-use Rattle.load_state.specs.declared.LoadReply.TheVariants.{Refused}
+use Rattle.load_state.specs.LoadReplies.{LoadReply, Refused}
 use Rattle.load_batch.specs.Handing.{batch_in}
 use Rattle.batch_rows.specs.Rows.{request_of, count_of, at_most, begins, handed_in, lent_rows, batch_rows_in, RowsAs}
 

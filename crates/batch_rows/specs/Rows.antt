@@ -3,8 +3,8 @@ use Rattle.std.specs.Prelude.{ℕ, ◌≡◌, cond, List, [], map, ◌++◌, leb
 use Rattle.values.specs.ValueWords.{row_asked}
 use Rattle.values.specs.declared.request.EntityRequest.{EntityRequest}
 use Rattle.load_state.specs.Outcomes.{HandedOut, refusing_out}
-use Rattle.load_state.specs.declared.LoadReply.{LoadReply}
-use Rattle.load_state.specs.declared.LoadReply.TheVariants.{Done, Refused, Counted}
+use Rattle.std.specs.Prelude.{Ok, Err}
+use Rattle.load_state.specs.LoadReplies.{LoadReply}
 use Rattle.load_batch.specs.Handing.{batch_words, batch_in}
 
 -- the row that a word is, as its struct
@@ -13,9 +13,8 @@ request_of word = record { id = (row_asked word).id; node = (row_asked word).nod
 
 -- how many rows a reply tells of
 abbrev pub count_of : LoadReply → ℕ
-count_of (Done count batches rows) = count
-count_of (Refused number place) = 0
-count_of (Counted expected got) = 0
+count_of (Ok counts) = counts.count
+count_of (Err refusal) = 0
 
 abbrev pub at_most : ℕ → ℕ → ℕ
 at_most limit n = cond (leb n limit) n limit

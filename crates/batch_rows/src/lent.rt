@@ -2,7 +2,7 @@
 ghost use Rattle.std.specs.Prelude.{◌≡◌, ◌≤◌, map, length};
 ghost use Rattle.batch_rows.specs.Rows.{request_of, count_of, at_most, begins, batch_rows_in, RowsAs};
 
-use load_state::LoadReply;
+use load_state::{LoadRefusal, LoadReply};
 use values::EntityRequest;
 
 // The one length of a batch's rows.
@@ -12,11 +12,11 @@ const BATCH: usize = 4_096;
 fn count_of(reply: LoadReply) -> usize
     ensures { result ≡ at_most 4096 (count_of reply) }
 {
-    let LoadReply::Done(count, _, _) = reply else {
+    let Ok(counts) = reply else {
         return 0;
     };
-    if count <= 4_096 {
-        count as usize
+    if counts.count <= 4_096 {
+        counts.count as usize
     } else {
         BATCH
     }
@@ -37,7 +37,7 @@ pub fn load_batch_rows(state: &mut [u64], out: &mut [EntityRequest]) -> LoadRepl
     ensures { RowsAs (batch_rows_in state.old out.old) result state.new out.new }
 {
     if out.len() < BATCH {
-        return LoadReply::Refused(31, 0);
+        return Err(LoadRefusal::SHORT);
     }
     let mut words = [0u64; BATCH];
     let reply = load_batch::load_batch(state, &mut words);

@@ -57,8 +57,11 @@ use Rattle.load_state.specs.LoadStates.{load_words, context_words, is_request, r
 use Rattle.load_state.specs.Transcripts.{transcript_in, load_in, lent_load}
 use Rattle.load_state.specs.TurnLaws.{lent_told, told_parts}
 use Rattle.load_state.specs.Outcomes.{given_in, lent_words, behind_count, words_of}
-use Rattle.load_state.specs.declared.LoadReply.{LoadReply}
-use Rattle.load_state.specs.declared.LoadReply.TheVariants.{Done, Refused, Counted}
+use Rattle.load_state.specs.declared.LoadCounts.{LoadCounts}
+use Rattle.load_state.specs.declared.LoadRefusal.{LoadRefusal}
+use Rattle.load_state.specs.declared.LoadRefusal.TheVariants.{Refused as RefusedAt, Counted as CountedBy}
+use Rattle.std.specs.Prelude.{Ok, Err}
+use Rattle.load_state.specs.LoadReplies.{LoadReply, Done, Refused, Counted}
 use Rattle.entries.specs.EntryLaws.{entry_few}
 use Rattle.entries.specs.Bounds.{told, trip_bound_in}
 use Rattle.entries.specs.BoundLaws.{bound_lawful}
@@ -428,9 +431,9 @@ state_bound (ancestors_called {state} out h) = rw (ancestors_keeps state out) (s
 state_bound (ancestors_answer_called {state} sets h) = rw (ancestors_answer_keeps state sets) (state_bound h)
 
 within_same : {a b : TripBound} → SameTrips a b → (reply : LoadReply) → ReportsWithin a reply → ReportsWithin b reply
-within_same same (Done count batches rows) h = (omega (arith, h.0, same.batches), omega (arith, h.1, same.rows))
-within_same same (Refused number place) h = tt
-within_same same (Counted expected got) h = tt
+within_same same (Ok counts) h = (omega (arith, h.0, same.batches), omega (arith, h.1, same.rows))
+within_same same (Err (RefusedAt refusal)) h = tt
+within_same same (Err (CountedBy expected got)) h = tt
 
 pub within_state : (state : List ℕ) → CallsWithin state (bound_in state)
 within_state state = record {

@@ -3,8 +3,11 @@ use Rattle.std.specs.Prelude.{ℕ, ◌≡◌, List, get_or}
 use Rattle.rules.specs.Trips.{TripBound, bound_of, CountsWithin}
 use Rattle.rows.specs.States.{rows_of}
 use Rattle.load_state.specs.Transcripts.{node_words}
-use Rattle.load_state.specs.declared.LoadReply.{LoadReply}
-use Rattle.load_state.specs.declared.LoadReply.TheVariants.{Done, Refused, Counted}
+use Rattle.load_state.specs.declared.LoadCounts.{LoadCounts}
+use Rattle.load_state.specs.declared.LoadRefusal.{LoadRefusal}
+use Rattle.load_state.specs.declared.LoadRefusal.TheVariants.{Refused as RefusedAt, Counted as CountedBy}
+use Rattle.std.specs.Prelude.{Ok, Err}
+use Rattle.load_state.specs.LoadReplies.{LoadReply, Done, Refused, Counted}
 use Rattle.load_begin.specs.Begins.{begin_in}
 use Rattle.load_batch.specs.Handing.{batch_in}
 use Rattle.loader.specs.Calls.{answer_in}
@@ -30,9 +33,9 @@ bound_in state = bound_of (get_or state 1 0) (rows_of (node_words state))
 
 -- a reply that is no refusal reports batches and rows within a bound
 abbrev pub ReportsWithin : TripBound → LoadReply → Type 0
-ReportsWithin bound (Done count batches rows) = CountsWithin bound (record { batches = batches; rows = rows })
-ReportsWithin bound (Refused number place) = Unit
-ReportsWithin bound (Counted expected got) = Unit
+ReportsWithin bound (Ok counts) = CountsWithin bound (record { batches = counts.batches; rows = counts.rows })
+ReportsWithin bound (Err (RefusedAt refusal)) = Unit
+ReportsWithin bound (Err (CountedBy expected got)) = Unit
 
 -- No call on a state, whatever it is lent, reports more than a bound.
 pub record CallsWithin (state : List ℕ) (bound : TripBound) : Type 0 where

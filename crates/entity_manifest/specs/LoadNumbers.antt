@@ -4,18 +4,21 @@ use Rattle.std.specs.Prelude.{Result, Ok, Err}
 use Rattle.words.specs.declared.Refusal.{Refusal}
 use Rattle.entries.specs.declared.trips.TripBound.{TripBound}
 use Rattle.load_state.specs.Outcomes.{LoadOutcome, HandedOut, AnsweredAs, HandedAs}
-use Rattle.load_state.specs.declared.LoadReply.{LoadReply}
-use Rattle.load_state.specs.declared.LoadReply.TheVariants.{Done, Refused, Counted}
+use Rattle.load_state.specs.declared.LoadCounts.{LoadCounts}
+use Rattle.load_state.specs.declared.LoadRefusal.{LoadRefusal}
+use Rattle.load_state.specs.declared.LoadRefusal.TheVariants.{Refused as RefusedAt, Counted as CountedBy}
+use Rattle.std.specs.Prelude.{Ok, Err}
+use Rattle.load_state.specs.LoadReplies.{LoadReply, Done, Refused, Counted}
 
 abbrev pub load_number : LoadReply → ℕ
-load_number (Done count batches rows) = 0
-load_number (Refused number place) = number
-load_number (Counted expected got) = 12
+load_number (Ok counts) = 0
+load_number (Err (RefusedAt refusal)) = refusal.number
+load_number (Err (CountedBy expected got)) = 12
 
 abbrev pub load_values : LoadReply → List ℕ
-load_values (Done count batches rows) = count ∷ batches ∷ rows ∷ []
-load_values (Refused number place) = place ∷ 0 ∷ 0 ∷ []
-load_values (Counted expected got) = 0 ∷ expected ∷ got ∷ []
+load_values (Ok counts) = counts.count ∷ counts.batches ∷ counts.rows ∷ []
+load_values (Err (RefusedAt refusal)) = refusal.place ∷ 0 ∷ 0 ∷ []
+load_values (Err (CountedBy expected got)) = 0 ∷ expected ∷ got ∷ []
 
 -- a bound on trips as a reply
 abbrev pub bound_reply : Result TripBound Refusal → LoadReply

@@ -31,9 +31,9 @@ fn tell(reply: Result<(), Refusal>, value: &mut u64) -> u64
             *value = 0;
             0
         }
-        Err(Refusal { number, place }) => {
-            *value = place;
-            number
+        Err(refusal) => {
+            *value = refusal.place;
+            refusal.number
         }
     }
 }
@@ -47,9 +47,9 @@ fn tell_written(written: Result<usize, Refusal>, value: &mut u64) -> u64
             *value = bytes as u64;
             0
         }
-        Err(Refusal { number, place }) => {
-            *value = place;
-            number
+        Err(refusal) => {
+            *value = refusal.place;
+            refusal.number
         }
     }
 }
@@ -67,9 +67,9 @@ fn tell_held(held: Result<Option<bool>, Refusal>, value: &mut u64) -> u64
             *value = if marked { 2 } else { 1 };
             0
         }
-        Err(Refusal { number, place }) => {
-            *value = place;
-            number
+        Err(refusal) => {
+            *value = refusal.place;
+            refusal.number
         }
     }
 }

@@ -13,7 +13,7 @@ pub use load_ancestors::load_ancestors;
 pub use load_batch::load_batch;
 pub use load_begin::load_begin;
 pub use load_ends::{load_ancestors_answer, load_result};
-pub use load_state::LoadReply;
+pub use load_state::{LoadCounts, LoadRefusal, LoadReply};
 pub use loader::load_answer;
 pub use manifest::EntityManifest;
 pub use rows::{Kind, has};

@@ -11,7 +11,7 @@ ghost use Rattle.load_ends.specs.Ends.{ancestors_answer_in, result_in};
 ghost use Rattle.entity_manifest.specs.LoadNumbers.{load_number, load_values, bound_reply, CallTold, HandTold};
 
 use entries::TripBound;
-use load_state::LoadReply;
+use load_state::{LoadCounts, LoadRefusal, LoadReply};
 use words::Refusal;
 
 // A reply as its number, its values beside it.
@@ -19,19 +19,19 @@ fn tell_load(reply: LoadReply, value: &mut u64, first: &mut u64, second: &mut u6
     ensures { (result ≡ load_number reply) × ((value.new ∷ first.new ∷ second.new ∷ []) ≡ load_values reply) }
 {
     match reply {
-        LoadReply::Done(count, batches, rows) => {
-            *value = count;
-            *first = batches;
-            *second = rows;
+        Ok(counts) => {
+            *value = counts.count;
+            *first = counts.batches;
+            *second = counts.rows;
             0
         }
-        LoadReply::Refused(number, place) => {
-            *value = place;
+        Err(LoadRefusal::Refused(refusal)) => {
+            *value = refusal.place;
             *first = 0;
             *second = 0;
-            number
+            refusal.number
         }
-        LoadReply::Counted(expected, got) => {
+        Err(LoadRefusal::Counted { expected, got }) => {
             *value = 0;
             *first = expected;
             *second = got;
@@ -45,8 +45,12 @@ fn bound_reply(bound: Result<TripBound, Refusal>) -> LoadReply
     ensures { result ≡ bound_reply bound }
 {
     match bound {
-        Ok(most) => LoadReply::Done(most.ancestors, most.batches, most.rows),
-        Err(Refusal { number, place }) => LoadReply::Refused(number, place),
+        Ok(most) => Ok(LoadCounts {
+            count: most.ancestors,
+            batches: most.batches,
+            rows: most.rows,
+        }),
+        Err(refusal) => Err(LoadRefusal::Refused(refusal)),
     }
 }
 

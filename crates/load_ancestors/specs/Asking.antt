@@ -8,7 +8,7 @@ use Rattle.ancestors.specs.Requests.{heads}
 use Rattle.load_state.specs.LoadStates.{load_words, turn_number}
 use Rattle.load_state.specs.Transcripts.{transcript_in, lent_load}
 use Rattle.load_state.specs.Outcomes.{HandedOut, refusing_out, counting_out}
-use Rattle.load_state.specs.declared.LoadReply.TheVariants.{Done}
+use Rattle.load_state.specs.LoadReplies.{Done}
 
 -- the one length of 'Ancestors requests out'
 abbrev pub requests_words : ℕ

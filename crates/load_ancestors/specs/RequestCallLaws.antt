@@ -17,7 +17,7 @@ use Rattle.load_state.specs.Transcripts.{node_words, transcript_in, lent_load}
 use Rattle.load_state.specs.Outcomes.{refusing_out, HandedAs}
 use Rattle.load_state.specs.WorkedLaws.{nodes_few}
 use Rattle.load_state.specs.TurnLaws.{asks_fits, lent_told}
-use Rattle.load_state.specs.declared.LoadReply.TheVariants.{Done, Refused}
+use Rattle.load_state.specs.LoadReplies.{Done, Refused}
 use Rattle.load_ends.specs.Ends.{ReadTo}
 use Rattle.load_ancestors.specs.Asking.{asking_of, ancestors_in}
 use Rattle.load_ends.specs.LoadedLaws.{read_parts, read_asked, read_rows, read_inside, rows_are}

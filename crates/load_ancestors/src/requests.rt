@@ -9,7 +9,9 @@ ghost use Rattle.load_ends.specs.Ends.{ReadTo};
 ghost use Rattle.load_ancestors.specs.Asking.{asking_of, ancestors_in};
 
 use ancestors::compute_ancestors_requests;
-use load_state::{LoadReply, LoadState, Worked, Workspace, nodes_from, read_load};
+use load_state::{
+    LoadCounts, LoadRefusal, LoadReply, LoadState, Worked, Workspace, nodes_from, read_load,
+};
 use row_walk::Request;
 use slices::build_slice;
 use words::Refusal;
@@ -82,10 +84,14 @@ fn ask_ancestors(
     ensures { HandedAs (asking_of state.old out.old (lent_load state.old)) result state.new out.new }
 {
     if let Err(Refusal { number, place }) = write_requests(state, load, work, out) {
-        return LoadReply::Refused(number, place);
+        return Err(LoadRefusal::Refused(Refusal { number, place }));
     }
     state[0] = 4;
-    LoadReply::Done(load.asked as u64, load.batches, load.asked as u64)
+    Ok(LoadCounts {
+        count: load.asked as u64,
+        batches: load.batches,
+        rows: load.asked as u64,
+    })
 }
 
 // Asks for the ancestors of all rows: 31, 1, 16, then by request the first of 14 and 15. A refusal leaves both buffers as they were.
@@ -93,17 +99,17 @@ pub fn load_ancestors(state: &mut [u64], out: &mut [u64]) -> LoadReply
     ensures { HandedAs (ancestors_in state.old out.old) result state.new out.new }
 {
     if state.len() < LoadState::WORDS {
-        return LoadReply::Refused(31, 0);
+        return Err(LoadRefusal::SHORT);
     }
     if out.len() < REQUEST_WORDS {
-        return LoadReply::Refused(31, 0);
+        return Err(LoadRefusal::SHORT);
     }
     let mut work = Workspace::new();
     let Some(load) = read_load(state, &mut work) else {
-        return LoadReply::Refused(1, 0);
+        return Err(LoadRefusal::UNLAWFUL);
     };
     if state[0] != 3 {
-        return LoadReply::Refused(16, 0);
+        return Err(LoadRefusal::OUT_OF_TURN);
     }
     ask_ancestors(state, load, &mut work, out)
 }

@@ -18,7 +18,7 @@ use Rattle.load_state.specs.Transcripts.{turn_in, transcript_in, lent_load, Came
 use Rattle.load_state.specs.TurnLaws.{turn_waits}
 use Rattle.load_state.specs.CameLaws.{came_waiting, came_rows, came_ahead}
 use Rattle.load_state.specs.Outcomes.{HandedAs}
-use Rattle.load_state.specs.declared.LoadReply.TheVariants.{Done, Refused}
+use Rattle.load_state.specs.LoadReplies.{Done, Refused}
 use Rattle.load_batch.specs.Handing.{batch_words, numbered, handing_batch, batch_in}
 
 -- one more word of a copy that is changed on the way

@@ -7,7 +7,7 @@ use Rattle.values.specs.ValueWords.{request_word}
 use Rattle.load_state.specs.LoadStates.{load_words, turn_number}
 use Rattle.load_state.specs.Transcripts.{transcript_in, lent_load}
 use Rattle.load_state.specs.Outcomes.{HandedOut, refusing_out, counting_out}
-use Rattle.load_state.specs.declared.LoadReply.TheVariants.{Done}
+use Rattle.load_state.specs.LoadReplies.{Done}
 
 -- the one length of 'batch rows out'
 abbrev pub batch_words : ℕ

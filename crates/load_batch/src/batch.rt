@@ -5,7 +5,7 @@ ghost use Rattle.values.specs.ValueWords.{row_asked, request_word};
 ghost use Rattle.load_state.specs.Outcomes.{HandedAs};
 ghost use Rattle.load_batch.specs.Handing.{numbered, batch_in};
 
-use load_state::{LoadReply, LoadState, Workspace, read_load};
+use load_state::{LoadCounts, LoadRefusal, LoadReply, LoadState, Workspace, read_load};
 use values::EntityRequest;
 
 // The one length of a batch's rows.
@@ -32,23 +32,23 @@ pub fn load_batch(state: &mut [u64], out: &mut [u64]) -> LoadReply
     ensures { HandedAs (batch_in state.old out.old) result state.new out.new }
 {
     if state.len() < LoadState::WORDS {
-        return LoadReply::Refused(31, 0);
+        return Err(LoadRefusal::SHORT);
     }
     if out.len() < BATCH_WORDS {
-        return LoadReply::Refused(31, 0);
+        return Err(LoadRefusal::SHORT);
     }
     let mut work = Workspace::new();
     let Some(load) = read_load(state, &mut work) else {
-        return LoadReply::Refused(1, 0);
+        return Err(LoadRefusal::UNLAWFUL);
     };
     if state[0] != 1 {
-        return LoadReply::Refused(16, 0);
+        return Err(LoadRefusal::OUT_OF_TURN);
     }
     write_batch(&work.rows[load.asked..load.end], state[4], out);
     state[0] = 2;
-    LoadReply::Done(
-        (load.end - load.asked) as u64,
-        load.batches + 1,
-        load.end as u64,
-    )
+    Ok(LoadCounts {
+        count: (load.end - load.asked) as u64,
+        batches: load.batches + 1,
+        rows: load.end as u64,
+    })
 }

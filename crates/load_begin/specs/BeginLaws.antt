@@ -21,7 +21,7 @@ use Rattle.std.specs.Prelude.{Option as Maybe, Some, None}
 use Rattle.batches.specs.Replays.{first_load}
 use Rattle.load_state.specs.LoadStates.{context_words, load_words, is_request, request_of, turn_number, first_turn}
 use Rattle.load_state.specs.Outcomes.{LoadOutcome, AnsweredAs}
-use Rattle.load_state.specs.declared.LoadReply.TheVariants.{Done, Refused}
+use Rattle.load_state.specs.LoadReplies.{Done, Refused}
 use Rattle.load_begin.specs.Begins.{entry_rows, storing_load, manifest_words, lawful_context, begun_by, begin_in, entry_words, begun_state, begun_with}
 
 -- what a first batch comes to

@@ -13,7 +13,7 @@ use Rattle.rows.specs.States.{lawful_state, rows_in}
 use Rattle.values.specs.ValueWords.{value_rows_of}
 use Rattle.load_state.specs.LoadStates.{load_words, context_words, is_request, request_of, turn_number}
 use Rattle.load_state.specs.Outcomes.{LoadOutcome, refusing_call, counting_call}
-use Rattle.load_state.specs.declared.LoadReply.TheVariants.{Done}
+use Rattle.load_state.specs.LoadReplies.{Done}
 
 -- the one length of a manifest
 abbrev pub manifest_words : ℕ

@@ -9,10 +9,11 @@ ghost use Rattle.load_state.specs.Outcomes.{AnsweredAs};
 ghost use Rattle.load_begin.specs.Begins.{lawful_context, begun_state, entry_words, begun_with, begun_by, begin_in};
 
 use entries::find_entry;
-use load_state::{LoadReply, LoadState, is_request, turn_for};
+use load_state::{LoadCounts, LoadRefusal, LoadReply, LoadState, is_request, turn_for};
 use row_walk::{Request, initial_entities_to_load};
 use rows::Kind;
 use values::is_lawful;
+use words::Refusal;
 
 // Whether a lent context is a record of at most 8,192 rows.
 fn is_lawful_context(context: &[u64]) -> bool
@@ -83,11 +84,18 @@ fn begin_entry(
         &mut found,
         0,
     ) else {
-        return LoadReply::Refused(14, 0);
+        return Err(LoadRefusal::Refused(Refusal {
+            number: 14,
+            place: 0,
+        }));
     };
     let turn = turn_for(waiting);
     store_begun(state, turn, request, first, &rows[at..end], context);
-    LoadReply::Done(count as u64, 0, 0)
+    Ok(LoadCounts {
+        count: count as u64,
+        batches: 0,
+        rows: 0,
+    })
 }
 
 // Begins with the entry of the request's type, if a manifest's rows have one; otherwise the load has ended.
@@ -99,7 +107,11 @@ fn begin_load(rows: &[u64], request: Request, context: &[u64], state: &mut [u64]
     match find_entry(rows, request.triple) {
         None => {
             store_begun(state, 5, request, 0, &rows[..0], context);
-            LoadReply::Done(0, 0, 0)
+            Ok(LoadCounts {
+                count: 0,
+                batches: 0,
+                rows: 0,
+            })
         }
         Some(entry) => begin_entry(
             rows,
@@ -125,22 +137,22 @@ pub fn load_begin(
     ensures { AnsweredAs (begin_in manifest.now triple principal resource context.now state.old) result state.new }
 {
     if manifest.len() < Kind::Manifest.words() {
-        return LoadReply::Refused(31, 0);
+        return Err(LoadRefusal::SHORT);
     }
     if context.len() < LoadState::CONTEXT_WORDS {
-        return LoadReply::Refused(31, 0);
+        return Err(LoadRefusal::SHORT);
     }
     if state.len() < LoadState::WORDS {
-        return LoadReply::Refused(31, 0);
+        return Err(LoadRefusal::SHORT);
     }
     if !rows::is_lawful(Kind::Manifest, manifest) {
-        return LoadReply::Refused(1, 0);
+        return Err(LoadRefusal::UNLAWFUL);
     }
     if !is_request(triple, principal, resource) {
-        return LoadReply::Refused(1, 0);
+        return Err(LoadRefusal::UNLAWFUL);
     }
     if !is_lawful_context(context) {
-        return LoadReply::Refused(1, 0);
+        return Err(LoadRefusal::UNLAWFUL);
     }
     let end = manifest[0] as usize + 1;
     let last = context[0] as usize + 1;

@@ -10,7 +10,7 @@ use Rattle.slices.specs.Slices.{slice_words}
 use Rattle.load_state.specs.LoadStates.{load_words, turn_number, answer_words}
 use Rattle.load_state.specs.Transcripts.{node_words, transcript_in, lent_load, CameTo}
 use Rattle.load_state.specs.Outcomes.{LoadOutcome, refusing_call, counting_call, lent_words, behind_count, given, given_in, words_of}
-use Rattle.load_state.specs.declared.LoadReply.TheVariants.{Done}
+use Rattle.load_state.specs.LoadReplies.{Done}
 
 -- A load that was read: it is the state's, so many rows were asked in so many batches, and their answers come to a sum.
 pub record ReadTo (state rows places : List ℕ) (asked batches sum : ℕ) : Type 0 where

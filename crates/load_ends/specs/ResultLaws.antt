@@ -11,7 +11,7 @@ use Rattle.slices.specs.Slices.{slice_words, WroteSlice}
 use Rattle.slices.specs.declared.Built.{Built}
 use Rattle.load_state.specs.Transcripts.{transcript_in, lent_load}
 use Rattle.load_state.specs.Outcomes.{refusing_call, AnsweredAs}
-use Rattle.load_state.specs.declared.LoadReply.TheVariants.{Done}
+use Rattle.load_state.specs.LoadReplies.{Done}
 use Rattle.load_ends.specs.Ends.{ReadTo, handing_slice, result_in}
 use Rattle.load_ends.specs.LoadedLaws.{read_rows}
 

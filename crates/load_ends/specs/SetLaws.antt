@@ -12,7 +12,7 @@ use Rattle.answers.specs.LentLaws.{split, wrong_read, all_within, all_summed}
 use Rattle.answers.specs.declared.Lending.TheVariants.{Sets}
 use Rattle.load_state.specs.Outcomes.{refusing_call, size_of_all, words_of}
 use Rattle.load_state.specs.WorkedLaws.{items_counted, sum_few}
-use Rattle.load_state.specs.declared.LoadReply.TheVariants.{Done}
+use Rattle.load_state.specs.LoadReplies.{Done}
 use Rattle.load_ends.specs.Ends.{sets_stored, taking_sets}
 
 -- ---- what a look at all says

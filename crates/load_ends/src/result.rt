@@ -7,7 +7,7 @@ ghost use Rattle.load_state.specs.Outcomes.{AnsweredAs};
 ghost use Rattle.load_ends.specs.Ends.{ReadTo, handing_slice, result_in};
 
 use answers::Lending;
-use load_state::{LoadReply, LoadState, Worked, Workspace, read_load};
+use load_state::{LoadCounts, LoadRefusal, LoadReply, LoadState, Worked, Workspace, read_load};
 use slices::build_slice;
 
 // The one length of a slice that is handed out: its count, and words behind it.
@@ -40,7 +40,11 @@ fn write_result(state: &[u64], load: Worked, work: &mut Workspace, out: &mut [u6
         &mut work.scratch,
     );
     out[0] = built.count;
-    LoadReply::Done(built.count, load.batches, load.asked as u64)
+    Ok(LoadCounts {
+        count: built.count,
+        batches: load.batches,
+        rows: load.asked as u64,
+    })
 }
 
 // Hands out the slice of a load that has ended: 31, 1, 16. The state stays.
@@ -48,17 +52,17 @@ pub fn load_result(state: &[u64], out: &mut [u64]) -> LoadReply
     ensures { AnsweredAs (result_in state.now out.old) result out.new }
 {
     if state.len() < LoadState::WORDS {
-        return LoadReply::Refused(31, 0);
+        return Err(LoadRefusal::SHORT);
     }
     if out.len() < SLICE_WORDS {
-        return LoadReply::Refused(31, 0);
+        return Err(LoadRefusal::SHORT);
     }
     let mut work = Workspace::new();
     let Some(load) = read_load(state, &mut work) else {
-        return LoadReply::Refused(1, 0);
+        return Err(LoadRefusal::UNLAWFUL);
     };
     if state[0] < 5 {
-        return LoadReply::Refused(16, 0);
+        return Err(LoadRefusal::OUT_OF_TURN);
     }
     write_result(state, load, &mut work, out)
 }

@@ -9,7 +9,8 @@ ghost use Rattle.load_state.specs.Outcomes.{AnsweredAs};
 ghost use Rattle.load_ends.specs.Ends.{sets_stored, taking_sets, ancestors_answer_in};
 
 use answers::Lending;
-use load_state::{LoadReply, LoadState, Workspace, read_load};
+use load_state::{LoadCounts, LoadRefusal, LoadReply, LoadState, Workspace, read_load};
+use words::Refusal;
 
 // The one length of ancestors' answers: a count, and words behind it.
 const LENT_WORDS: usize = 24_577;
@@ -56,13 +57,17 @@ fn take_sets(
 {
     let mut levels = [0u64; 1];
     if let Err(place) = answers::check(Lending::Sets, words, count, &mut levels) {
-        return LoadReply::Refused(1, place);
+        return Err(LoadRefusal::Refused(Refusal { number: 1, place }));
     }
     if let Err(place) = answers::sum(Lending::Sets, words, count, sum) {
-        return LoadReply::Refused(15, place);
+        return Err(LoadRefusal::Refused(Refusal { number: 15, place }));
     }
     let kept = keep_sets(state, words, count, asked);
-    LoadReply::Done(kept, batches, asked as u64)
+    Ok(LoadCounts {
+        count: kept,
+        batches,
+        rows: asked as u64,
+    })
 }
 
 // Takes the answered sets: 31, 1, 16, 1 by set, 15. Surplus sets are judged and summed, and not kept.
@@ -70,17 +75,17 @@ pub fn load_ancestors_answer(state: &mut [u64], sets: &[u64]) -> LoadReply
     ensures { AnsweredAs (ancestors_answer_in state.old sets.now) result state.new }
 {
     if state.len() < LoadState::WORDS {
-        return LoadReply::Refused(31, 0);
+        return Err(LoadRefusal::SHORT);
     }
     if sets.len() < LENT_WORDS {
-        return LoadReply::Refused(31, 0);
+        return Err(LoadRefusal::SHORT);
     }
     let mut work = Workspace::new();
     let Some(load) = read_load(state, &mut work) else {
-        return LoadReply::Refused(1, 0);
+        return Err(LoadRefusal::UNLAWFUL);
     };
     if state[0] != 4 {
-        return LoadReply::Refused(16, 0);
+        return Err(LoadRefusal::OUT_OF_TURN);
     }
     take_sets(
         state,

@@ -3,7 +3,7 @@ ghost use Rattle.std.specs.Prelude.{◌<◌, ◌≤◌, length};
 
 use crate::telling::{Stop, called, refused};
 use batch_rows::load_batch_rows;
-use entity_manifest::{EntityRequest, LoadReply};
+use entity_manifest::{EntityRequest, LoadCounts, LoadRefusal, LoadReply};
 use files::{Failure, To};
 use load_answers::{Store, answer_requests, answer_rows, turn_of};
 use load_log::{write_batch, write_line, write_requests, write_slice};
@@ -33,7 +33,7 @@ fn word_of(reply: LoadReply, stores: &[Store], first: u64) -> usize
     requires { (0 < length stores.now) × (length stores.now < 16) }
 {
     let place = match reply {
-        LoadReply::Refused(_, place) => place,
+        Err(LoadRefusal::Refused(refusal)) => refusal.place,
         _ => 0,
     };
     FIRST_STORE + turn_of(stores, first, place)
@@ -62,7 +62,14 @@ fn run_batch(to: To, number: u64, stores: &[Store], state: &mut [u64]) -> Result
     let blank = EntityRequest { id: 0, node: 0 };
     let mut room = [blank; BATCH];
     let reply = load_batch_rows(state, &mut room);
-    let LoadReply::Done(count, _, asked) = reply else {
+    let Ok(
+        LoadCounts {
+            count,
+            rows: asked,
+            ..
+        },
+    ) = reply
+    else {
         return Err(refused(FIRST_STORE, reply));
     };
     if 4_096 < count {
@@ -107,7 +114,7 @@ fn ask_ancestors(
     requires { (0 < length stores.now) × (length stores.now < 16) × (4097 ≤ length requests.old) }
 {
     let reply = entity_manifest::load_ancestors(state, requests);
-    let LoadReply::Done(_, _, _) = reply else {
+    let Ok(_) = reply else {
         return Err(Stop::Refused {
             word: word_of(reply, stores, 0),
             is_asking: true,
@@ -133,7 +140,7 @@ fn run_ancestors(to: To, stores: &[Store], state: &mut [u64]) -> Result<(), Stop
 fn end_loaded(to: To, state: &[u64]) -> Result<(), Stop> {
     let mut slice = [0u64; SLICE];
     let reply = entity_manifest::load_result(state, &mut slice);
-    let LoadReply::Done(_, batches, rows) = reply else {
+    let Ok(LoadCounts { batches, rows, .. }) = reply else {
         return Err(refused(FIRST_STORE, reply));
     };
     write_slice(to, &slice)?;

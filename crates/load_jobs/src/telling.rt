@@ -1,5 +1,5 @@
 // What comes of a load, and its refusal told.
-use entity_manifest::{LoadReply, Refusal};
+use entity_manifest::{LoadRefusal, LoadReply, Refusal};
 use files::{CommandLine, Failure, To};
 use load_log::write_line;
 
@@ -32,7 +32,7 @@ pub fn refused(word: usize, reply: LoadReply) -> Stop {
 // What came of a call that hands nothing out.
 pub fn called(word: usize, reply: LoadReply) -> Result<(), Stop> {
     match reply {
-        LoadReply::Done(_, _, _) => Ok(()),
+        Ok(_) => Ok(()),
         _ => Err(refused(word, reply)),
     }
 }
@@ -40,9 +40,17 @@ pub fn called(word: usize, reply: LoadReply) -> Result<(), Stop> {
 // Ends the log with the numbers of a refusal.
 fn end_log(to: To, reply: LoadReply) -> Result<(), Failure> {
     match reply {
-        LoadReply::Done(_, _, _) => Ok(()),
-        LoadReply::Refused(number, place) => write_line(to, b'R', &[number, place]),
-        LoadReply::Counted(expected, got) => write_line(to, b'R', &[12, 0, expected, got]),
+        Ok(_) => Ok(()),
+        Err(LoadRefusal::Refused(refusal)) => write_line(
+            to,
+            b'R',
+            &[refusal.number, refusal.place],
+        ),
+        Err(LoadRefusal::Counted { expected, got }) => write_line(
+            to,
+            b'R',
+            &[12, 0, expected, got],
+        ),
     }
 }
 
@@ -51,8 +59,8 @@ fn say(line: CommandLine, word: usize, is_asking: bool, reply: LoadReply) {
     let err = line.to.err;
     let name = line.word(word);
     let refusal = match reply {
-        LoadReply::Refused(number, place) => Refusal { number, place },
-        LoadReply::Done(_, _, _) | LoadReply::Counted(_, _) => Refusal {
+        Err(LoadRefusal::Refused(refusal)) => refusal,
+        Ok(_) | Err(LoadRefusal::Counted { .. }) => Refusal {
             number: 12,
             place: 0,
         },

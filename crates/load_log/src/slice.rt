@@ -1,8 +1,8 @@
 // The entities of a slice (docs/FORMS.md, 'Slice out').
 ghost use Rattle.std.specs.Prelude.{◌≤◌, length};
 
+use crate::each::{write_parents, write_values};
 use crate::line::write_line;
-use crate::rows::{write_parents, write_values};
 use answers::{Head, Lending};
 use files::{Failure, To};
 

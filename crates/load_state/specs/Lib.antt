@@ -1,3 +1,4 @@
+pub mod LoadReplies
 pub mod LoadStates
 pub mod Transcripts
 pub mod WorkedLaws

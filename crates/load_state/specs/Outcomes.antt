@@ -4,8 +4,7 @@ use Rattle.rules.specs.Numbers.{Answer, accepted, refused}
 use Rattle.rules.specs.Loading.{LoadAnswer, done, refused_at}
 use Rattle.answers.specs.Answers.{ReadItem, ItemOf, lent_from}
 use Rattle.answers.specs.declared.Lending.{Lending}
-use Rattle.load_state.specs.declared.LoadReply.{LoadReply}
-use Rattle.load_state.specs.declared.LoadReply.TheVariants.{Refused, Counted}
+use Rattle.load_state.specs.LoadReplies.{LoadReply, Refused, Counted}
 
 -- of a call that changes one buffer
 pub record LoadOutcome : Type 0 where

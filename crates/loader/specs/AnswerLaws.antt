@@ -33,7 +33,7 @@ use Rattle.load_state.specs.TurnLaws.{lent_came, lent_told, told_parts}
 use Rattle.std.specs.Prelude.{Some}
 use Rattle.load_state.specs.CameLaws.{came_waiting, came_rows, came_ahead, came_few}
 use Rattle.load_state.specs.Outcomes.{AnsweredAs, words_of}
-use Rattle.load_state.specs.declared.LoadReply.TheVariants.{Done, Refused}
+use Rattle.load_state.specs.LoadReplies.{Done, Refused}
 use Rattle.loader.specs.Calls.{taken_into}
 
 -- ---- answers behind others

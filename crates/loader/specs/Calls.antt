@@ -7,7 +7,7 @@ use Rattle.answers.specs.declared.Lending.TheVariants.{Answers}
 use Rattle.load_state.specs.LoadStates.{load_words, turn_number, answer_words}
 use Rattle.load_state.specs.Transcripts.{transcript_in, lent_load}
 use Rattle.load_state.specs.Outcomes.{LoadOutcome, refusing_call, counting_call, lent_words, behind_count, given_in, words_of}
-use Rattle.load_state.specs.declared.LoadReply.TheVariants.{Done}
+use Rattle.load_state.specs.LoadReplies.{Done}
 
 -- answers that are taken are stored behind those before them, as they were lent; with these, there are so many
 abbrev pub taken_into : List ℕ → List ℕ → ℕ → ℕ → LoadAnswer Load → LoadOutcome

@@ -20,7 +20,7 @@ use Rattle.load_state.specs.WorkedLaws.{items_counted}
 use Rattle.load_state.specs.TurnLaws.{lent_came, lent_told, told_parts}
 use Rattle.load_state.specs.CameLaws.{came_waiting, came_ahead}
 use Rattle.load_state.specs.Outcomes.{AnsweredAs, lent_words, behind_count, given, given_in, words_of}
-use Rattle.load_state.specs.declared.LoadReply.TheVariants.{Refused, Counted}
+use Rattle.load_state.specs.LoadReplies.{Refused, Counted}
 use Rattle.std.specs.Prelude.{Some}
 use Rattle.loader.specs.Calls.{taken_into, taken_from, storing_answers, answer_in}
 use Rattle.loader.specs.AnswerLaws.{Whole, all_whole}

@@ -13,7 +13,11 @@ ghost use Rattle.loader.specs.Calls.{taken_into, taken_from, answer_in};
 
 use answers::Lending;
 use batches::take_answers;
-use load_state::{LoadReply, LoadState, Worked, Workspace, nodes_from, read_load, turn_for};
+use load_state::{
+    LoadCounts, LoadRefusal, LoadReply, LoadState, Worked, Workspace, nodes_from, read_load,
+    turn_for,
+};
+use words::Refusal;
 
 // The one length of answers: a count, and words behind it.
 const LENT_WORDS: usize = 24_577;
@@ -52,7 +56,7 @@ fn take_given(state: &mut [u64], fresh: &[u64], load: Worked, work: &mut Workspa
     );
     let from = nodes_from(state[5]);
     let last = LoadState::ENTRY + state[5] as usize;
-    match take_answers(
+    let next = take_answers(
         &state[from..last],
         &words,
         &mut work.rows,
@@ -60,21 +64,21 @@ fn take_given(state: &mut [u64], fresh: &[u64], load: Worked, work: &mut Workspa
         load.asked,
         load.end,
         &mut work.scratch,
-    ) {
-        Err(refusal) => LoadReply::Refused(refusal.number, refusal.place),
-        Ok(next) => {
-            let waiting = next - load.end;
-            let turn = turn_for(waiting);
-            store_answers(
-                state,
-                turn,
-                load.end as u64,
-                fresh,
-                LoadState::ANSWERS + used,
-            );
-            LoadReply::Done(waiting as u64, load.batches + 1, load.end as u64)
-        }
-    }
+    )?;
+    let waiting = next - load.end;
+    let turn = turn_for(waiting);
+    store_answers(
+        state,
+        turn,
+        load.end as u64,
+        fresh,
+        LoadState::ANSWERS + used,
+    );
+    Ok(LoadCounts {
+        count: waiting as u64,
+        batches: load.batches + 1,
+        rows: load.end as u64,
+    })
 }
 
 // Takes lent answers: 1 by row, 12, 15, then by row 14, 13.
@@ -96,15 +100,24 @@ fn take_batch(state: &mut [u64], lent: &[u64], load: Worked, work: &mut Workspac
     ) {
         Ok(size) => size,
         Err(row) => {
-            return LoadReply::Refused(1, row);
+            return Err(LoadRefusal::Refused(Refusal {
+                number: 1,
+                place: row,
+            }));
         }
     };
     let waiting = (load.end - load.asked) as u64;
     if count != waiting {
-        return LoadReply::Counted(waiting, count);
+        return Err(LoadRefusal::Counted {
+            expected: waiting,
+            got: count,
+        });
     }
     if let Err(row) = answers::sum(Lending::Answers, &lent[1..LENT_WORDS], count, load.sum) {
-        return LoadReply::Refused(15, row);
+        return Err(LoadRefusal::Refused(Refusal {
+            number: 15,
+            place: row,
+        }));
     }
     let behind = 1 + size;
     take_given(state, &lent[1..behind], load, work)
@@ -115,17 +128,17 @@ pub fn load_answer(state: &mut [u64], answers: &[u64]) -> LoadReply
     ensures { AnsweredAs (answer_in state.old answers.now) result state.new }
 {
     if state.len() < LoadState::WORDS {
-        return LoadReply::Refused(31, 0);
+        return Err(LoadRefusal::SHORT);
     }
     if answers.len() < LENT_WORDS {
-        return LoadReply::Refused(31, 0);
+        return Err(LoadRefusal::SHORT);
     }
     let mut work = Workspace::new();
     let Some(load) = read_load(state, &mut work) else {
-        return LoadReply::Refused(1, 0);
+        return Err(LoadRefusal::UNLAWFUL);
     };
     if state[0] != 2 {
-        return LoadReply::Refused(16, 0);
+        return Err(LoadRefusal::OUT_OF_TURN);
     }
     take_batch(state, answers, load, &mut work)
 }

@@ -6,10 +6,9 @@ ghost use Rattle.std.specs.Prelude.{◌≤◌};
 
 use cases::{Case, Refused};
 use load_items::{Handed, Shown, number_of, words_of};
-use load_state::LoadReply;
+use load_state::{LoadCounts, LoadRefusal, LoadReply};
 use std::alloc::{AllocError, Global};
 use std::{fmt, io};
-use words::Refusal;
 
 // The one length of each lent buffer (docs/FORMS.md, 'Lent buffers').
 const MANIFEST: usize = 4_161;
@@ -68,20 +67,22 @@ struct Told(LoadReply);
 
 impl Told {
     fn is_refused(self) -> bool {
-        !matches!(self.0, LoadReply::Done(_, _, _))
+        self.0.is_err()
     }
 }
 
 impl fmt::Display for Told {
     fn fmt<W: fmt::Write>(&self, f: &mut fmt::Formatter<W>) -> fmt::Result {
         match self.0 {
-            LoadReply::Done(count, batches, rows) => write!(f, " {count} {batches} {rows}"),
-            LoadReply::Refused(number, place) => write!(
-                f,
-                " {}",
-                Refused(Refusal { number, place })
-            ),
-            LoadReply::Counted(expected, got) => {
+            Ok(
+                LoadCounts {
+                    count,
+                    batches,
+                    rows,
+                },
+            ) => write!(f, " {count} {batches} {rows}"),
+            Err(LoadRefusal::Refused(refusal)) => write!(f, " {}", Refused(refusal)),
+            Err(LoadRefusal::Counted { expected, got }) => {
                 write!(f, " refused 12: {expected} expected, {got} got")
             }
         }
@@ -162,7 +163,7 @@ fn replay_hand(
     let lent_out = call.lent(2, out.len());
     let reply = hand(handed, &mut state[..lent_state], &mut out[..lent_out]);
     print!(rt; "{}", Told(reply))?;
-    if let LoadReply::Done(count, _, _) = reply {
+    if let Ok(LoadCounts { count, .. }) = reply {
         let words = out.get(from..).unwrap_or(&[]);
         print!(rt;
             ":{}",

@@ -3,7 +3,6 @@
 use Rattle.std.specs.Prelude.{ℕ, suc, ◌+◌, ◌-◌, ◌≤◌, ◌<◌, ◌≡◌, refl, Bool, true, false, List, [], ◌∷◌, map, ltb, length, take, drop, get_or}
 use Rattle.std.proofs.Common.{arith, sym, ◌∙◌, ltb-false, leb-true, leb-false}
 use Rattle.rules.specs.Numbers.{Answer, refused}
-use Rattle.rules.specs.Tries.{Row}
 use Rattle.rules.specs.Paths.{Path, Leaf, nodes_of, path_tries}
 use Rattle.rules.specs.Steps.{Result, judged, is_too_deep}
 use Rattle.rules.proofs.StepLaws.{any_too_deep, stepped_some, each_then, or_neither, Each, IsPath, AllPaths}

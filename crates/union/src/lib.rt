@@ -258,10 +258,16 @@ pub fn union_rows(kind: Kind, a: &[u64], b: &[u64], out: &mut [u64]) -> Result<(
     let limits = kind.limits();
     let size = judged_size(limits, a, b);
     if limits.entries < size.entries {
-        return Err(Refusal { number: 5, place: 0 });
+        return Err(Refusal {
+            number: 5,
+            place: 0,
+        });
     }
     if limits.nodes < size.nodes {
-        return Err(Refusal { number: 4, place: 0 });
+        return Err(Refusal {
+            number: 4,
+            place: 0,
+        });
     }
     let start = Cursors { a: 0, b: 0, out: 1 };
     let end = union_roots(a, b, out, start, Kind::STEPS);

@@ -1,6 +1,6 @@
 -- `result_stack::merge_tries` meets its contract: the tries passed are merged, and those ahead are left to be merged.
 use Prim.Native.Nat.{◌+◌, ◌-◌}
-use mathlib.Core.Path.{◌≡◌, refl, sym, ◌∙◌}
+use mathlib.Core.Path.{◌≡◌, sym, ◌∙◌}
 use native.Mathlib.Omega.{arith}
 use lib.ListN.{take, drop, get_or, set, length-set}
 use lib.Seq.{get_or-set_same}

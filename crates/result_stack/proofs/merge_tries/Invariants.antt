@@ -1,4 +1,3 @@
-use Prim.Native.Nat.{◌-◌}
 use Rattle.result_stack.specs.StackLaws.{MergingTries}
 use Rattle.result_stack.proofs.merge_tries.Given as goal
 

@@ -1,5 +1,3 @@
-use Prim.Native.Nat.{◌-◌}
-use lib.ListN.{length}
 use Rattle.words.specs.RunLaws.{Copying}
 use Rattle.wrap_steps.proofs.copy_names.Given as goal
 

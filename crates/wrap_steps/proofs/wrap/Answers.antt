@@ -1,5 +1,5 @@
 -- `wrap_steps::wrap` meets its contract: the wrapped paths stand behind the head, and their tries are merged.
-use mathlib.Core.Path.{◌≡◌, sym, ◌∙◌}
+use mathlib.Core.Path.{◌≡◌}
 use mathlib.Core.List.{◌++◌}
 use native.Mathlib.Omega.{arith}
 use lib.ListN.{length, take, drop}

@@ -6,7 +6,7 @@ use Rattle.rules.specs.LoadCalls.{ended}
 use Rattle.answers.specs.Answers.{AllRead, lent_from, lent_items, sum_in}
 use Rattle.answers.specs.LentLaws.{fine_all}
 use Rattle.answers.specs.declared.Lending.TheVariants.{Sets}
-use Rattle.load_state.specs.declared.LoadReply.TheVariants.{Done}
+use Rattle.load_state.specs.LoadReplies.{Done}
 use Rattle.load_ends.specs.Ends.{sets_stored}
 use Rattle.load_ends.specs.SetLaws.{sets_wrong, sets_over, sets_kept}
 use Rattle.load_ends.proofs.sets.take_sets.Goals as goal

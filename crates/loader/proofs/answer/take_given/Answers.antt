@@ -12,6 +12,7 @@ use Rattle.load_state.specs.Transcripts.{node_words}
 use Rattle.load_state.specs.WorkedLaws.{nodes_part, from_within, nodes_few}
 use Rattle.load_state.specs.CameLaws.{came_rows, came_ahead, came_few}
 use Rattle.loader.specs.AnswerLaws.{GivenTo, given_to, old_words, copied_whole, words_read, words_length, given_stand, given_at, given_refused, given_ahead, given_taken}
+use Rattle.std.proofs.lemmas.Result.{err_from_is_err_and}
 use Rattle.loader.proofs.answer.take_given.Goals as goal
 use Rattle.loader.proofs.answer.take_given.Goals.{After-copy_words-2, After-nodes_from-from, After-place, After-take_answers, Start}
 
@@ -96,10 +97,10 @@ take_answers-requires c =
 
 pub overflow_sub-waiting : goal.overflow_sub-waiting
 overflow_sub-waiting c =
-    given_ahead (given (goal.at.overflow_sub-waiting c).Start) c.requires.in_bounds _ (words_are (goal.at.overflow_sub-waiting c).After-copy_words-2) _ c.place.ensures (placed (goal.at.overflow_sub-waiting c).After-place (within (goal.at.overflow_sub-waiting c).Start)) _ c.take_answers.result _ (taken (goal.at.overflow_sub-waiting c).After-take_answers (nodes (goal.at.overflow_sub-waiting c).After-nodes_from-from)) c.in-Ok.is
+    given_ahead (given (goal.at.overflow_sub-waiting c).Start) c.requires.in_bounds _ (words_are (goal.at.overflow_sub-waiting c).After-copy_words-2) _ c.place.ensures (placed (goal.at.overflow_sub-waiting c).After-place (within (goal.at.overflow_sub-waiting c).Start)) _ c.take_answers.result _ (taken (goal.at.overflow_sub-waiting c).After-take_answers (nodes (goal.at.overflow_sub-waiting c).After-nodes_from-from)) c.in_ok-next.was
 
-pub overflow_add-used-in-Ok : goal.overflow_add-used-in-Ok
-overflow_add-used-in-Ok c = omega (arith, (within (goal.at.overflow_add-used-in-Ok c).Start).2)
+pub overflow_add-used-2 : goal.overflow_add-used-2
+overflow_add-used-2 c = omega (arith, (within (goal.at.overflow_add-used-2 c).Start).2)
 
 pub store_answers-requires : goal.store_answers-requires
 store_answers-requires c = (c.requires.in_bounds, omega (arith, (within (goal.at.store_answers-requires c).Start).2, c.requires.in_bounds))
@@ -109,10 +110,12 @@ overflow_add-result c =
     let g = given (goal.at.overflow_add-result c).Start in
     omega (arith, within (goal.at.overflow_add-result c).Start, g.came.trips, g.came.at.going.fewer, came_rows g.came)
 
-pub returns-in-Err : goal.returns-in-Err
-returns-in-Err c =
-    given_refused (given (goal.at.returns-in-Err c).Start) c.requires.in_bounds _ (words_are (goal.at.returns-in-Err c).After-copy_words-2) _ c.place.ensures (placed (goal.at.returns-in-Err c).After-place (within (goal.at.returns-in-Err c).Start)) _ c.take_answers.result _ _ (taken (goal.at.returns-in-Err c).After-take_answers (nodes (goal.at.returns-in-Err c).After-nodes_from-from)) c.in-Err.is
+pub returns-in_err-next : goal.returns-in_err-next
+returns-in_err-next c =
+    let handed = err_from_is_err_and c.from_residual.result c.from_residual.ensures.1 in
+    rw (handed.1, handed.2)
+    (given_refused (given (goal.at.returns-in_err-next c).Start) c.requires.in_bounds _ (words_are (goal.at.returns-in_err-next c).After-copy_words-2) _ c.place.ensures (placed (goal.at.returns-in_err-next c).After-place (within (goal.at.returns-in_err-next c).Start)) _ c.take_answers.result _ _ (taken (goal.at.returns-in_err-next c).After-take_answers (nodes (goal.at.returns-in_err-next c).After-nodes_from-from)) c.in_err-next.was)
 
-pub returns-in-Ok : goal.returns-in-Ok
-returns-in-Ok c =
-    given_taken (given (goal.at.returns-in-Ok c).Start) c.requires.in_bounds _ (words_are (goal.at.returns-in-Ok c).After-copy_words-2) _ c.place.ensures (placed (goal.at.returns-in-Ok c).After-place (within (goal.at.returns-in-Ok c).Start)) _ c.take_answers.result _ (taken (goal.at.returns-in-Ok c).After-take_answers (nodes (goal.at.returns-in-Ok c).After-nodes_from-from)) c.in-Ok.is c.requires.asked_lt_end.0 _ _ c.turn_for-turn.ensures c.store_answers.ensures
+pub returns : goal.returns
+returns c =
+    given_taken (given (goal.at.returns c).Start) c.requires.in_bounds _ (words_are (goal.at.returns c).After-copy_words-2) _ c.place.ensures (placed (goal.at.returns c).After-place (within (goal.at.returns c).Start)) _ c.take_answers.result _ (taken (goal.at.returns c).After-take_answers (nodes (goal.at.returns c).After-nodes_from-from)) c.in_ok-next.was c.requires.asked_lt_end.0 _ _ c.turn_for-turn.ensures c.store_answers.ensures
