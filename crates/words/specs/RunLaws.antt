@@ -1,13 +1,11 @@
 -- Laws of writing runs (Runs), of words with their count in front, and of copying them. No contract cites this file.
-use Rattle.std.specs.Prelude.{ℕ, suc, ◌+◌, ◌-◌, ◌≤◌, ◌<◌, List, [], ◌∷◌, ◌++◌, ◌≡◌, refl, length, get_or, take, drop, set}
-use Rattle.std.proofs.Common.{append_assoc, add-zero, add-suc, suc-add, add_comm, add-one, arith, sym, ap, ◌∙◌, length-drop, length-append, get_or-take, get_or-set_same, take-suc-set, length-take-le}
+use Rattle.std.specs.Prelude.{ℕ, suc, ◌+◌, ◌≤◌, ◌<◌, List, [], ◌∷◌, ◌++◌, ◌≡◌, refl, length, get_or, take, drop, set}
+use Rattle.std.proofs.Common.{add-zero, add-suc, suc-add, add_comm, add-one, arith, sym, ap, ◌∙◌, length-drop, length-append, get_or-take, get_or-set_same, take-suc-set, length-take-le}
 use Rattle.std.proofs.lemmas.List.Edits.{sets, sets-eq}
-use Rattle.std.proofs.Math.Seq.{length-sets, take-append_seam, take-length, drop-drop}
-use borrow.Rule.Slice.PartMut.{put_mid}
-use native.Mathlib.Nat.{add-sub_cancel_left}
+use Rattle.std.proofs.Math.Seq.{length-sets, take-append_seam, take-length}
 use Rattle.std.proofs.lemmas.List.{drop-set-add}
 use Rattle.words.specs.Runs.{Wrote, stored, Outcome}
-use Rattle.words.specs.SeqLaws.{copied_next}
+use Rattle.words.specs.SeqLaws.{copied_item}
 
 -- ---- runs after one another
 
@@ -50,42 +48,33 @@ wrote_same e w = rw e at w
 pub taken_back : (l xs : List ℕ) → length xs ≤ length l → take (length xs) (sets l 0 xs) ≡ xs
 taken_back l xs h = rw (sets-eq xs l 0 (omega arith)) (take-append_seam xs (drop (0 + length xs) l))
 
--- ---- a copy into a part of a buffer
+-- ---- a copy, item by item
 
--- where items were copied to a part of a buffer that is as long, they are written there
-pub copied_part :
-    {A : Type 0} (out items copy : List A) (to : ℕ)
-    → to + length items ≤ length out
-    → copy ≡ items
-    → Wrote out to items (put_mid to (to + length items - to) out copy) (to + length items)
-copied_part out items copy to room same = record {
-  after = refl;
-  text =
-      rw (same, add-sub_cancel_left, drop-drop (length items) to out) (sym (sets-eq items out to room ∙ append_assoc (take to out) items _));
-}
+-- the first i items are copied
+pub record Copying {A : Type 0} (items out : List A) (to : ℕ) (out' : List A) (i : ℕ) : Type 0 where
+  pub so_many : i ≤ length items
+  pub text : out' ≡ sets out to (take i items)
 
--- ---- a copy, word by word
+pub copying_first : {A : Type 0} (items out : List A) (to : ℕ) → Copying items out to out 0
+copying_first items out to = record { so_many = omega arith; text = refl }
 
--- the first i words are copied
-pub record Copying (words out : List ℕ) (to : ℕ) (out' : List ℕ) (i : ℕ) : Type 0 where
-  pub so_many : i ≤ length words
-  pub text : out' ≡ sets out to (take i words)
-
-pub copying_first : (words out : List ℕ) (to : ℕ) → Copying words out to out 0
-copying_first words out to = record { so_many = omega arith; text = refl }
-
-module _ {words out out' : List ℕ} {to i : ℕ} (copying : Copying words out to out' i) where
+module _ {A : Type 0} {items out out' : List A} {to i : ℕ} (copying : Copying items out to out' i) where
   -- the output keeps its length
   pub copying_length : length out' ≡ length out
-  copying_length = ap length copying.text ∙ length-sets out to (take i words)
+  copying_length = ap length copying.text ∙ length-sets out to (take i items)
 
-  pub copying_next : i < length words → Copying words out to (set out' (to + i) (get_or words i 0)) (i + 1)
-  copying_next h = record { so_many = omega arith; text = rw copying.text (copied_next words out to i h) }
+  pub copying_item : (d : A) → i < length items → Copying items out to (set out' (to + i) (get_or items i d)) (i + 1)
+  copying_item d h = record { so_many = omega arith; text = rw copying.text (copied_item items out to i d h) }
 
-  pub copying_all : length words ≤ i → Wrote out to words out' (to + i)
+  pub copying_all : length items ≤ i → Wrote out to items out' (to + i)
   copying_all h =
-      let all : i ≡ length words = omega (arith, copying.so_many) in
-      record { after = rw all; text = copying.text ∙ rw (all, take-length words) }
+      let all : i ≡ length items = omega (arith, copying.so_many) in
+      record { after = rw all; text = copying.text ∙ rw (all, take-length items) }
+
+-- the same of words, which are 0 past their end
+pub copying_next :
+    {words out out' : List ℕ} {to i : ℕ} → Copying words out to out' i → i < length words → Copying words out to (set out' (to + i) (get_or words i 0)) (i + 1)
+copying_next copying h = copying_item copying 0 h
 
 -- ---- words with their count in front
 

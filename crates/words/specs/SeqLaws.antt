@@ -5,16 +5,22 @@ use Rattle.std.proofs.lemmas.List.Edits.{sets}
 use Rattle.std.proofs.lemmas.List.{set_comm, take-set-le}
 
 -- one more value goes to the place after the others
-pub sets_snoc : (l : List ℕ) (i : ℕ) (xs : List ℕ) (v : ℕ) → sets l i (xs ++ (v ∷ [])) ≡ set (sets l i xs) (i + length xs) v
+pub sets_snoc : {A : Type 0} (l : List A) (i : ℕ) (xs : List A) (v : A) → sets l i (xs ++ (v ∷ [])) ≡ set (sets l i xs) (i + length xs) v
 sets_snoc l i [] v = rw add-zero
 sets_snoc l i (x ∷ xs) v = sets_snoc (set l i x) (suc i) xs v ∙ rw (suc-add, ← add-suc)
 
--- one more word of a copy
+-- one more item of a copy
+pub copied_item :
+    {A : Type 0} (items out : List A) (to i : ℕ) (d : A) → i < length items
+    → set (sets out to (take i items)) (to + i) (get_or items i d) ≡ sets out to (take (i + 1) items)
+copied_item items out to i d h =
+    let place : length (take i items) ≡ i = length-take-le i items (omega arith) in
+    rw (add-one, take-suc items i d h, sets_snoc out to (take i items) (get_or items i d), place)
+
+-- one more word
 pub copied_next :
     (words out : List ℕ) (to i : ℕ) → i < length words → set (sets out to (take i words)) (to + i) (get_or words i 0) ≡ sets out to (take (i + 1) words)
-copied_next words out to i h =
-    let place : length (take i words) ≡ i = length-take-le i words (omega arith) in
-    rw (add-one, take-suc words i 0 h, sets_snoc out to (take i words) (get_or words i 0), place)
+copied_next words out to i h = copied_item words out to i 0 h
 
 -- a store in front of others may come before them
 pub set_before : (l : List ℕ) (i v k : ℕ) (xs : List ℕ) → i < k → set (sets l k xs) i v ≡ sets (set l i v) k xs

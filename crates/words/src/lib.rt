@@ -32,9 +32,10 @@ pub fn copy_words<T: Copy>(words: &[T], out: &mut [T], to: usize) -> usize
     requires { to + length words.now ≤ length out.old }
     ensures { Wrote out.old to words.now out.new result }
 {
-    let end = to + words.len();
-    out[to..end].copy_from_slice(words);
-    end
+    for i in 0..words.len() {
+        out[to + i] = words[i];
+    }
+    to + words.len()
 }
 
 // A word of 16 bits as a number.
