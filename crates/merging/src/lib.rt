@@ -46,7 +46,23 @@ fn inside_after(inside: Option<u64>, row: ValueRow) -> Option<u64>
 fn row_order(x: ValueRow, y: ValueRow) -> Ordering
     ensures { result ≡ order_of (next (placed_row (value_row_in x.word)) (placed_row (value_row_in y.word))) }
 {
-    y.depth().cmp(&x.depth()).then(x.key().cmp(&y.key()))
+    let x_depth = x.depth();
+    let y_depth = y.depth();
+    if y_depth < x_depth {
+        return Ordering::Less;
+    }
+    if x_depth < y_depth {
+        return Ordering::Greater;
+    }
+    let x_key = x.key();
+    let y_key = y.key();
+    if x_key < y_key {
+        return Ordering::Less;
+    }
+    if y_key < x_key {
+        return Ordering::Greater;
+    }
+    Ordering::Equal
 }
 
 // Which run has the next row, where i and j rows are passed and some are left: the left where it is `Less`, the right where it is `Greater`,
