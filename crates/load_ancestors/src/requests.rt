@@ -9,9 +9,7 @@ ghost use Rattle.load_ends.specs.Ends.{ReadTo};
 ghost use Rattle.load_ancestors.specs.Asking.{asking_of, ancestors_in};
 
 use ancestors::compute_ancestors_requests;
-use load_state::{
-    LoadCounts, LoadRefusal, LoadReply, LoadState, Worked, Workspace, nodes_from, read_load,
-};
+use load_state::{LoadCounts, LoadRefusal, LoadReply, LoadState, Worked, Workspace, nodes_from};
 use row_walk::Request;
 use slices::build_slice;
 use words::Refusal;
@@ -105,7 +103,7 @@ pub fn load_ancestors(state: &mut [u64], out: &mut [u64]) -> LoadReply
         return Err(LoadRefusal::SHORT);
     }
     let mut work = Workspace::new();
-    let Some(load) = read_load(state, &mut work) else {
+    let Some(load) = work.read(state) else {
         return Err(LoadRefusal::UNLAWFUL);
     };
     if state[0] != 3 {

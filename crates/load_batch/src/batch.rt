@@ -5,7 +5,7 @@ ghost use Rattle.values.specs.ValueWords.{row_asked, request_word};
 ghost use Rattle.load_state.specs.Outcomes.{HandedAs};
 ghost use Rattle.load_batch.specs.Handing.{numbered, batch_in};
 
-use load_state::{LoadCounts, LoadRefusal, LoadReply, LoadState, Workspace, read_load};
+use load_state::{LoadCounts, LoadRefusal, LoadReply, LoadState, Workspace};
 use values::EntityRequest;
 
 // The one length of a batch's rows.
@@ -38,7 +38,7 @@ pub fn load_batch(state: &mut [u64], out: &mut [u64]) -> LoadReply
         return Err(LoadRefusal::SHORT);
     }
     let mut work = Workspace::new();
-    let Some(load) = read_load(state, &mut work) else {
+    let Some(load) = work.read(state) else {
         return Err(LoadRefusal::UNLAWFUL);
     };
     if state[0] != 1 {

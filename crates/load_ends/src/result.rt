@@ -7,7 +7,7 @@ ghost use Rattle.load_state.specs.Outcomes.{AnsweredAs};
 ghost use Rattle.load_ends.specs.Ends.{ReadTo, handing_slice, result_in};
 
 use answers::Lending;
-use load_state::{LoadCounts, LoadRefusal, LoadReply, LoadState, Worked, Workspace, read_load};
+use load_state::{LoadCounts, LoadRefusal, LoadReply, LoadState, Worked, Workspace};
 use slices::build_slice;
 
 // The one length of a slice that is handed out: its count, and words behind it.
@@ -58,7 +58,7 @@ pub fn load_result(state: &[u64], out: &mut [u64]) -> LoadReply
         return Err(LoadRefusal::SHORT);
     }
     let mut work = Workspace::new();
-    let Some(load) = read_load(state, &mut work) else {
+    let Some(load) = work.read(state) else {
         return Err(LoadRefusal::UNLAWFUL);
     };
     if state[0] < 5 {

@@ -9,7 +9,7 @@ ghost use Rattle.load_state.specs.Outcomes.{AnsweredAs};
 ghost use Rattle.load_ends.specs.Ends.{sets_stored, taking_sets, ancestors_answer_in};
 
 use answers::Lending;
-use load_state::{LoadCounts, LoadRefusal, LoadReply, LoadState, Workspace, read_load};
+use load_state::{LoadCounts, LoadRefusal, LoadReply, LoadState, Workspace};
 use words::Refusal;
 
 // The one length of ancestors' answers: a count, and words behind it.
@@ -81,7 +81,7 @@ pub fn load_ancestors_answer(state: &mut [u64], sets: &[u64]) -> LoadReply
         return Err(LoadRefusal::SHORT);
     }
     let mut work = Workspace::new();
-    let Some(load) = read_load(state, &mut work) else {
+    let Some(load) = work.read(state) else {
         return Err(LoadRefusal::UNLAWFUL);
     };
     if state[0] != 4 {

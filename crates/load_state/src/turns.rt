@@ -9,7 +9,7 @@ ghost use Rattle.load_state.specs.LoadStates.{first_turn, answer_words, set_word
 ghost use Rattle.load_state.specs.Transcripts.{turn_in, node_words, lent_load, LentTo};
 
 use crate::LoadState;
-use crate::working::{Worked, Workspace, work_out};
+use crate::working::{Worked, work_out};
 use answers::Lending;
 
 // The turn of a load where so many rows wait: a batch waits where rows do.
@@ -54,12 +54,18 @@ fn turn_fits(state: &[u64], waiting: usize, asked: usize, sum: u64) -> bool
     sets_fit(&state[LoadState::SETS..LoadState::WORDS], sets, asked, sum)
 }
 
-// The load of a lent state, if that is lawful.
-pub fn read_load(state: &[u64], work: &mut Workspace) -> Option<Worked>
-    requires { 36874 ≤ length state.now }
-    ensures { LentTo (lent_load state.now) (answer_words state.now) work.new.rows work.new.places (get_or state.now 7 0) (rows_of (node_words state.now)) result }
+// The load of a lent state, if that is lawful. `scratch` is scratch.
+pub fn read_load(
+    state: &[u64],
+    rows: &mut [u64],
+    places: &mut [u64],
+    scratch: &mut [u64],
+) -> Option<Worked>
+    requires in_bounds { (36874 ≤ length state.now) × (8192 ≤ length rows.old) }
+    requires in_bounds_2 { (4096 ≤ length places.old) × (24577 ≤ length scratch.old) }
+    ensures { LentTo (lent_load state.now) (answer_words state.now) rows.new places.new (get_or state.now 7 0) (rows_of (node_words state.now)) result }
 {
-    let load = work_out(state, work)?;
+    let load = work_out(state, rows, places, scratch)?;
     if turn_fits(state, load.end - load.asked, load.asked, load.sum) {
         Some(load)
     } else {

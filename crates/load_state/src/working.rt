@@ -6,10 +6,11 @@ ghost use Rattle.answers.specs.Answers.{AllRead, lent_from, lent_items};
 ghost use Rattle.answers.specs.declared.Lending.TheVariants.{Answers};
 ghost use Rattle.row_walk.specs.Initial.{request_with};
 ghost use Rattle.load_state.specs.LoadStates.{answer_words};
-ghost use Rattle.load_state.specs.Transcripts.{node_words, nodes_from, worked_by, load_in, WorkedTo};
+ghost use Rattle.load_state.specs.Transcripts.{node_words, nodes_from, worked_by, load_in, lent_load, LentTo, WorkedTo};
 
 use crate::LoadState;
 use crate::parts::has_good_parts;
+use crate::turns::read_load;
 use answers::Lending;
 use batches::replay;
 use row_walk::{Request, initial_entities_to_load};
@@ -38,6 +39,14 @@ impl Workspace {
             places: [0; 4_096],
             scratch: [0; 24_577],
         }
+    }
+
+    // The load of a lent state, if that is lawful, worked out here.
+    pub fn read(&mut self, state: &[u64]) -> Option<Worked>
+        requires { 36874 ≤ length state.now }
+        ensures { LentTo (lent_load state.now) (answer_words state.now) self.new.rows self.new.places (get_or state.now 7 0) (rows_of (node_words state.now)) result }
+    {
+        read_load(state, &mut self.rows, &mut self.places, &mut self.scratch)
     }
 }
 
@@ -80,12 +89,18 @@ fn work_out_load(
     })
 }
 
-// Works out the load that a state tells of, if there is one.
-pub fn work_out(state: &[u64], work: &mut Workspace) -> Option<Worked>
-    requires { 36874 ≤ length state.now }
-    ensures { WorkedTo (load_in state.now) (answer_words state.now) work.new.rows work.new.places (get_or state.now 7 0) (rows_of (node_words state.now)) result }
+// Works out the load that a state tells of, if there is one. `scratch` is scratch.
+pub fn work_out(
+    state: &[u64],
+    rows: &mut [u64],
+    places: &mut [u64],
+    scratch: &mut [u64],
+) -> Option<Worked>
+    requires in_bounds { (36874 ≤ length state.now) × (8192 ≤ length rows.old) }
+    requires in_bounds_2 { (4096 ≤ length places.old) × (24577 ≤ length scratch.old) }
+    ensures { WorkedTo (load_in state.now) (answer_words state.now) rows.new places.new (get_or state.now 7 0) (rows_of (node_words state.now)) result }
 {
-    if !has_good_parts(state, &mut work.scratch) {
+    if !has_good_parts(state, scratch) {
         return None;
     }
     let request = Request {
@@ -102,8 +117,8 @@ pub fn work_out(state: &[u64], work: &mut Workspace) -> Option<Worked>
         &state[LoadState::CONTEXT..last],
         &state[LoadState::ANSWERS..LoadState::SETS],
         state[7],
-        &mut work.rows,
-        &mut work.places,
-        &mut work.scratch,
+        rows,
+        places,
+        scratch,
     )
 }

@@ -14,8 +14,7 @@ ghost use Rattle.loader.specs.Calls.{taken_into, taken_from, answer_in};
 use answers::Lending;
 use batches::take_answers;
 use load_state::{
-    LoadCounts, LoadRefusal, LoadReply, LoadState, Worked, Workspace, nodes_from, read_load,
-    turn_for,
+    LoadCounts, LoadRefusal, LoadReply, LoadState, Worked, Workspace, nodes_from, turn_for,
 };
 use words::Refusal;
 
@@ -134,7 +133,7 @@ pub fn load_answer(state: &mut [u64], answers: &[u64]) -> LoadReply
         return Err(LoadRefusal::SHORT);
     }
     let mut work = Workspace::new();
-    let Some(load) = read_load(state, &mut work) else {
+    let Some(load) = work.read(state) else {
         return Err(LoadRefusal::UNLAWFUL);
     };
     if state[0] != 2 {

@@ -30,10 +30,10 @@ came :
     (c : In-Some) →
     (load : Load)
     × (lent_load c.args.state.now ≡ done load)
-    × CameTo (answer_words c.args.state.now) c.read_load.new.work.rows c.read_load.new.work.places (get_or c.args.state.now 7 0) (rows_of (node_words c.args.state.now)) load
+    × CameTo (answer_words c.args.state.now) c.read.new.self.rows c.read.new.self.places (get_or c.args.state.now 7 0) (rows_of (node_words c.args.state.now)) load
     c.in-Some.load.asked c.in-Some.load.end c.in-Some.load.batches c.in-Some.load.sum
 came c =
-    lent_came (answer_words c.args.state.now) _ _ (get_or c.args.state.now 7 0) _ (lent_load c.args.state.now) c.read_load.result _ c.read_load.ensures c.in-Some.is
+    lent_came (answer_words c.args.state.now) _ _ (get_or c.args.state.now 7 0) _ (lent_load c.args.state.now) c.read.result _ c.read.ensures c.in-Some.is
 
 parts : (c : In-Some) → GoodParts c.args.state.now
 parts c = let (load, lent, at) = came c in told_parts c.args.state.now load (lent_told c.args.state.now load lent).0
@@ -60,7 +60,7 @@ pub returns-in_default : goal.returns-in_default
 returns-in_default c =
     let a = c.args in
     batch_unlawful a.state.now a.out.now (long (goal.at.returns-in_default c).Else-out-lt-BATCH_WORDS (long-state (goal.at.returns-in_default c).Else-state-lt-WORDS))
-    (lent_unlawful (answer_words a.state.now) _ _ _ _ _ c.read_load.result c.read_load.ensures c.in_default.is)
+    (lent_unlawful (answer_words a.state.now) _ _ _ _ _ c.read.result c.read.ensures c.in_default.is)
 
 pub returns-then-state-ne1 : goal.returns-then-state-ne1
 returns-then-state-ne1 c =
@@ -83,7 +83,7 @@ slice_bounds-write_batch-end c = omega (arith, within (goal.at.slice_bounds-writ
 pub write_batch-requires : goal.write_batch-requires
 write_batch-requires c =
     let (load, lent, at) = came (goal.at.write_batch-requires c).In-Some in
-    let rows = drop c.in-Some.load.asked c.read_load.new.work.rows in record { rows_in_bounds = (omega (arith, within (goal.at.write_batch-requires c).In-Some, length-take (c.in-Some.load.end - c.in-Some.load.asked) rows, c.if-out-lt-BATCH_WORDS.false), omega (arith, (parts (goal.at.write_batch-requires c).In-Some).numbers_few)); by_index = waiting_small at (nodes (goal.at.write_batch-requires c).In-Some) }
+    let rows = drop c.in-Some.load.asked c.read.new.self.rows in record { rows_in_bounds = (omega (arith, within (goal.at.write_batch-requires c).In-Some, length-take (c.in-Some.load.end - c.in-Some.load.asked) rows, c.if-out-lt-BATCH_WORDS.false), omega (arith, (parts (goal.at.write_batch-requires c).In-Some).numbers_few)); by_index = waiting_small at (nodes (goal.at.write_batch-requires c).In-Some) }
 
 pub overflow_sub-result : goal.overflow_sub-result
 overflow_sub-result c = omega (arith, within (goal.at.overflow_sub-result c).In-Some)

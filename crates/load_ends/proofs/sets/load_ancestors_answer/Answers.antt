@@ -23,8 +23,8 @@ long c =
 -- the load of the state
 read :
     (c : In-Some) →
-    ReadTo c.args.state.now c.read_load.new.work.rows c.read_load.new.work.places c.in-Some.load.asked c.in-Some.load.batches c.in-Some.load.sum
-read c = lent_read c.args.state.now _ _ _ c.read_load.result c.read_load.ensures c.in-Some.is
+    ReadTo c.args.state.now c.read.new.self.rows c.read.new.self.places c.in-Some.load.asked c.in-Some.load.batches c.in-Some.load.sum
+read c = lent_read c.args.state.now _ _ _ c.read.result c.read.ensures c.in-Some.is
 
 pub returns-then-state-lt-WORDS : goal.returns-then-state-lt-WORDS
 returns-then-state-lt-WORDS c =
@@ -40,7 +40,7 @@ pub returns-in_default : goal.returns-in_default
 returns-in_default c =
     let a = c.args in
     let state = a.state.now in
-    rw (answer_unlawful state a.sets.now (long (goal.at.returns-in_default c).Else-sets-lt-LENT_WORDS) (lent_unlawful (answer_words state) _ _ (get_or state 7 0) _ (lent_load state) c.read_load.result c.read_load.ensures c.in_default.is)) (refl, refl)
+    rw (answer_unlawful state a.sets.now (long (goal.at.returns-in_default c).Else-sets-lt-LENT_WORDS) (lent_unlawful (answer_words state) _ _ (get_or state 7 0) _ (lent_load state) c.read.result c.read.ensures c.in_default.is)) (refl, refl)
 
 pub returns-then-state-ne4 : goal.returns-then-state-ne4
 returns-then-state-ne4 c =

@@ -17,7 +17,7 @@ came :
     (c : In_ok-load) →
     (load : Load)
     × (load_in c.args.state.now ≡ done load)
-    × CameTo (answer_words c.args.state.now) c.work_out.new.work.rows c.work_out.new.work.places (get_or c.args.state.now 7 0) (rows_of (node_words c.args.state.now)) load
+    × CameTo (answer_words c.args.state.now) c.work_out.new.rows c.work_out.new.places (get_or c.args.state.now 7 0) (rows_of (node_words c.args.state.now)) load
     c.in_ok-load.load.asked c.in_ok-load.load.end c.in_ok-load.load.batches c.in_ok-load.load.sum
 came c =
     worked_load (answer_words c.args.state.now) _ _ (get_or c.args.state.now 7 0) _ (load_in c.args.state.now) c.work_out.result _ c.work_out.ensures c.in_ok-load.was
@@ -45,7 +45,7 @@ pub turn_fits-requires : goal.turn_fits-requires
 turn_fits-requires c =
     let (load, told, at) = came (goal.at.turn_fits-requires c).In_ok-load in
     let parts = told_parts c.args.state.now load told in
-    record { in_bounds = (c.requires, parts.turn, at.few); all_read = parts.sets_read }
+    record { in_bounds = (c.requires.in_bounds.0, parts.turn, at.few); all_read = parts.sets_read }
 
 pub returns-then-turn_fits : goal.returns-then-turn_fits
 returns-then-turn_fits c =

@@ -54,11 +54,11 @@ slice_bounds-work_out_load-start c =
 
 pub slice_bounds-work_out_load-end : goal.slice_bounds-work_out_load-end
 slice_bounds-work_out_load-end c =
-    omega (arith, (parts (goal.at.slice_bounds-work_out_load-end c).Else-not-has_good_parts).few_rows, c.requires)
+    omega (arith, (parts (goal.at.slice_bounds-work_out_load-end c).Else-not-has_good_parts).few_rows, c.requires.in_bounds.0)
 
 pub slice_bounds-work_out_load-end-2 : goal.slice_bounds-work_out_load-end-2
 slice_bounds-work_out_load-end-2 c =
-    omega (arith, (parts (goal.at.slice_bounds-work_out_load-end-2 c).Else-not-has_good_parts).few_values, c.requires)
+    omega (arith, (parts (goal.at.slice_bounds-work_out_load-end-2 c).Else-not-has_good_parts).few_values, c.requires.in_bounds.0)
 
 pub work_out_load-requires : goal.work_out_load-requires
 work_out_load-requires c =
@@ -66,8 +66,8 @@ work_out_load-requires c =
     rw (nodes (goal.at.work_out_load-requires c).After-nodes_from-from) (record {
       nodes_len_bound = (nodes_few c.args.state.now good-ones.few_rows, good-ones.small);
       by_index = (_, good-ones.order);
-      all_read = (good-ones.read, omega (arith, good-ones.few_answers));
-      in_bounds = (omega arith, omega (arith, length-take 12288 (drop 12298 c.args.state.now), c.has_good_parts.auto.levels));
+      all_read = (good-ones.read, omega (arith, good-ones.few_answers, c.requires.in_bounds_2.0));
+      in_bounds = (c.requires.in_bounds.1, omega (arith, length-take 12288 (drop 12298 c.args.state.now), c.has_good_parts.auto.levels, c.requires.in_bounds_2.1));
     })
 
 pub returns : goal.returns

@@ -27,18 +27,18 @@ long c long-state-here = rw (long-state-here, le-leb 24577 (length c.args.answer
 -- the load of the state
 lent :
     (c : In-Some) →
-    LentTo (lent_load c.args.state.now) (answer_words c.args.state.now) c.read_load.new.work.rows c.read_load.new.work.places (get_or c.args.state.now 7 0) (rows_of (node_words c.args.state.now))
+    LentTo (lent_load c.args.state.now) (answer_words c.args.state.now) c.read.new.self.rows c.read.new.self.places (get_or c.args.state.now 7 0) (rows_of (node_words c.args.state.now))
     (Some c.in-Some.load)
-lent c = rw c.in-Some.is at c.read_load.ensures
+lent c = rw c.in-Some.is at c.read.ensures
 
 came :
     (c : In-Some) →
     (load : Load)
     × (lent_load c.args.state.now ≡ done load)
-    × CameTo (answer_words c.args.state.now) c.read_load.new.work.rows c.read_load.new.work.places (get_or c.args.state.now 7 0) (rows_of (node_words c.args.state.now)) load
+    × CameTo (answer_words c.args.state.now) c.read.new.self.rows c.read.new.self.places (get_or c.args.state.now 7 0) (rows_of (node_words c.args.state.now)) load
     c.in-Some.load.asked c.in-Some.load.end c.in-Some.load.batches c.in-Some.load.sum
 came c =
-    lent_came (answer_words c.args.state.now) _ _ (get_or c.args.state.now 7 0) _ (lent_load c.args.state.now) c.read_load.result _ c.read_load.ensures c.in-Some.is
+    lent_came (answer_words c.args.state.now) _ _ (get_or c.args.state.now 7 0) _ (lent_load c.args.state.now) c.read.result _ c.read.ensures c.in-Some.is
 
 pub returns-then-state-lt-WORDS : goal.returns-then-state-lt-WORDS
 returns-then-state-lt-WORDS c =
@@ -54,7 +54,7 @@ pub returns-in_default : goal.returns-in_default
 returns-in_default c =
     let a = c.args in
     answer_unlawful a.state.now a.answers.now (long (goal.at.returns-in_default c).Else-answers-lt-LENT_WORDS (long-state (goal.at.returns-in_default c).Else-state-lt-WORDS))
-    (lent_unlawful (answer_words a.state.now) _ _ _ _ _ c.read_load.result c.read_load.ensures c.in_default.is)
+    (lent_unlawful (answer_words a.state.now) _ _ _ _ _ c.read.result c.read.ensures c.in_default.is)
 
 pub returns-then-state-ne2 : goal.returns-then-state-ne2
 returns-then-state-ne2 c =
