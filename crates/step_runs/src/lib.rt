@@ -60,9 +60,7 @@ pub fn step_line(
     if stack.code < Stack::CODE_ROOM || stack.tries < Stack::TRIES_ROOM {
         return Err(Stop::Full);
     }
-    let Some(step) = parse(line, names) else {
-        return Err(Stop::Refused(StepRefusal::Unlawful.at(number)));
-    };
+    let step = parse(line, names);
     match apply(step, names, types, code, tries, paths, trie, stack) {
         Ok(next) => Ok(next),
         Err(refusal) => Err(Stop::Refused(refusal.at(number))),

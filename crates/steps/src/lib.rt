@@ -1,10 +1,11 @@
 // A step by its kind.
 #![tactic(auto)]
 
-ghost use Rattle.std.specs.Prelude.{◌≡◌, ◌≤◌, length};
+ghost use Rattle.std.specs.Prelude.{◌≡◌, ◌≤◌, Some, length};
 ghost use Rattle.rules.specs.Steps.{stepped as stepped_by};
 ghost use Rattle.schema.specs.Items.{items_of};
-ghost use Rattle.step_lines.specs.Lines.{step_read, name_count, GoodRead};
+ghost use Rattle.step_lines.specs.Lines.{line_read, names_read, GoodRead};
+ghost use Rattle.step_lines.specs.declared.Step.{Step as StepRead};
 ghost use Rattle.result_stack.specs.Stacks.{Working, Scratch, StepsBy};
 
 use attr_steps::attr_step;
@@ -15,10 +16,10 @@ use step_lines::Step;
 use type_table::Types;
 use wrap_steps::{EntityManifestAnalysisResult, rec_step, set_step};
 
-// One step on the stack; `paths` and `trie` are scratch.
+// One step on the stack, which is refused where a line has none; `paths` and `trie` are scratch.
 #[tactic(auto, unfolding(rules::specs::Steps::apply))]
 pub fn apply(
-    step: Step,
+    step: Option<Step>,
     names: &[u64],
     types: &Types<'_>,
     code: &mut [u16],
@@ -27,11 +28,14 @@ pub fn apply(
     trie: &mut [u64],
     stack: Stack,
 ) -> Result<Stack, StepRefusal>
-    requires step_bound { (name_count step ≤ 32) × ((length names.now ≡ 32) × GoodRead step names.now) }
+    requires step_bound { (names_read step ≤ 32) × ((length names.now ≡ 32) × ((read : StepRead) → step ≡ Some read → GoodRead read names.now)) }
     requires working { Working code.old tries.old trie.old stack × Scratch code.old paths.old }
-    ensures { StepsBy (λ place results. stepped_by (items_of types.now.words.now) place (step_read step names.now) results) code.old tries.old stack code.new tries.new result }
+    ensures { StepsBy (λ place results. stepped_by (items_of types.now.words.now) place (line_read step names.now) results) code.old tries.old stack code.new tries.new result }
 {
-    match step {
+    let Some(read) = step else {
+        return Err(StepRefusal::Unlawful);
+    };
+    match read {
         Step::Root(root) => EntityManifestAnalysisResult::from_root(root, code, tries, stack),
         Step::None => EntityManifestAnalysisResult::default(code, tries, stack),
         Step::Attr(name) => attr_step(name, code, tries, paths, trie, stack),
