@@ -66,31 +66,37 @@ kind_ends rest (Some end) e =
     (omega (arith, ends.1), ends.2 ∙ rw (sub-zero, behind_tab rest end ends.1))
 
 -- an entity type has its names
-pub value_names : (kind : ℕ) (more : List ℕ) → kind ≡ 9 → value_of kind (fields_of more) ≡ named_by (fields_of more)
-value_names kind more e = let (field, fields, some-field) = parted_some TAB more in rw some-field (go field fields)
-  where
-    go : (field : List ℕ) (fields : List (List ℕ)) → value_of kind (field ∷ fields) ≡ named_by (field ∷ fields)
-    go field [] = rw e (sym (named_one field))
-    go field (next ∷ fields) = rw e
+pub value_names : (kind : ℕ) (field : List ℕ) (fields : List (List ℕ)) → kind ≡ 9 → value_of kind (field ∷ fields) ≡ named_by (field ∷ fields)
+value_names kind field [] e = rw e (sym (named_one field))
+value_names kind field (next ∷ fields) e = rw e
+
+pub more_names : (kind : ℕ) (more : List ℕ) → kind ≡ 9 → value_of kind (fields_of more) ≡ named_by (fields_of more)
+more_names kind more e = let (field, fields, some-field) = parted_some TAB more in rw some-field (value_names kind field fields e)
 
 -- a set has one element type
-pub value_one : (kind : ℕ) (more : List ℕ) (r : Maybe ℕ) → r ≡ field_at more 0 → is_some r ≡ false → kind ≡ 6 → value_of kind (fields_of more) ≡ decimal_of more
-value_one kind more None e alone k = rw (fields_whole more None e refl, k)
-value_one kind more (Some end) e alone k = absurd (false≢true (sym alone))
+pub value_one : (kind : ℕ) (field : List ℕ) → kind ≡ 6 → value_of kind (field ∷ []) ≡ decimal_of field
+value_one kind field e = rw e
 
-pub value_more : (kind : ℕ) (more : List ℕ) (r : Maybe ℕ) → r ≡ field_at more 0 → is_some r ≡ true → kind ≢ 9 → value_of kind (fields_of more) ≡ none
-value_more kind more None e others k = absurd (false≢true others)
-value_more kind more (Some end) e others k =
-    let rest = parted_some TAB (drop (end + 1) more) in
-    rw ((field_ends more 0 end (Some end) e refl).2, rest.2, ne_eqb kind 9 k)
+pub more_one : (kind : ℕ) (more : List ℕ) (r : Maybe ℕ) → r ≡ field_at more 0 → is_some r ≡ false → kind ≡ 6 → value_of kind (fields_of more) ≡ decimal_of more
+more_one kind more None e alone k = rw (fields_whole more None e refl) (value_one kind more k)
+more_one kind more (Some end) e alone k = absurd (false≢true (sym alone))
+
+pub value_more : (kind : ℕ) (field next : List ℕ) (fields : List (List ℕ)) → kind ≢ 9 → value_of kind (field ∷ next ∷ fields) ≡ none
+value_more kind field next fields h = rw (ne_eqb kind 9 h)
+
+pub more_others : (kind : ℕ) (more : List ℕ) (r : Maybe ℕ) → r ≡ field_at more 0 → is_some r ≡ true → kind ≢ 9 → value_of kind (fields_of more) ≡ none
+more_others kind more None e others k = absurd (false≢true others)
+more_others kind more (Some end) e others k =
+    let (next, fields, rest) = parted_some TAB (drop (end + 1) more) in
+    rw ((field_ends more 0 end (Some end) e refl).2, rest) (value_more kind _ next fields k)
 
 -- any other kind has nothing more
-pub value_none : (kind : ℕ) (more : List ℕ) → kind ≢ 9 → kind ≢ 6 → value_of kind (fields_of more) ≡ none
-value_none kind more h k = let (field, fields, some-field) = parted_some TAB more in rw some-field (go field fields)
-  where
-    go : (field : List ℕ) (fields : List (List ℕ)) → value_of kind (field ∷ fields) ≡ none
-    go field [] = rw (ne_eqb kind 6 k, ne_eqb kind 9 h)
-    go field (next ∷ fields) = rw (ne_eqb kind 9 h)
+pub value_none : (kind : ℕ) (field : List ℕ) (fields : List (List ℕ)) → kind ≢ 9 → kind ≢ 6 → value_of kind (field ∷ fields) ≡ none
+value_none kind field [] h k = rw (ne_eqb kind 6 k, ne_eqb kind 9 h)
+value_none kind field (next ∷ fields) h k = rw (ne_eqb kind 9 h)
+
+pub more_none : (kind : ℕ) (more : List ℕ) → kind ≢ 9 → kind ≢ 6 → value_of kind (fields_of more) ≡ none
+more_none kind more h k = let (field, fields, some-field) = parted_some TAB more in rw some-field (value_none kind field fields h k)
 
 -- ---- a type's line
 

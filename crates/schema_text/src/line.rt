@@ -21,7 +21,7 @@ fn names(more: &[u8]) -> Option<u64>
 }
 
 // What a type of a kind has that is followed by more: a set its element type, an entity type its names.
-#[tactic(auto, using(crate::specs::LineLaws::value_names, crate::specs::LineLaws::value_one, crate::specs::LineLaws::value_more, crate::specs::LineLaws::value_none))]
+#[tactic(auto, using(crate::specs::LineLaws::more_names, crate::specs::LineLaws::more_one, crate::specs::LineLaws::more_others, crate::specs::LineLaws::more_none))]
 fn valued(kind: u64, more: &[u8]) -> Option<u64>
     ensures { number_of result ≡ value_of kind (fields_of more.now) }
 {
