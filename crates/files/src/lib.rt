@@ -309,8 +309,8 @@ impl<'a> CommandLine<'a> {
 
     // Whether two words or more stand for standard input, which gives its bytes once.
     pub fn has_input_twice(self) -> bool {
-        let named = (2..self.count).filter(|i| is_input(self.word(*i).bytes()));
-        1 < named.count()
+        let mut named = (2..self.count).filter(|i| is_input(self.word(*i).bytes()));
+        named.nth(1).is_some()
     }
 
     // The text of the file that word i names, read into `room`, which is a byte longer than the longest text; or says why not.

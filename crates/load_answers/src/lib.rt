@@ -17,12 +17,15 @@ pub type Store = [u64; STORE];
 // How many words a load takes in one call beside the count and the heads: more are refused with 15.
 const TAKEN: usize = 8_192;
 
-// Which store answers what is k behind the first.
+// Which store answers what is k behind the first; 0 where there is none.
 pub fn turn_of(stores: &[Store], first: u64, k: u64) -> usize
-    requires { 0 < length stores.now }
-    ensures { result < length stores.now }
+    ensures { (0 < length stores.now → result < length stores.now) × (result ≤ length stores.now) }
 {
-    (first.wrapping_add(k) % stores.len() as u64) as usize
+    let count = stores.len() as u64;
+    if count == 0 {
+        return 0;
+    }
+    (first.wrapping_add(k) % count) as usize
 }
 
 // Whether so many answers, up to a place, are refused with 15, so that those behind them need say nothing, and all of them have room.
@@ -30,15 +33,14 @@ fn is_enough(count: usize, at: usize) -> bool {
     count.wrapping_add(TAKEN + 1) < at
 }
 
-// The lines of a store: as many words as its count says.
-fn lines_of(store: &Store) -> &[u64]
+// The lines of a store: as many words as its count says; none where there is no store.
+fn lines_of(store: Option<&Store>) -> &[u64]
     ensures { length result.now ≤ 16384 }
 {
-    let count = store[0];
-    if 16_384 < count {
-        return &[];
+    match store {
+        Some(words) if words[0] <= 16_384 => &words[1..words[0] as usize + 1],
+        _ => &[],
     }
-    &store[1..count as usize + 1]
 }
 
 // Puts the answer that an entity is absent, or an empty set, where there is room.
@@ -66,7 +68,7 @@ fn behind(put: Option<usize>, out: &mut [u64], at: usize) -> usize
 
 // Puts a store's answer to a row, whose entity is below 65,536, or nothing where enough was said.
 fn answer_row(
-    store: &Store,
+    store: Option<&Store>,
     row: EntityRequest,
     is_full: bool,
     answers: &mut [u64],
@@ -85,18 +87,18 @@ fn answer_row(
 
 // Answers the rows of a batch, before which `first` were asked for, behind their count.
 pub fn answer_rows(stores: &[Store], first: u64, rows: &[EntityRequest], answers: &mut [u64])
-    requires { (0 < length stores.now) × (1 ≤ length answers.old) }
+    requires { 1 ≤ length answers.old }
 {
     let mut at = 1;
     for i in 0..rows.len() {
-        let store = &stores[turn_of(stores, first, i as u64)];
+        let store = stores.get(turn_of(stores, first, i as u64));
         at = answer_row(store, rows[i], is_enough(i, at), answers, at);
     }
 }
 
 // Puts a store's answer to an ancestors request, or nothing where enough was said.
 fn answer_request(
-    store: &Store,
+    store: Option<&Store>,
     id: u64,
     asked: &[u64],
     is_full: bool,
@@ -115,7 +117,7 @@ fn answer_request(
 
 // Answers the ancestors requests, behind their count.
 pub fn answer_requests(stores: &[Store], requests: &[u64], sets: &mut [u64])
-    requires { (0 < length stores.now) × (4097 ≤ length requests.now) × (1 ≤ length sets.old) }
+    requires { (4097 ≤ length requests.now) × (1 ≤ length sets.old) }
 {
     let count = count_of(requests);
     let mut at = 1;
@@ -123,7 +125,7 @@ pub fn answer_requests(stores: &[Store], requests: &[u64], sets: &mut [u64])
     for i in 0..count {
         let request = RequestPlace::at(requests, i, ids);
         let stop = request.end;
-        let store = &stores[turn_of(stores, 0, i as u64)];
+        let store = stores.get(turn_of(stores, 0, i as u64));
         at = answer_request(
             store,
             request.id,

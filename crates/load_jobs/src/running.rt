@@ -30,7 +30,7 @@ const FIRST_STORE: usize = 4;
 
 // The word that names the store which a refusal is about: the one whose turn its place was, behind the first.
 fn word_of(reply: LoadReply, stores: &[Store], first: u64) -> usize
-    requires { (0 < length stores.now) × (length stores.now < 16) }
+    requires { length stores.now < 16 }
 {
     let place = match reply {
         Err(LoadRefusal::Refused(refusal)) => refusal.place,
@@ -46,7 +46,7 @@ fn answer_batch(
     rows: &[EntityRequest],
     state: &mut [u64],
 ) -> Result<(), Stop>
-    requires { (0 < length stores.now) × (length stores.now < 16) }
+    requires { length stores.now < 16 }
 {
     let mut answers = [0u64; ANSWERS];
     answers[0] = rows.len() as u64;
@@ -57,7 +57,7 @@ fn answer_batch(
 
 // Hands out a batch, writes it, and has it answered.
 fn run_batch(to: To, number: u64, stores: &[Store], state: &mut [u64]) -> Result<(), Stop>
-    requires { (0 < length stores.now) × (length stores.now < 16) }
+    requires { length stores.now < 16 }
 {
     let blank = EntityRequest { id: 0, node: 0 };
     let mut room = [blank; BATCH];
@@ -82,7 +82,7 @@ fn run_batch(to: To, number: u64, stores: &[Store], state: &mut [u64]) -> Result
 
 // Runs batches as long as one waits.
 fn run_batches(to: To, stores: &[Store], state: &mut [u64]) -> Result<(), Stop>
-    requires { (0 < length stores.now) × (length stores.now < 16) × (1 ≤ length state.old) }
+    requires { (length stores.now < 16) × (1 ≤ length state.old) }
 {
     for number in 0..BATCHES {
         if state[0] != 1 {
@@ -95,7 +95,7 @@ fn run_batches(to: To, stores: &[Store], state: &mut [u64]) -> Result<(), Stop>
 
 // Has the ancestors requests answered by the stores, and takes the answers.
 fn answer_ancestors(stores: &[Store], requests: &[u64], state: &mut [u64]) -> Result<(), Stop>
-    requires { (0 < length stores.now) × (length stores.now < 16) × (4097 ≤ length requests.now) }
+    requires { (length stores.now < 16) × (4097 ≤ length requests.now) }
 {
     let mut sets = [0u64; ANSWERS];
     sets[0] = requests[0];
@@ -111,7 +111,7 @@ fn ask_ancestors(
     requests: &mut [u64],
     state: &mut [u64],
 ) -> Result<(), Stop>
-    requires { (0 < length stores.now) × (length stores.now < 16) × (4097 ≤ length requests.old) }
+    requires { (length stores.now < 16) × (4097 ≤ length requests.old) }
 {
     let reply = entity_manifest::load_ancestors(state, requests);
     let Ok(_) = reply else {
@@ -127,7 +127,7 @@ fn ask_ancestors(
 
 // Asks for the ancestors where they are to be asked, in words of their own.
 fn run_ancestors(to: To, stores: &[Store], state: &mut [u64]) -> Result<(), Stop>
-    requires { (0 < length stores.now) × (length stores.now < 16) × (1 ≤ length state.old) }
+    requires { (length stores.now < 16) × (1 ≤ length state.old) }
 {
     if state[0] != 3 {
         return Ok(());
@@ -150,7 +150,7 @@ fn end_loaded(to: To, state: &[u64]) -> Result<(), Stop> {
 
 // Runs a load that has begun: batches, ancestors where they are to be asked, and the result.
 fn run_begun(to: To, stores: &[Store], state: &mut [u64]) -> Result<(), Stop>
-    requires { (0 < length stores.now) × (length stores.now < 16) × (1 ≤ length state.old) }
+    requires { (length stores.now < 16) × (1 ≤ length state.old) }
 {
     run_batches(to, stores, state)?;
     run_ancestors(to, stores, state)?;
@@ -165,7 +165,7 @@ pub fn run(
     context: &[u64],
     stores: &[Store],
 ) -> Result<(), Stop>
-    requires { (0 < length stores.now) × (length stores.now < 16) }
+    requires { length stores.now < 16 }
 {
     let mut state = [0u64; STATE];
     let reply = entity_manifest::load_begin(

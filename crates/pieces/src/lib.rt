@@ -40,7 +40,9 @@ impl<'a> Piece<'a> {
     }
 
     // The `A` line of a listing that it stands under, or the first line. Only `A` lines have the letter.
-    pub fn entry(self) -> Piece<'a> {
+    pub fn entry(self) -> Piece<'a>
+        ensures { (result.from ≤ result.to) × (result.to ≤ length self.entry.text.now) }
+    {
         let from = self.text[..self.from]
             .iter()
             .rposition(|byte| *byte == b'A')
@@ -52,13 +54,16 @@ impl<'a> Piece<'a> {
 // The piece from a place to the next byte `b`, or to the end.
 fn piece_at(text: &[u8], from: usize, b: u8) -> Piece<'_>
     requires { from ≤ length text.now }
+    ensures { (result.from ≤ result.to) × (result.to ≤ length text.now) }
 {
     let to = scan(text, from, b);
     Piece { text, from, to }
 }
 
 // Piece k of a text that the byte `b` parts, from 0; nothing at the end, where there are fewer.
-fn piece_of(text: &[u8], k: u64, b: u8) -> Piece<'_> {
+fn piece_of(text: &[u8], k: u64, b: u8) -> Piece<'_>
+    ensures { (result.from ≤ result.to) × (result.to ≤ length text.now) }
+{
     let mut from = 0;
     for _ in 0..k {
         let end = scan(text, from, b);
@@ -71,18 +76,24 @@ fn piece_of(text: &[u8], k: u64, b: u8) -> Piece<'_> {
 }
 
 // Line k of a text, from 0, without its LF; nothing at the end, where there are fewer.
-pub fn line_of(text: &[u8], k: u64) -> Piece<'_> {
+pub fn line_of(text: &[u8], k: u64) -> Piece<'_>
+    ensures { (result.from ≤ result.to) × (result.to ≤ length text.now) }
+{
     piece_of(text, k, LF)
 }
 
 // The line of node k of a listing, from 0; nothing at the end, where there are fewer. Only `N` lines have the letter.
-pub fn node_of(listing: &[u8], k: u64) -> Piece<'_> {
+pub fn node_of(listing: &[u8], k: u64) -> Piece<'_>
+    ensures { (result.from ≤ result.to) × (result.to ≤ length listing.now) }
+{
     let before = piece_of(listing, k, b'N');
-    piece_at(before.text, before.to, LF)
+    piece_at(listing, before.to, LF)
 }
 
 // Field k of a line, from 0; nothing, where there are fewer.
-pub fn field_of(line: &[u8], k: usize) -> &[u8] {
+pub fn field_of(line: &[u8], k: usize) -> &[u8]
+    ensures { length result.now ≤ length line.now }
+{
     line.split(|byte| *byte == TAB).nth(k).unwrap_or(b"")
 }
 

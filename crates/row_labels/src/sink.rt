@@ -1,5 +1,5 @@
 // Bytes on their way to standard output: they wait in a buffer, and are written whenever it is full.
-ghost use Rattle.std.specs.Prelude.{◌≡◌, ◌≤◌, OnOk};
+ghost use Rattle.std.specs.Prelude.{◌≡◌, ◌≤◌};
 
 use files::{Failure, To};
 
@@ -7,7 +7,7 @@ use files::{Failure, To};
 const ROOM: usize = 8_192;
 
 // Where bytes go, those that wait, and whether names are escaped for HTML.
-#[derive(Drop)]
+#[derive(Clone, Copy)]
 pub struct Sink {
     to: To,
     buffer: [u8; ROOM],
@@ -17,7 +17,9 @@ pub struct Sink {
 }
 
 impl Sink {
-    pub fn new(to: To, escapes: bool) -> Sink {
+    pub fn new(to: To, escapes: bool) -> Sink
+        ensures { result.waiting ≡ 0 }
+    {
         Sink {
             to,
             buffer: [0; ROOM],
@@ -26,13 +28,13 @@ impl Sink {
         }
     }
 
-    // Writes what waits.
+    // Writes what waits; nothing waits behind that, also where it fails.
     pub fn flush(&mut self) -> Result<(), Failure>
-        ensures { OnOk result (self.new.waiting ≡ 0) }
+        ensures { self.new.waiting ≡ 0 }
     {
-        files::write(self.to, &self.buffer[..self.waiting])?;
+        let waiting = self.waiting;
         self.waiting = 0;
-        Ok(())
+        files::write(self.to, &self.buffer[..waiting])
     }
 
     // Puts a byte behind those that wait, which are written first where the buffer is full.

@@ -11,7 +11,7 @@ heads : 4097 ≤ 528385
 heads = omega arith
 
 pub ask_ancestors-requires : goal.ask_ancestors-requires
-ask_ancestors-requires c = (c.requires.0, c.requires.1, room 528385 heads)
+ask_ancestors-requires c = (c.requires.0, room 528385 heads)
 
 pub slice_bounds-ask_ancestors-end : goal.slice_bounds-ask_ancestors-end
 slice_bounds-ask_ancestors-end c = sym (length-replicate {A = ℕ} 528385 0)
