@@ -2,41 +2,45 @@
 ghost use Rattle.std.specs.Prelude.{◌<◌, ◌^◌, length};
 ghost use Rattle.std.specs.Iterator.{at_most};
 
+use crate::said;
 use rows::Kind;
 use std::alloc::{AllocError, Global};
 use std::io;
-use std::io::Write;
 
 // A case: a line of a data file.
 #[derive(Clone, Copy)]
 pub struct Case<'a> {
-    pub line: &'a str,
+    pub line: &'a [u8],
 }
 
 impl<'a> Case<'a> {
     // The field with a number, from 0; it is empty where there is none.
-    pub fn field(&self, n: usize) -> &'a str {
-        self.line.split('\t').nth(n).unwrap_or("")
+    pub fn field(&self, n: usize) -> &'a [u8] {
+        self.line
+            .split(|byte| *byte == text::TAB)
+            .nth(n)
+            .unwrap_or(b"")
     }
 
     // Whether a field is a word.
-    pub fn is(&self, n: usize, word: &str) -> bool {
+    pub fn is(&self, n: usize, word: &[u8]) -> bool {
         self.field(n) == word
     }
 
     // The number that a field writes; 0 where it writes none.
     pub fn number(&self, n: usize) -> u16 {
-        self.field(n).parse::<u16>().unwrap_or(0)
+        let number = text::read_decimal(self.field(n)).unwrap_or(0);
+        u16::try_from(number).unwrap_or(0)
     }
 
-    // The word that a field writes in hexadecimal digits; 0 where it writes none.
+    // The word that a field writes in hexadecimal digits.
     pub fn word(&self, n: usize) -> u64 {
-        u64::from_str_radix(self.field(n), 16).unwrap_or(0)
+        hex_number(self.field(n))
     }
 
     // The kind of state that a case asks for.
     pub fn kind(&self) -> Kind {
-        if self.is(1, "contribution") {
+        if self.is(1, b"contribution") {
             Kind::Contribution
         } else {
             Kind::Manifest
@@ -51,35 +55,51 @@ impl<'a> Case<'a> {
         (part(0) * 0x1_0000 + part(1)) * 0x1_0000 + part(2)
     }
 
-    // What a field stands for, in escapes.
-    pub fn decoded(&self, alloc: Global, n: usize) -> Result<Vec<u8>, AllocError> {
-        Unescaped(self.field(n).as_bytes()).collect(alloc)
+    // What a field stands for, in escapes: its first bytes, as many as there is room for.
+    pub fn decoded(&self, alloc: Global, n: usize, room: usize) -> Result<Vec<u8>, AllocError> {
+        Unescaped(self.field(n)).take(room).collect(alloc)
     }
 
-    // Puts what a field stands for behind `out`.
-    pub fn decode(&self, n: usize, out: &mut Vec<u8>) -> Result<(), AllocError> {
-        out.extend(Unescaped(self.field(n).as_bytes()))
+    // Puts what a field stands for behind `out`, as much as there is room for.
+    pub fn decode(&self, n: usize, out: &mut Vec<u8>, room: usize) -> Result<(), AllocError> {
+        put_unescaped(self.field(n), out, room)
     }
 
-    // Puts many lines behind `out`: each number below that of the field `count` stands in one, behind the field `head` and a tab, and in
-    // front of the field `tail`.
+    // Puts many lines behind `out`, as much as there is room for: each number below that of the field `count` stands in one, behind the field
+    // `head` and a tab, and in front of the field `tail`.
     pub fn decode_many(
         &self,
         head: usize,
         count: usize,
         tail: usize,
         out: &mut Vec<u8>,
+        room: usize,
     ) -> io::Result<()> {
+        let front = self.field(head);
+        let back = self.field(tail);
         for i in 0..self.number(count) {
-            self.decode(head, out)?;
-            write!(out, "\t{i}")?;
-            self.decode(tail, out)?;
+            put_unescaped(front, out, room)?;
+            said::say(out, b"\t", room)?;
+            said::say_number(out, u64::from(i), room)?;
+            put_unescaped(back, out, room)?;
         }
         Ok(())
     }
 }
 
-// What a digit of a hexadecimal byte is worth; 0 where it is none.
+// Puts what an escaped text stands for behind `out`, as much as there is room for.
+fn put_unescaped(escaped: &[u8], out: &mut Vec<u8>, room: usize) -> Result<(), AllocError> {
+    out.extend(Unescaped(escaped).take(room.saturating_sub(out.len())))
+}
+
+// The number that hexadecimal digits write, the last 16 of them; what is no digit counts as 0.
+pub fn hex_number(digits: &[u8]) -> u64 {
+    digits.iter().fold(0, |value, digit| {
+        value % 0x1000_0000_0000_0000 * 16 + u64::from(hex_digit(*digit))
+    })
+}
+
+// What a digit of a hexadecimal number is worth; 0 where it is none.
 fn hex_digit(b: u8) -> u8
     ensures { result < 16 }
 {

@@ -1,5 +1,5 @@
 // Items, which spaces part, and the words that they stand for.
-ghost use Rattle.std.specs.Prelude.{◌<◌, ◌≤◌};
+ghost use Rattle.std.specs.Prelude.{◌<◌, ◌≤◌, IfOk, vec_len};
 
 use answers::Head;
 use rows::Row;
@@ -21,19 +21,22 @@ fn digit(b: u8) -> u64
     }
 }
 
-// The number that digits write.
-pub fn number_of(digits: &str) -> u64 {
-    digits.bytes().fold(0, |value, b| value % 0x1000_0000_0000_0000 * 10 + digit(b))
+// The number that digits write, up to a dot or the end.
+pub fn number_of(digits: &[u8]) -> u64 {
+    digits.iter().take_while(|b| **b != b'.').fold(
+        0,
+        |value, b| value % 0x1000_0000_0000_0000 * 10 + digit(*b),
+    )
 }
 
 // An item of a data file, in parts between dots.
 #[derive(Clone, Copy)]
-struct Item<'a>(&'a str);
+struct Item<'a>(&'a [u8]);
 
 impl Item<'_> {
     // The part with a number, from 0; one that is not there is 0.
     fn part(self, n: usize) -> u64 {
-        number_of(self.0.split('.').nth(n).unwrap_or(""))
+        number_of(self.0.split(|b| *b == b'.').nth(n).unwrap_or(&[]))
     }
 
     // A request type.
@@ -75,37 +78,44 @@ impl Item<'_> {
         ValueRow::of(depth, key, kind, number)
     }
 
-    // The word of an item: a number, a head, a request type, an entry, a node without or with a mark, or the row of a value.
+    // The word of an item, by its first byte: a number, a head, a request type, an entry, a node without or with a mark, or the row of a value.
     fn word(self) -> u64 {
-        match self.0.split('.').next() {
-            Some("i") => self.part(1),
-            Some("h") => self.head(),
-            Some("t") => self.request_type(),
-            Some("q") => self.request_type() * 64,
-            Some("N") => self.node(false).word,
-            Some("M") => self.node(true).word,
+        match self.0 {
+            [b'i', ..] => self.part(1),
+            [b'h', ..] => self.head(),
+            [b't', ..] => self.request_type(),
+            [b'q', ..] => self.request_type() * 64,
+            [b'N', ..] => self.node(false).word,
+            [b'M', ..] => self.node(true).word,
             _ => self.value().word,
         }
     }
 
-    // Puts the item behind `words`, and as many more of it as it says, each so much above the one before.
-    fn put(self, words: &mut Vec<u64>) -> Result<(), AllocError> {
+    // Puts the item behind `words`, and as many more of it as it says, each so much above the one before, until there are `room` words.
+    fn put(self, words: &mut Vec<u64>, room: usize) -> Result<(), AllocError>
+        requires { vec_len words.old ≤ room }
+        ensures { vec_len words.new ≤ room }
+    {
         let by = self.part(5) % 0x4000_0000_0000_0000;
         let mut word = self.word();
-        words.push(word)?;
-        for _ in 0..self.part(4) % 0x1_0000 {
-            word = word % 0x4000_0000_0000_0000 + by;
+        for _ in 0..=self.part(4) % 0x1_0000 {
+            if words.len() == room {
+                return Ok(());
+            }
             words.push(word)?;
+            word = word % 0x4000_0000_0000_0000 + by;
         }
         Ok(())
     }
 }
 
-// The words that the items of a text make. An empty item is none.
-pub fn words_of(alloc: Global, items: &str) -> Result<Vec<u64>, AllocError> {
+// The words that the items of a text make, the first `room` of them. An empty item is none.
+pub fn words_of(alloc: Global, items: &[u8], room: usize) -> Result<Vec<u64>, AllocError>
+    ensures { IfOk result (λ words. vec_len words ≤ room) }
+{
     let mut words = Vec::new(alloc);
-    for item in items.split(' ').filter(|item| !item.is_empty()) {
-        Item(item).put(&mut words)?;
+    for item in items.split(|b| *b == b' ').filter(|item| !item.is_empty()) {
+        Item(item).put(&mut words, room)?;
     }
     Ok(words)
 }

@@ -31,16 +31,24 @@ const BLANK: u64 = 0x5555_5555_5555_5555;
 // A call of a script: a word, which is its name and, behind a dash, the number of the buffer that is a word too short; and behind a space items.
 #[derive(Clone, Copy)]
 struct Call<'a> {
-    word: &'a str,
-    name: &'a str,
+    word: &'a [u8],
+    name: &'a [u8],
     short: u64,
-    items: &'a str,
+    items: &'a [u8],
+}
+
+// What stands in front of the first byte `b` of a text, and what stands behind it: all and nothing where there is none.
+fn split_once(text: &[u8], b: u8) -> (&[u8], &[u8]) {
+    match text.iter().position(|byte| *byte == b) {
+        Some(at) => (&text[..at], &text[at + 1..]),
+        None => (text, &[]),
+    }
 }
 
 impl<'a> Call<'a> {
-    fn of(field: &'a str) -> Call<'a> {
-        let (word, items) = field.split_once(' ').unwrap_or((field, ""));
-        let (name, short) = word.split_once('-').unwrap_or((word, ""));
+    fn of(field: &'a [u8]) -> Call<'a> {
+        let (word, items) = split_once(field, b' ');
+        let (name, short) = split_once(word, b'-');
         Call {
             word,
             name,
@@ -90,8 +98,8 @@ impl fmt::Display for Told {
 }
 
 // A buffer of so many words, with those of some items in front.
-fn buffer(alloc: Global, items: &str, words: usize) -> Result<Vec<u64>, AllocError> {
-    let mut buffer = words_of(alloc, items)?;
+fn buffer(alloc: Global, items: &[u8], words: usize) -> Result<Vec<u64>, AllocError> {
+    let mut buffer = words_of(alloc, items, words)?;
     buffer.resize(words, BLANK)?;
     Ok(buffer)
 }
@@ -103,7 +111,7 @@ fn begin(
     state: &mut [u64],
 ) -> Result<LoadReply, AllocError> {
     let manifest = buffer(alloc, case.field(1), call.lent(1, MANIFEST))?;
-    let mut request = words_of(alloc, case.field(2))?;
+    let mut request = words_of(alloc, case.field(2), 3)?;
     request.resize(3, 0)?;
     let context = buffer(alloc, case.field(3), call.lent(2, CONTEXT))?;
     let lent = call.lent(3, state.len());
@@ -129,13 +137,12 @@ fn answer_ancestors(alloc: Global, call: Call, state: &mut [u64]) -> Result<Load
     Ok(load_ends::load_ancestors_answer(&mut state[..lent], &sets))
 }
 
-// Puts a word into the state, at a place.
+// Puts a word into the state, at a place; the word and the place are 0 where the call has none.
 fn poke(alloc: Global, call: Call, state: &mut [u64]) -> Result<(), AllocError> {
-    let words = words_of(alloc, call.items)?;
-    if let [place, word] = words.as_slice()
-        && let Some(at) = state.get_mut(*place as usize)
-    {
-        *at = *word;
+    let mut words = words_of(alloc, call.items, 2)?;
+    words.resize(2, 0)?;
+    if let Some(word) = state.get_mut(words[0] as usize) {
+        *word = words[1];
     }
     Ok(())
 }
@@ -149,32 +156,46 @@ fn hand(handed: Handed, state: &mut [u64], out: &mut [u64]) -> LoadReply {
     }
 }
 
-// The same on a buffer of so many words that nothing was written to, whose items begin at a place. A refusal has to leave it so.
+// Takes away what was written from the front of a buffer on.
+fn clear(words: &mut [u64]) {
+    for word in words.iter_mut() {
+        if *word == BLANK {
+            return;
+        }
+        *word = BLANK;
+    }
+}
+
+// The same on a buffer that nothing was written to, whose items begin at a place, or on one word less of it. A refusal has to leave it so.
 fn replay_hand(
     rt: &HostRuntime,
     call: Call,
     handed: Handed,
-    words: usize,
     from: usize,
     state: &mut [u64],
+    out: &mut [u64],
 ) -> io::Result<Told> {
-    let mut out = vec![in rt.alloc(); BLANK; words]?;
     let lent_state = call.lent(1, state.len());
     let lent_out = call.lent(2, out.len());
     let reply = hand(handed, &mut state[..lent_state], &mut out[..lent_out]);
-    print!(rt; "{}", Told(reply))?;
     if let Ok(LoadCounts { count, .. }) = reply {
         let words = out.get(from..).unwrap_or(&[]);
-        print!(rt;
-            ":{}",
+        let shown = print!(rt;
+            "{}:{}",
+            Told(reply),
             Shown {
                 handed,
                 count,
                 words
             }
-        )?;
-    } else if out.iter().any(|word| *word != BLANK) {
-        print!(rt; " WROTE")?;
+        );
+        clear(out);
+        shown?;
+    } else {
+        print!(rt; "{}", Told(reply))?;
+        if out.iter().any(|word| *word != BLANK) {
+            print!(rt; " WROTE")?;
+        }
     }
     Ok(Told(reply))
 }
@@ -182,28 +203,35 @@ fn replay_hand(
 // A call that hands nothing out.
 fn replay_take(rt: &HostRuntime, case: Case, call: Call, state: &mut [u64]) -> io::Result<Told> {
     let reply = match call.name {
-        "begin" => begin(rt.alloc(), case, call, state)?,
-        "answer" => answer(rt.alloc(), call, state)?,
+        b"begin" => begin(rt.alloc(), case, call, state)?,
+        b"answer" => answer(rt.alloc(), call, state)?,
         _ => answer_ancestors(rt.alloc(), call, state)?,
     };
     print!(rt; "{}", Told(reply))?;
     Ok(Told(reply))
 }
 
-// Makes a call by its name, and says where a refused one has not left the state as it was.
+// Makes a call by its name, and says where a refused one has not left the state as it was. Any other name asks for the result.
 fn replay_call(
     rt: &HostRuntime,
     case: Case,
     call: Call,
     state: &mut [u64; STATE],
+    requests: &mut [u64],
 ) -> io::Result<()> {
     let before = *state;
     let told = match call.name {
-        "poke" => return Ok(poke(rt.alloc(), call, state)?),
-        "batch" => replay_hand(rt, call, Handed::Rows, BATCH, 0, state)?,
-        "ancestors" => replay_hand(rt, call, Handed::Requests, REQUESTS, 1, state)?,
-        "result" => replay_hand(rt, call, Handed::Slice, SLICE, 1, state)?,
-        _ => replay_take(rt, case, call, state)?,
+        b"poke" => return Ok(poke(rt.alloc(), call, state)?),
+        b"begin" | b"answer" | b"sets" => replay_take(rt, case, call, state)?,
+        b"batch" => {
+            let mut out = vec![in rt.alloc(); BLANK; BATCH]?;
+            replay_hand(rt, call, Handed::Rows, 0, state, &mut out)?
+        }
+        b"ancestors" => replay_hand(rt, call, Handed::Requests, 1, state, requests)?,
+        _ => {
+            let mut out = vec![in rt.alloc(); BLANK; SLICE]?;
+            replay_hand(rt, call, Handed::Slice, 1, state, &mut out)?
+        }
     };
     if told.is_refused() && *state != before {
         print!(rt; " CHANGED")?;
@@ -211,22 +239,25 @@ fn replay_call(
     Ok(())
 }
 
-// Says a case by its name, and what comes of its calls.
-fn replay(rt: &HostRuntime, case: Case) -> io::Result<()> {
-    print!(rt; "{}:", case.field(0))?;
+// Says a case by its name, and what comes of its calls. A tab at the end of the line has no call behind it.
+fn replay(rt: &HostRuntime, case: Case, requests: &mut [u64]) -> io::Result<()> {
+    cases::print_bytes(rt, case.field(0))?;
+    print!(rt; ":")?;
     let mut state = [BLANK; STATE];
-    for field in case.line.split('\t').skip(4) {
+    let line = case.line.strip_suffix(b"\t").unwrap_or(case.line);
+    for field in line.split(|b| *b == b'\t').skip(4) {
         let call = Call::of(field);
-        print!(rt; " {}", call.word)?;
-        replay_call(rt, case, call, &mut state)?;
+        print!(rt; " ")?;
+        cases::print_bytes(rt, call.word)?;
+        replay_call(rt, case, call, &mut state, requests)?;
         print!(rt; ";")?;
     }
     println!(rt)
 }
 
-fn main(rt: HostRuntime) -> io::Result<()> {
+fn main(rt: HostRuntime) {
+    let mut requests = [BLANK; REQUESTS];
     for path in ["cases", "cases2", "oracle"] {
-        cases::replay(&rt, path, |case| replay(&rt, case))?;
+        cases::replay(&rt, path, |case| replay(&rt, case, &mut requests));
     }
-    Ok(())
 }

@@ -4,13 +4,13 @@
 
 ghost use Rattle.std.specs.Prelude.{◌≤◌};
 
-use cases::{Case, Refused};
+use cases::{Case, Refused, say, say_number};
 use entity_manifest::{EntityManifest, Kind, Refusal};
-use std::alloc::Global;
+use std::alloc::{AllocError, Global};
+use std::fmt::Display;
 use std::io;
-use std::io::Write;
 
-// The longest listing, and the words of a contribution and of a manifest.
+// The longest text of a case or of a listing, and the words of a contribution and of a manifest.
 const TEXT: usize = 65_536;
 
 const WORDS: usize = 1_026;
@@ -20,22 +20,28 @@ const MANIFEST: usize = 4_161;
 // How many fields of a case may name contributions.
 const FIELDS: usize = 32;
 
+// Puts a line behind a text for each number below n: a head, the number and a tail, as much as there is room for.
+fn say_lines(text: &mut Vec<u8>, head: &[u8], n: u16, tail: &[u8]) -> Result<(), AllocError> {
+    for number in 0..n {
+        say(text, head, TEXT)?;
+        say_number(text, u64::from(number), TEXT)?;
+        say(text, tail, TEXT)?;
+    }
+    Ok(())
+}
+
 // The text of a case: its own, in escapes, or as many entries of their own type and fields of the principal below the last as it says.
-fn text_of(alloc: Global, case: Case) -> io::Result<Vec<u8>> {
-    if !case.is(0, "many") {
-        return Ok(case.decoded(alloc, 2)?);
+fn text_of(alloc: Global, case: Case) -> Result<Vec<u8>, AllocError> {
+    if !case.is(0, b"many") {
+        return case.decoded(alloc, 2, TEXT);
     }
     let mut text = Vec::new(alloc);
-    for entry in 0..case.number(2) {
-        writeln!(text, "A\t1\t1\t{entry}")?;
-    }
+    say_lines(&mut text, b"A\t1\t1\t", case.number(2), b"\n")?;
     let fields = case.number(3);
     if fields != 0 {
-        writeln!(text, "N\t1\tp\t0\t0")?;
+        say(&mut text, b"N\t1\tp\t0\t0\n", TEXT)?;
     }
-    for field in 0..fields {
-        writeln!(text, "N\t2\tf\t{field}\t0")?;
-    }
+    say_lines(&mut text, b"N\t2\tf\t", fields, b"\t0\n")?;
     Ok(text)
 }
 
@@ -53,19 +59,25 @@ fn is_written_again(kind: Kind, text: &[u8]) -> Result<bool, Refusal> {
     Ok(listing_of(kind, &state, &mut out)? == text)
 }
 
+// Says a case, and what comes of it.
+fn tell<D: Display + Drop>(rt: &HostRuntime, case: Case, told: D) -> io::Result<()> {
+    cases::print_bytes(rt, case.line)?;
+    println!(rt; " -> {told}")
+}
+
 fn ask_text(rt: &HostRuntime, case: Case) -> io::Result<()> {
     let text = text_of(rt.alloc(), case)?;
     match is_written_again(case.kind(), &text) {
-        Ok(true) => println!(rt; "{} -> the same again", case.line),
-        Ok(false) => println!(rt; "{} -> ANOTHER TEXT", case.line),
-        Err(refusal) => println!(rt; "{} -> {}", case.line, Refused(refusal)),
+        Ok(true) => tell(rt, case, "the same again"),
+        Ok(false) => tell(rt, case, "ANOTHER TEXT"),
+        Err(refusal) => tell(rt, case, Refused(refusal)),
     }
 }
 
 // Fills a manifest with the text of a case, which is told where it is refused, or sets a word of it: its place and its number, in hexadecimal
 // digits, are fields of the case.
 fn fill(rt: &HostRuntime, case: Case, state: &mut [u64]) -> io::Result<()> {
-    if case.is(0, "word") {
+    if case.is(0, b"word") {
         if let Some(word) = state.get_mut(usize::from(case.number(2))) {
             *word = case.word(3);
         }
@@ -74,7 +86,7 @@ fn fill(rt: &HostRuntime, case: Case, state: &mut [u64]) -> io::Result<()> {
     let text = text_of(rt.alloc(), case)?;
     match entity_manifest::read_listing(Kind::Manifest, &text, state) {
         Ok(()) => Ok(()),
-        Err(refusal) => println!(rt; "{} -> {}", case.line, Refused(refusal)),
+        Err(refusal) => tell(rt, case, Refused(refusal)),
     }
 }
 
@@ -83,13 +95,13 @@ fn tell_listing(rt: &HostRuntime, case: Case, field: usize, state: &[u64]) -> io
     let mut out = [0u8; TEXT];
     match listing_of(Kind::Manifest, state, &mut out) {
         Err(refusal) => println!(rt; "{}", Refused(refusal)),
-        Ok(listing) if case.is(field, "") => {
+        Ok(listing) if case.field(field).is_empty() => {
             println!(rt)?;
             cases::print_bytes(rt, listing)?;
             println!(rt)
         }
         Ok(listing) => {
-            let expected = case.decoded(rt.alloc(), field)?;
+            let expected = case.decoded(rt.alloc(), field, TEXT)?;
             println!(rt; "{}", cases::as_rust(listing == expected.as_slice()))
         }
     }
@@ -117,18 +129,15 @@ fn ask_unite(
     other: &[u64; MANIFEST],
     want: &[u64; MANIFEST],
 ) -> io::Result<()> {
-    let name = case.field(1);
+    cases::print_bytes(rt, case.field(1))?;
     let mut state = *manifest;
     let m = lent(MANIFEST, case, 2);
     let o = lent(MANIFEST, case, 3);
     match EntityManifest::unite_manifests(&mut state[..m], &other[..o]) {
-        Ok(()) if has_rows(&state, want, manifest) => println!(rt; "{name}: as expected"),
-        Err(refusal) if state == *manifest => println!(rt;
-            "{name}: {}, as it was",
-            Refused(refusal)
-        ),
-        Ok(()) => println!(rt; "{name}: OTHER WORDS"),
-        Err(refusal) => println!(rt; "{name}: {}, OTHER WORDS", Refused(refusal)),
+        Ok(()) if has_rows(&state, want, manifest) => println!(rt; ": as expected"),
+        Err(refusal) if state == *manifest => println!(rt; ": {}, as it was", Refused(refusal)),
+        Ok(()) => println!(rt; ": OTHER WORDS"),
+        Err(refusal) => println!(rt; ": {}, OTHER WORDS", Refused(refusal)),
     }
 }
 
@@ -163,15 +172,17 @@ impl States {
         let text = text_of(rt.alloc(), case)?;
         match self.keep(usize::from(case.number(1)), &text) {
             Ok(()) if is_silent => Ok(()),
-            Ok(()) => println!(rt; "{} -> kept", case.line),
-            Err(refusal) => println!(rt; "{} -> {}", case.line, Refused(refusal)),
+            Ok(()) => tell(rt, case, "kept"),
+            Err(refusal) => tell(rt, case, Refused(refusal)),
         }
     }
 
     // Adds the kept contributions that a case names from a field on, in its order. After them stand an empty field and the Rust's listing, or
     // nothing.
     fn ask_order(&self, rt: &HostRuntime, case: Case, from: usize) -> io::Result<()> {
-        let end = (from..FIELDS).find(|n| case.is(*n, "")).unwrap_or(FIELDS);
+        let end = (from..FIELDS)
+            .find(|n| case.field(*n).is_empty())
+            .unwrap_or(FIELDS);
         let mut state = [0u64; MANIFEST];
         for n in from..end {
             if let Some(kept) = self.kept.get(usize::from(case.number(n))) {
@@ -186,19 +197,21 @@ impl States {
     // Takes in a line of a data file: one that fills a manifest, or a case, and says what comes of it.
     fn replay(&mut self, rt: &HostRuntime, case: Case) -> io::Result<()> {
         match (case.field(0), case.field(1)) {
-            (_, "left") => fill(rt, case, &mut self.left),
-            (_, "right") => fill(rt, case, &mut self.right),
-            (_, "want") => fill(rt, case, &mut self.want),
-            ("unite", _) => ask_unite(rt, case, &self.left, &self.right, &self.want),
-            ("back", _) => ask_unite(rt, case, &self.right, &self.left, &self.want),
-            ("hold", _) => self.ask_keep(rt, case, true),
-            ("keep", _) => self.ask_keep(rt, case, false),
-            ("rust", name) => {
-                print!(rt; "{name}: ")?;
+            (_, b"left") => fill(rt, case, &mut self.left),
+            (_, b"right") => fill(rt, case, &mut self.right),
+            (_, b"want") => fill(rt, case, &mut self.want),
+            (b"unite", _) => ask_unite(rt, case, &self.left, &self.right, &self.want),
+            (b"back", _) => ask_unite(rt, case, &self.right, &self.left, &self.want),
+            (b"hold", _) => self.ask_keep(rt, case, true),
+            (b"keep", _) => self.ask_keep(rt, case, false),
+            (b"rust", name) => {
+                cases::print_bytes(rt, name)?;
+                print!(rt; ": ")?;
                 self.ask_order(rt, case, 2)
             }
-            ("order", _) => {
-                print!(rt; "{} -> ", case.line)?;
+            (b"order", _) => {
+                cases::print_bytes(rt, case.line)?;
+                print!(rt; " -> ")?;
                 self.ask_order(rt, case, 1)
             }
             _ => ask_text(rt, case),
@@ -207,10 +220,9 @@ impl States {
 }
 
 // The crate's own vectors, a sample of the published Rust's answers, and the vectors of uniting in place.
-fn main(rt: HostRuntime) -> io::Result<()> {
+fn main(rt: HostRuntime) {
     for path in ["cases", "oracle", "unite"] {
         let mut states = States::START;
-        cases::replay(&rt, path, |case| states.replay(&rt, case))?;
+        cases::replay(&rt, path, |case| states.replay(&rt, case));
     }
-    Ok(())
 }

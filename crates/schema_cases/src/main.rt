@@ -6,14 +6,16 @@ use schema::Schema;
 use std::alloc::Global;
 use std::{fmt, io};
 
-// The most words that an answer gives.
+// The longest text of a case, and the most words that an answer gives.
+const TEXT: usize = 200_000;
+
 const SHOWN: u64 = 64;
 
 // The text of a case, in escapes, and many lines behind it where it has them.
 fn text_of(alloc: Global, case: Case) -> io::Result<Vec<u8>> {
-    let mut text = case.decoded(alloc, 1)?;
-    if case.is(0, "many") || case.is(0, "manynames") {
-        case.decode_many(2, 3, 4, &mut text)?;
+    let mut text = case.decoded(alloc, 1, TEXT)?;
+    if case.is(0, b"many") || case.is(0, b"manynames") {
+        case.decode_many(2, 3, 4, &mut text, TEXT)?;
     }
     Ok(text)
 }
@@ -58,14 +60,15 @@ fn ask_names(rt: &HostRuntime, text: &[u8]) -> io::Result<()> {
 
 // Says a case, and what comes of it.
 fn replay(rt: &HostRuntime, case: Case) -> io::Result<()> {
-    print!(rt; "{} -> ", case.line)?;
+    cases::print_bytes(rt, case.line)?;
+    print!(rt; " -> ")?;
     let text = text_of(rt.alloc(), case)?;
     match case.field(0) {
-        "names" | "manynames" => ask_names(rt, &text),
+        b"names" | b"manynames" => ask_names(rt, &text),
         _ => ask_schema(rt, &text),
     }
 }
 
-fn main(rt: HostRuntime) -> io::Result<()> {
+fn main(rt: HostRuntime) {
     cases::replay(&rt, "cases", |case| replay(&rt, case))
 }

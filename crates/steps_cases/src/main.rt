@@ -53,16 +53,17 @@ fn answer<'a>(
 // Says a case and its answer; of one with the Rust's answer its name alone, and whether the answer is that.
 fn replay(rt: &HostRuntime, case: Case) -> io::Result<()> {
     let alloc = rt.alloc();
-    let schema = case.decoded(alloc, 1)?;
+    let schema = case.decoded(alloc, 1, TEXT)?;
     let texts = [
-        case.decoded(alloc, 2)?,
-        case.decoded(alloc, 4)?,
-        case.decoded(alloc, 5)?,
+        case.decoded(alloc, 2, TEXT)?,
+        case.decoded(alloc, 4, TEXT)?,
+        case.decoded(alloc, 5, TEXT)?,
     ];
     let mut out = [0u8; TEXT];
-    let answer = answer(&schema, &texts, case.is(0, "policy"), &mut out);
-    if case.is(3, "") {
-        print!(rt; "{} -> ", case.line)?;
+    let answer = answer(&schema, &texts, case.is(0, b"policy"), &mut out);
+    if case.is(3, b"") {
+        cases::print_bytes(rt, case.line)?;
+        print!(rt; " -> ")?;
         match answer {
             Ok(listing) => {
                 println!(rt)?;
@@ -72,21 +73,21 @@ fn replay(rt: &HostRuntime, case: Case) -> io::Result<()> {
         }
         println!(rt)
     } else {
-        let expected = case.decoded(alloc, 3)?;
+        let expected = case.decoded(alloc, 3, TEXT)?;
         let is_same = match answer {
             Ok(listing) => listing == expected.as_slice(),
             Err(refusal) => format!(in alloc; "{}", Refused(refusal))?.as_bytes()
                 == expected.as_slice(),
         };
-        println!(rt; "{}: {}", case.field(0), cases::as_rust(is_same))
+        cases::print_bytes(rt, case.field(0))?;
+        println!(rt; ": {}", cases::as_rust(is_same))
     }
 }
 
-fn main(rt: HostRuntime) -> io::Result<()> {
+fn main(rt: HostRuntime) {
     for path in [
         "cases", "cases2", "cases3", "cases4", "cases5", "cases6", "cases7", "cases8", "oracle",
     ] {
-        cases::replay(&rt, path, |case| replay(&rt, case))?;
+        cases::replay(&rt, path, |case| replay(&rt, case));
     }
-    Ok(())
 }

@@ -12,17 +12,27 @@ use words::Refusal;
 // The words of a manifest.
 const WORDS: usize = 4_161;
 
-// The step whose letter and id are two fields of a case: its kind is the letter's place in the order f p a r c e, and 6 for any other.
+// What a line has from a field on.
+fn rest(case: Case<'_>, n: usize) -> &[u8] {
+    case.line
+        .splitn(n.saturating_add(1), |byte| *byte == b'\t')
+        .nth(n)
+        .unwrap_or(b"")
+}
+
+// The step whose letter and id are two fields of a case: its kind is the place of the first byte there in the order f p a r c e, and 6 for any
+// other. Where the line ends in front of the letter it is step 0.
 fn step(case: Case, n: usize) -> u64
     ensures { result ≤ 458751 }
 {
-    let kind = match case.field(n) {
-        "f" => 0,
-        "p" => 1,
-        "a" => 2,
-        "r" => 3,
-        "c" => 4,
-        "e" => 5,
+    let kind = match rest(case, n) {
+        [] => return 0,
+        [b'f', ..] => 0,
+        [b'p', ..] => 1,
+        [b'a', ..] => 2,
+        [b'r', ..] => 3,
+        [b'c', ..] => 4,
+        [b'e', ..] => 5,
         _ => 6,
     };
     kind * 0x1_0000 + u64::from(case.number(n.saturating_add(1)))
@@ -40,7 +50,7 @@ fn push(state: &mut [u64], row: Row) {
 
 // Puts the rows that a line names behind the rows of a state: an entry `A`, a node `N`, or the nodes of a fan `F`, fields at one depth.
 fn push_rows(case: Case, state: &mut [u64]) {
-    if case.is(1, "A") {
+    if case.is(1, b"A") {
         push(state, Row::entry(case.triple(2)));
         return;
     }
@@ -48,13 +58,19 @@ fn push_rows(case: Case, state: &mut [u64]) {
     if 31 < depth {
         return;
     }
-    if case.is(1, "N") {
+    if case.is(1, b"N") {
         push(state, Row::node(depth, step(case, 3), case.number(5) == 1));
         return;
     }
     for id in case.number(3)..=case.number(4) {
         push(state, Row::node(depth, u64::from(id), false));
     }
+}
+
+// Whether a state has the rows of an expected one, and nothing behind them.
+fn has_rows(state: &[u64; WORDS], want: &[u64; WORDS]) -> bool {
+    let end = WORDS.min((want[0] as usize).saturating_add(1));
+    &state[..end] == &want[..end] && state[end..].iter().all(|word| *word == 0)
 }
 
 // Whether a state has a place, as it is shown.
@@ -76,7 +92,7 @@ impl fmt::Display for Told {
 fn place_of(alloc: Global, case: Case) -> Result<Vec<u64>, AllocError> {
     let mut place = vec![in alloc; case.triple(3)]?;
     for field in (6..56).step_by(2) {
-        if case.is(field, "") {
+        if case.field(field).is_empty() {
             break;
         }
         place.push(step(case, field))?;
@@ -103,37 +119,45 @@ impl States {
     fn union(&self, case: Case) -> Result<bool, Refusal> {
         let mut out = [0u64; WORDS];
         union::union(case.kind(), &self.a, &self.b, &mut out)?;
-        Ok(out == self.want)
+        Ok(has_rows(&out, &self.want))
+    }
+
+    // Takes the rows out of the states: what stands behind the rows that come next is none of theirs.
+    fn empty(&mut self) {
+        self.a[0] = 0;
+        self.b[0] = 0;
+        self.want[0] = 0;
+    }
+
+    // Asks what a case asks for, and says what comes of it.
+    fn ask(&self, rt: &HostRuntime, case: Case) -> io::Result<()> {
+        cases::print_bytes(rt, case.field(2))?;
+        match case.field(0) {
+            b"union" => match self.union(case) {
+                Ok(true) => println!(rt; ": as expected"),
+                Ok(false) => println!(rt; ": OTHER ROWS"),
+                Err(refusal) => println!(rt; ": {}", Refused(refusal)),
+            },
+            b"rust" => match self.union(case) {
+                Ok(same) => println!(rt; ": {}", cases::as_rust(same)),
+                Err(refusal) => println!(rt; ": {}, {}", Refused(refusal), cases::as_rust(false)),
+            },
+            _ => {
+                let place = place_of(rt.alloc(), case)?;
+                let held = rows::has(case.kind(), &self.a, &place);
+                println!(rt; ": {}", Told(held))
+            }
+        }
     }
 
     // Takes in a line of the data file: one that fills a state, `case`, which empties them, or a question. A line of another form is a comment.
     fn replay(&mut self, rt: &HostRuntime, case: Case) -> io::Result<()> {
         match case.field(0) {
-            "case" => *self = States::EMPTY,
-            "a" => push_rows(case, &mut self.a),
-            "b" => push_rows(case, &mut self.b),
-            "u" => push_rows(case, &mut self.want),
-            "union" => match self.union(case) {
-                Ok(true) => println!(rt; "{}: as expected", case.field(2))?,
-                Ok(false) => println!(rt; "{}: OTHER ROWS", case.field(2))?,
-                Err(refusal) => println!(rt; "{}: {}", case.field(2), Refused(refusal))?,
-            },
-            "rust" => match self.union(case) {
-                Ok(same) => println!(rt; "{}: {}", case.field(2), cases::as_rust(same))?,
-                Err(refusal) => {
-                    println!(rt;
-                        "{}: {}, {}",
-                        case.field(2),
-                        Refused(refusal),
-                        cases::as_rust(false)
-                    )?
-                },
-            },
-            "has" => {
-                let place = place_of(rt.alloc(), case)?;
-                let held = rows::has(case.kind(), &self.a, &place);
-                println!(rt; "{}: {}", case.field(2), Told(held))?;
-            }
+            b"case" => self.empty(),
+            b"a" => push_rows(case, &mut self.a),
+            b"b" => push_rows(case, &mut self.b),
+            b"u" => push_rows(case, &mut self.want),
+            b"union" | b"rust" | b"has" => self.ask(rt, case)?,
             _ => {}
         }
         Ok(())
@@ -141,10 +165,9 @@ impl States {
 }
 
 // The crate's own vectors, and a sample of the published Rust's answers.
-fn main(rt: HostRuntime) -> io::Result<()> {
+fn main(rt: HostRuntime) {
     for path in ["cases", "oracle"] {
         let mut states = States::EMPTY;
-        cases::replay(&rt, path, |case| states.replay(&rt, case))?;
+        cases::replay(&rt, path, |case| states.replay(&rt, case));
     }
-    Ok(())
 }

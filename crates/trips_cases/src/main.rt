@@ -8,22 +8,25 @@ use rows::Kind;
 use std::alloc::Global;
 use std::io;
 
+// The longest text of a case.
+const TEXT: usize = 65_536;
+
 // The words of a manifest, and one more, so that a buffer can be too long too.
 const MANIFEST: usize = 4_162;
 
 // The listing of a case, and many lines and an end behind it where the case is of that kind.
 fn text_of(alloc: Global, case: Case) -> io::Result<Vec<u8>> {
-    let mut text = case.decoded(alloc, 2)?;
-    if case.is(0, "many") {
-        case.decode_many(6, 7, 8, &mut text)?;
-        case.decode(9, &mut text)?;
+    let mut text = case.decoded(alloc, 2, TEXT)?;
+    if case.is(0, b"many") {
+        case.decode_many(6, 7, 8, &mut text, TEXT)?;
+        case.decode(9, &mut text, TEXT)?;
     }
     Ok(text)
 }
 
 // The request type of a case, of three numbers, or as one where the case is of that kind.
 fn request_of(case: Case) -> u64 {
-    if case.is(0, "raw") {
+    if case.is(0, b"raw") {
         case.word(3)
     } else {
         case.triple(3)
@@ -32,7 +35,7 @@ fn request_of(case: Case) -> u64 {
 
 // Sets a word of the manifest, where the case is of that kind.
 fn set_word(case: Case, state: &mut [u64]) {
-    if case.is(0, "set")
+    if case.is(0, b"set")
         && let Some(word) = state.get_mut(usize::from(case.number(6)))
     {
         *word = case.word(7);
@@ -43,7 +46,7 @@ fn set_word(case: Case, state: &mut [u64]) {
 fn lent(case: Case) -> usize
     ensures { result ≤ 4162 }
 {
-    if case.is(0, "lent") {
+    if case.is(0, b"lent") {
         MANIFEST.saturating_sub(usize::from(case.number(6)))
     } else {
         MANIFEST
@@ -52,7 +55,8 @@ fn lent(case: Case) -> usize
 
 // Reads the manifest of a case, asks for the bound, and says it.
 fn replay(rt: &HostRuntime, case: Case) -> io::Result<()> {
-    print!(rt; "{}: ", case.field(1))?;
+    cases::print_bytes(rt, case.field(1))?;
+    print!(rt; ": ")?;
     let text = text_of(rt.alloc(), case)?;
     let mut state = [0u64; MANIFEST];
     if let Err(refusal) = listing::read_listing(Kind::Manifest, &text, &mut state) {
@@ -70,6 +74,6 @@ fn replay(rt: &HostRuntime, case: Case) -> io::Result<()> {
     }
 }
 
-fn main(rt: HostRuntime) -> io::Result<()> {
-    cases::replay(&rt, "cases", |case| replay(&rt, case))
+fn main(rt: HostRuntime) {
+    cases::replay(&rt, "cases", |case| replay(&rt, case));
 }
