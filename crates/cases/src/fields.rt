@@ -1,11 +1,11 @@
 // A line of a data file: its fields, which tabs part, and what they stand for.
-ghost use Rattle.std.specs.Prelude.{◌<◌, ◌^◌, length};
+ghost use Rattle.std.specs.Prelude.{◌<◌, ◌≤◌, ◌^◌, length};
 ghost use Rattle.std.specs.Iterator.{at_most};
 
 use crate::said;
 use rows::Kind;
 use std::alloc::{AllocError, Global};
-use std::io;
+use std::{io, str};
 
 // A case: a line of a data file.
 #[derive(Clone, Copy)]
@@ -15,27 +15,36 @@ pub struct Case<'a> {
 
 impl<'a> Case<'a> {
     // The field with a number, from 0; it is empty where there is none.
-    pub fn field(&self, n: usize) -> &'a [u8] {
+    pub fn field_bytes(&self, n: usize) -> &'a [u8]
+        ensures { length result.now ≤ length self.entry.now.line.now }
+    {
         self.line
             .split(|byte| *byte == text::TAB)
             .nth(n)
             .unwrap_or(b"")
     }
 
+    // The same as text; it is empty too where it is no UTF-8.
+    pub fn field(&self, n: usize) -> &'a str
+        ensures { length result.now ≤ length self.entry.now.line.now }
+    {
+        str::from_utf8(self.field_bytes(n)).unwrap_or("")
+    }
+
     // Whether a field is a word.
     pub fn is(&self, n: usize, word: &[u8]) -> bool {
-        self.field(n) == word
+        self.field_bytes(n) == word
     }
 
     // The number that a field writes; 0 where it writes none.
     pub fn number(&self, n: usize) -> u16 {
-        let number = text::read_decimal(self.field(n)).unwrap_or(0);
+        let number = text::read_decimal(self.field_bytes(n)).unwrap_or(0);
         u16::try_from(number).unwrap_or(0)
     }
 
     // The word that a field writes in hexadecimal digits.
     pub fn word(&self, n: usize) -> u64 {
-        hex_number(self.field(n))
+        hex_number(self.field_bytes(n))
     }
 
     // The kind of state that a case asks for.
@@ -57,12 +66,12 @@ impl<'a> Case<'a> {
 
     // What a field stands for, in escapes: its first bytes, as many as there is room for.
     pub fn decoded(&self, alloc: Global, n: usize, room: usize) -> Result<Vec<u8>, AllocError> {
-        Unescaped(self.field(n)).take(room).collect(alloc)
+        Unescaped(self.field_bytes(n)).take(room).collect(alloc)
     }
 
     // Puts what a field stands for behind `out`, as much as there is room for.
     pub fn decode(&self, n: usize, out: &mut Vec<u8>, room: usize) -> Result<(), AllocError> {
-        put_unescaped(self.field(n), out, room)
+        put_unescaped(self.field_bytes(n), out, room)
     }
 
     // Puts many lines behind `out`, as much as there is room for: each number below that of the field `count` stands in one, behind the field
@@ -75,8 +84,8 @@ impl<'a> Case<'a> {
         out: &mut Vec<u8>,
         room: usize,
     ) -> io::Result<()> {
-        let front = self.field(head);
-        let back = self.field(tail);
+        let front = self.field_bytes(head);
+        let back = self.field_bytes(tail);
         for i in 0..self.number(count) {
             put_unescaped(front, out, room)?;
             said::say(out, b"\t", room)?;

@@ -45,7 +45,7 @@ fn read_file(rt: &HostRuntime, path: &str, buffer: &mut [u8]) -> usize
 
 // Calls `each` at the cases of a data file, in order: its lines but those that are empty, begin with `#` or have no LF. What fails in one case
 // is nobody's to hear, and the next one follows.
-pub fn replay<F: FnMut(Case) -> io::Result<()>>(rt: &HostRuntime, path: &str, mut each: F)
+pub fn replay_bytes<F: FnMut(Case) -> io::Result<()>>(rt: &HostRuntime, path: &str, mut each: F)
     requires { F.IsAlwaysCallable each }
 {
     let mut buffer = [0u8; ROOM];
@@ -59,6 +59,24 @@ pub fn replay<F: FnMut(Case) -> io::Result<()>>(rt: &HostRuntime, path: &str, mu
             _ => {}
         }
     }
+}
+
+// The same of a data file that is text, however long it is, its last line also without LF; what fails ends it and is answered.
+pub fn replay<F: FnMut(Case) -> io::Result<()>>(
+    rt: &HostRuntime,
+    path: &str,
+    mut each: F,
+) -> io::Result<()>
+    requires { F.IsAlwaysCallable each }
+{
+    let text = fs::read_to_string(rt, path)?;
+    for line in text.lines() {
+        if !line.is_empty() && !line.starts_with('#') {
+            let line = line.as_bytes();
+            each(Case { line })?;
+        }
+    }
+    Ok(())
 }
 
 // A refusal, as the vectors have it.

@@ -110,10 +110,10 @@ fn begin(
     call: Call,
     state: &mut [u64],
 ) -> Result<LoadReply, AllocError> {
-    let manifest = buffer(alloc, case.field(1), call.lent(1, MANIFEST))?;
-    let mut request = words_of(alloc, case.field(2), 3)?;
+    let manifest = buffer(alloc, case.field_bytes(1), call.lent(1, MANIFEST))?;
+    let mut request = words_of(alloc, case.field_bytes(2), 3)?;
     request.resize(3, 0)?;
-    let context = buffer(alloc, case.field(3), call.lent(2, CONTEXT))?;
+    let context = buffer(alloc, case.field_bytes(3), call.lent(2, CONTEXT))?;
     let lent = call.lent(3, state.len());
     Ok(load_begin::load_begin(
         &manifest,
@@ -241,7 +241,7 @@ fn replay_call(
 
 // Says a case by its name, and what comes of its calls. A tab at the end of the line has no call behind it.
 fn replay(rt: &HostRuntime, case: Case, requests: &mut [u64]) -> io::Result<()> {
-    cases::print_bytes(rt, case.field(0))?;
+    cases::print_bytes(rt, case.field_bytes(0))?;
     print!(rt; ":")?;
     let mut state = [BLANK; STATE];
     let line = case.line.strip_suffix(b"\t").unwrap_or(case.line);
@@ -258,6 +258,6 @@ fn replay(rt: &HostRuntime, case: Case, requests: &mut [u64]) -> io::Result<()> 
 fn main(rt: HostRuntime) {
     let mut requests = [BLANK; REQUESTS];
     for path in ["cases", "cases2", "oracle"] {
-        cases::replay(&rt, path, |case| replay(&rt, case, &mut requests));
+        cases::replay_bytes(&rt, path, |case| replay(&rt, case, &mut requests));
     }
 }

@@ -95,7 +95,7 @@ fn tell_listing(rt: &HostRuntime, case: Case, field: usize, state: &[u64]) -> io
     let mut out = [0u8; TEXT];
     match listing_of(Kind::Manifest, state, &mut out) {
         Err(refusal) => println!(rt; "{}", Refused(refusal)),
-        Ok(listing) if case.field(field).is_empty() => {
+        Ok(listing) if case.field_bytes(field).is_empty() => {
             println!(rt)?;
             cases::print_bytes(rt, listing)?;
             println!(rt)
@@ -129,7 +129,7 @@ fn ask_unite(
     other: &[u64; MANIFEST],
     want: &[u64; MANIFEST],
 ) -> io::Result<()> {
-    cases::print_bytes(rt, case.field(1))?;
+    cases::print_bytes(rt, case.field_bytes(1))?;
     let mut state = *manifest;
     let m = lent(MANIFEST, case, 2);
     let o = lent(MANIFEST, case, 3);
@@ -181,7 +181,7 @@ impl States {
     // nothing.
     fn ask_order(&self, rt: &HostRuntime, case: Case, from: usize) -> io::Result<()> {
         let end = (from..FIELDS)
-            .find(|n| case.field(*n).is_empty())
+            .find(|n| case.field_bytes(*n).is_empty())
             .unwrap_or(FIELDS);
         let mut state = [0u64; MANIFEST];
         for n in from..end {
@@ -196,7 +196,7 @@ impl States {
 
     // Takes in a line of a data file: one that fills a manifest, or a case, and says what comes of it.
     fn replay(&mut self, rt: &HostRuntime, case: Case) -> io::Result<()> {
-        match (case.field(0), case.field(1)) {
+        match (case.field_bytes(0), case.field_bytes(1)) {
             (_, b"left") => fill(rt, case, &mut self.left),
             (_, b"right") => fill(rt, case, &mut self.right),
             (_, b"want") => fill(rt, case, &mut self.want),
@@ -223,6 +223,6 @@ impl States {
 fn main(rt: HostRuntime) {
     for path in ["cases", "oracle", "unite"] {
         let mut states = States::START;
-        cases::replay(&rt, path, |case| states.replay(&rt, case));
+        cases::replay_bytes(&rt, path, |case| states.replay(&rt, case));
     }
 }

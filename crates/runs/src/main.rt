@@ -19,7 +19,7 @@ fn main(rt: HostRuntime) {
         out: Stream::Out(rt.stdout()),
         err: Stream::Out(rt.stdout()),
     };
-    cases::replay(&rt, "runs", |case| {
+    cases::replay_bytes(&rt, "runs", |case| {
         replay(to, case);
         Ok(())
     })

@@ -63,12 +63,12 @@ fn replay(rt: &HostRuntime, case: Case) -> io::Result<()> {
     cases::print_bytes(rt, case.line)?;
     print!(rt; " -> ")?;
     let text = text_of(rt.alloc(), case)?;
-    match case.field(0) {
+    match case.field_bytes(0) {
         b"names" | b"manynames" => ask_names(rt, &text),
         _ => ask_schema(rt, &text),
     }
 }
 
 fn main(rt: HostRuntime) {
-    cases::replay(&rt, "cases", |case| replay(&rt, case))
+    cases::replay_bytes(&rt, "cases", |case| replay(&rt, case))
 }

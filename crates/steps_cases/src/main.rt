@@ -79,7 +79,7 @@ fn replay(rt: &HostRuntime, case: Case) -> io::Result<()> {
             Err(refusal) => format!(in alloc; "{}", Refused(refusal))?.as_bytes()
                 == expected.as_slice(),
         };
-        cases::print_bytes(rt, case.field(0))?;
+        cases::print_bytes(rt, case.field_bytes(0))?;
         println!(rt; ": {}", cases::as_rust(is_same))
     }
 }
@@ -88,6 +88,6 @@ fn main(rt: HostRuntime) {
     for path in [
         "cases", "cases2", "cases3", "cases4", "cases5", "cases6", "cases7", "cases8", "oracle",
     ] {
-        cases::replay(&rt, path, |case| replay(&rt, case));
+        cases::replay_bytes(&rt, path, |case| replay(&rt, case));
     }
 }

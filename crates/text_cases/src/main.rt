@@ -69,10 +69,10 @@ fn answer(case: Case, input: &[u8], out: &mut Vec<u8>) -> Result<(), AllocError>
 // A case as it stands in its line, up to its input.
 fn told(case: Case<'_>) -> &[u8] {
     let end = case
-        .field(0)
+        .field_bytes(0)
         .len()
         .saturating_add(1)
-        .saturating_add(case.field(1).len());
+        .saturating_add(case.field_bytes(1).len());
     &case.line[..end.min(case.line.len())]
 }
 
@@ -84,7 +84,7 @@ fn replay(rt: &HostRuntime, case: Case) -> io::Result<()> {
     cases::print_bytes(rt, told(case))?;
     cases::print_bytes(rt, b" -> ")?;
     cases::print_bytes(rt, &out)?;
-    let expected = case.field(2);
+    let expected = case.field_bytes(2);
     if out.as_slice() != expected {
         cases::print_bytes(rt, b" WRONG, expected ")?;
         cases::print_bytes(rt, expected)?;
@@ -93,5 +93,5 @@ fn replay(rt: &HostRuntime, case: Case) -> io::Result<()> {
 }
 
 fn main(rt: HostRuntime) {
-    cases::replay(&rt, "cases", |case| replay(&rt, case))
+    cases::replay_bytes(&rt, "cases", |case| replay(&rt, case))
 }

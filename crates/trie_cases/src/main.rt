@@ -92,7 +92,7 @@ impl fmt::Display for Told {
 fn place_of(alloc: Global, case: Case) -> Result<Vec<u64>, AllocError> {
     let mut place = vec![in alloc; case.triple(3)]?;
     for field in (6..56).step_by(2) {
-        if case.field(field).is_empty() {
+        if case.field_bytes(field).is_empty() {
             break;
         }
         place.push(step(case, field))?;
@@ -131,8 +131,8 @@ impl States {
 
     // Asks what a case asks for, and says what comes of it.
     fn ask(&self, rt: &HostRuntime, case: Case) -> io::Result<()> {
-        cases::print_bytes(rt, case.field(2))?;
-        match case.field(0) {
+        cases::print_bytes(rt, case.field_bytes(2))?;
+        match case.field_bytes(0) {
             b"union" => match self.union(case) {
                 Ok(true) => println!(rt; ": as expected"),
                 Ok(false) => println!(rt; ": OTHER ROWS"),
@@ -152,7 +152,7 @@ impl States {
 
     // Takes in a line of the data file: one that fills a state, `case`, which empties them, or a question. A line of another form is a comment.
     fn replay(&mut self, rt: &HostRuntime, case: Case) -> io::Result<()> {
-        match case.field(0) {
+        match case.field_bytes(0) {
             b"case" => self.empty(),
             b"a" => push_rows(case, &mut self.a),
             b"b" => push_rows(case, &mut self.b),
@@ -168,6 +168,6 @@ impl States {
 fn main(rt: HostRuntime) {
     for path in ["cases", "oracle"] {
         let mut states = States::EMPTY;
-        cases::replay(&rt, path, |case| states.replay(&rt, case));
+        cases::replay_bytes(&rt, path, |case| states.replay(&rt, case));
     }
 }

@@ -55,7 +55,7 @@ fn lent(case: Case) -> usize
 
 // Reads the manifest of a case, asks for the bound, and says it.
 fn replay(rt: &HostRuntime, case: Case) -> io::Result<()> {
-    cases::print_bytes(rt, case.field(1))?;
+    cases::print_bytes(rt, case.field_bytes(1))?;
     print!(rt; ": ")?;
     let text = text_of(rt.alloc(), case)?;
     let mut state = [0u64; MANIFEST];
@@ -75,5 +75,5 @@ fn replay(rt: &HostRuntime, case: Case) -> io::Result<()> {
 }
 
 fn main(rt: HostRuntime) {
-    cases::replay(&rt, "cases", |case| replay(&rt, case));
+    cases::replay_bytes(&rt, "cases", |case| replay(&rt, case));
 }

@@ -187,7 +187,7 @@ fn ask_union(
 
 // What a case asks of its schema and its manifest.
 fn ask(rt: &HostRuntime, case: Case, schema: &mut [u64], manifest: &mut [u64]) -> io::Result<()> {
-    match case.field(0) {
+    match case.field_bytes(0) {
         b"lent" => ask_lent(rt, case, schema, manifest),
         b"again" => ask_again(rt, case, schema, manifest),
         b"left" => ask_union(rt, case, schema, manifest, true),
@@ -198,7 +198,7 @@ fn ask(rt: &HostRuntime, case: Case, schema: &mut [u64], manifest: &mut [u64]) -
 
 // Says a case by its name, reads its schema and its manifest, and asks.
 fn replay(rt: &HostRuntime, case: Case) -> io::Result<()> {
-    cases::print_bytes(rt, case.field(1))?;
+    cases::print_bytes(rt, case.field_bytes(1))?;
     print!(rt; ": ")?;
     let mut schema = [0u64; SCHEMA];
     let mut manifest = [0u64; MANIFEST];
@@ -210,6 +210,6 @@ fn replay(rt: &HostRuntime, case: Case) -> io::Result<()> {
 
 fn main(rt: HostRuntime) {
     for path in ["cases", "oracle"] {
-        cases::replay(&rt, path, |case| replay(&rt, case));
+        cases::replay_bytes(&rt, path, |case| replay(&rt, case));
     }
 }

@@ -19,7 +19,7 @@ const WORDS: usize = 12_288;
 fn words_of(alloc: Global, case: Case, n: usize) -> Result<Vec<u64>, AllocError>
     ensures { IfOk result (λ words. vec_len words ≤ WORDS) }
 {
-    load_items::words_of(alloc, case.field(n), WORDS)
+    load_items::words_of(alloc, case.field_bytes(n), WORDS)
 }
 
 // Whether the rows of a field are lawful.
@@ -126,9 +126,9 @@ fn ask_lent(rt: &HostRuntime, case: Case, lent: Lending) -> io::Result<()> {
 
 // Says a case by its name, and what comes of it.
 fn replay(rt: &HostRuntime, case: Case) -> io::Result<()> {
-    cases::print_bytes(rt, case.field(1))?;
+    cases::print_bytes(rt, case.field_bytes(1))?;
     print!(rt; ": ")?;
-    match case.field(0) {
+    match case.field_bytes(0) {
         b"lawful" => ask_lawful(rt, case),
         b"merge" => ask_merge(rt, case),
         b"walk" => ask_walk(rt, case),
@@ -139,5 +139,5 @@ fn replay(rt: &HostRuntime, case: Case) -> io::Result<()> {
 }
 
 fn main(rt: HostRuntime) {
-    cases::replay(&rt, "cases", |case| replay(&rt, case));
+    cases::replay_bytes(&rt, "cases", |case| replay(&rt, case));
 }
