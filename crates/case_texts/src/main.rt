@@ -24,6 +24,7 @@ fn main(rt: HostRuntime) -> io::Result<()> {
             Err(error) => println!(rt; "{path} ends with {error}")?,
         }
     }
+    // All fields that `cases::replay` hands out are UTF-8: a line with another one is made here.
     replay(
         &rt,
         Case {
